@@ -1,0 +1,122 @@
+// Runs the cases of document 01 that are not proved, and prints what they give, a line each. The file stdout has what they
+// should give, from the document and the published check value.
+ghost use Prim.Native.Nat.{_≤_, _<_};
+use libc::STDOUT_FILENO;
+
+// All 64 bits one: where a checksum starts.
+const ONES: u64 = 0xffff_ffff_ffff_ffff;
+
+fn text(s: &[u8]) {
+    io::write_all(STDOUT_FILENO, s);
+}
+
+// A name and a number of 64 bits, in hexadecimal.
+fn hex_line(name: &[u8], n: u64) {
+    text(name);
+    text(b": ");
+    io::print_hex(STDOUT_FILENO, n, 16);
+    text(b"\n");
+}
+
+// A name, and whether two numbers that should be the same are.
+fn same_line(name: &[u8], a: u64, b: u64) {
+    text(name);
+    if a == b {
+        text(b": same\n");
+    } else {
+        text(b": NOT THE SAME\n");
+    }
+}
+
+fn wide(x: u8) -> u64 {
+    x as u64
+}
+
+// A name and eight bytes, in hexadecimal.
+fn bytes_line(name: &[u8], s: &[u8; 8]) {
+    text(name);
+    text(b":");
+    let mut i: usize = 0;
+    while i < 8 {
+        text(b" ");
+        io::print_hex(STDOUT_FILENO, wide(s[i]), 2);
+        i += 1;
+    }
+    text(b"\n");
+}
+
+// How many of the `rest` bytes the next part has.
+fn part(rest: usize, size: usize) -> usize
+    requires { ⌜ (0 < rest) × (0 < size) ⌝ }
+    ensures { λ r. ⌜ (r ≤ rest) × (0 < r) ⌝ }
+{
+    if size < rest {
+        return size;
+    }
+    rest
+}
+
+// The register after s in parts of `size` bytes, the last of which may be shorter.
+fn in_parts(s: &[u8], size: usize) -> u64
+    requires { ⌜ 0 < size ⌝ }
+{
+    let mut register = ONES;
+    let mut at: usize = 0;
+    // a turn for each part
+    while at < s.len() {
+        let end = at + part(s.len() - at, size);
+        register = crc64::update(register, &s[at..end]);
+        at = end;
+    }
+    register
+}
+
+// 5,000 bytes that go through all values.
+fn sample() -> [u8; 5000] {
+    let mut s = [0u8; 5000];
+    let mut i: usize = 0;
+    while i < 5000 {
+        s[i] = (i * 7 % 256) as u8;
+        i += 1;
+    }
+    s
+}
+
+fn checksums() {
+    hex_line(b"checksum of no bytes", crc64::checksum(b""));
+    hex_line(b"checksum of 123456789", crc64::checksum(b"123456789"));
+    hex_line(b"the same in parts of 4", !in_parts(b"123456789", 4));
+    let s = sample();
+    let whole = crc64::checksum(&s);
+    same_line(
+        b"5,000 bytes at once and in parts of 100",
+        whole,
+        !in_parts(&s, 100),
+    );
+    same_line(
+        b"5,000 bytes at once and in parts of 1,024",
+        whole,
+        !in_parts(&s, 1024),
+    );
+}
+
+fn fields_of_each_width() {
+    let mut s = [0xeeu8; 8];
+    fields::put(&mut s, 0, 8, 0x0102030405060708);
+    bytes_line(b"8 bytes", &s);
+    fields::put(&mut s, 1, 4, 0xa1a2a3a4);
+    bytes_line(b"then 4 bytes at 1", &s);
+    fields::put(&mut s, 6, 2, 0xb1b2);
+    bytes_line(b"then 2 bytes at 6", &s);
+    fields::put(&mut s, 0, 1, 0xc1);
+    bytes_line(b"then 1 byte at 0", &s);
+    hex_line(b"read back, 8 bytes", fields::get(&s, 0, 8));
+    hex_line(b"4 bytes at 1", fields::get(&s, 1, 4));
+    hex_line(b"2 bytes at 6", fields::get(&s, 6, 2));
+    hex_line(b"1 byte at 0", fields::get(&s, 0, 1));
+}
+
+fn main() {
+    checksums();
+    fields_of_each_width();
+}

@@ -1,0 +1,73 @@
+-- What was written stands there: `Holds s at run`, and what follows for the run's parts and numbers.
+-- Assumes nothing.
+use mathlib.Core.List.{List, [], _∷_, _++_}
+use mathlib.Core.Path.{_≡_, refl, sym, ap, _∙_}
+use Prim.Native.Nat.{ℕ, _+_, _^_, _≤_, _<_}
+use native.Mathlib.Nat.{add-zero}
+use native.Mathlib.Omega.{arith}
+use lib.ListN.{length, take, getD, length-append, length-take, List·getD-append}
+use lib.Seq.{ext-getD, getD-take, getD-append-add, take-length}
+use Rattle.fields.specs.Bytes.{part, fromLe, toLe, field, overwrite}
+use Rattle.fields.proofs.Numbers.{length-toLe, fromLe-toLe}
+use Rattle.fields.proofs.Overwrite.{length-overwrite, getD-in, length-part, getD-part}
+
+pub record Holds (s : List ℕ) (at : ℕ) (run : List ℕ) : Type 0 where
+  pub fits : at + length run ≤ length s
+  pub there : (i : ℕ) → i < length run → getD s (at + i) 0 ≡ getD run i 0
+
+pub holds-overwrite : (s : List ℕ) (at : ℕ) (run : List ℕ) → at + length run ≤ length s → Holds (overwrite s at run) at run
+holds-overwrite s at run h = record { fits = rw length-overwrite h; there = λ i k. getD-in s at run i k h }
+
+pub holds-take : (s : List ℕ) (n at : ℕ) (run : List ℕ) → Holds s at run → at + length run ≤ n → Holds (take n s) at run
+holds-take s n at run h k =
+    record { fits = simp length-take (omega (arith, h .fits)); there = λ i b. getD-take n s (at + i) 0 (omega arith) ∙ h .there i b }
+
+-- ---- a part of it
+pub holds-part : (s : List ℕ) (at : ℕ) (run : List ℕ) → Holds s at run → (i n : ℕ) → i + n ≤ length run → part s (at + i) n ≡ part run i n
+holds-part s at run h i n k =
+    let f : at + length run ≤ length s = h .fits in
+    let ls : length (part s (at + i) n) ≡ n = length-part s (at + i) n (omega arith) in
+    let lr : length (part run i n) ≡ n = length-part run i n k in
+    ext-getD 0 (part s (at + i) n) (part run i n) (ls ∙ sym lr)
+    (λ j q.
+    let q′ : j < n = omega arith in
+    let e : at + i + j ≡ at + (i + j) = omega arith in
+    getD-part s (at + i) n j q′ ∙ ap (λ m. getD s m 0) e ∙ h .there (i + j) (omega arith) ∙ sym (getD-part run i n j q′))
+
+pub holds-all : (s : List ℕ) (at : ℕ) (run : List ℕ) → Holds s at run → part s at (length run) ≡ run
+unfolding part
+holds-all s at run h =
+    ap (λ m. part s m (length run)) (sym (add-zero at)) ∙ holds-part s at run h 0 (length run) (omega arith) ∙ take-length run
+
+-- ---- two runs, one after the other
+pub holds-left : (s : List ℕ) (at : ℕ) (a b : List ℕ) → Holds s at (a ++ b) → Holds s at a
+holds-left s at a b h =
+    record {
+      fits = omega (arith, simp length-append at (h .fits));
+      there = λ i k. h .there i (simp length-append (omega arith)) ∙ List·getD-append a b 0 i k;
+    }
+
+pub holds-right : (s : List ℕ) (at : ℕ) (a b : List ℕ) → Holds s at (a ++ b) → Holds s (at + length a) b
+holds-right s at a b h =
+    record {
+      fits = omega (arith, simp length-append at (h .fits));
+      there = λ i k.
+          let e : at + length a + i ≡ at + (length a + i) = omega arith in
+          ap (λ m. getD s m 0) e ∙ h .there (length a + i) (simp length-append (omega arith)) ∙ getD-append-add a b i 0;
+    }
+
+-- ---- its numbers
+pub holds-field : (s : List ℕ) (at : ℕ) (run : List ℕ) → Holds s at run → (i k v : ℕ) → i + k ≤ length run → part run i k ≡ toLe k v → v < 256 ^ k
+    → field s (at + i) k ≡ v
+unfolding field
+holds-field s at run h i k v l e b = ap fromLe (holds-part s at run h i k l ∙ e) ∙ fromLe-toLe k v b
+
+pub holds-first : (s : List ℕ) (at : ℕ) (run : List ℕ) → Holds s at run → (k : ℕ) (bs : List ℕ) → k ≤ length run → part run 0 k ≡ bs → field s at k ≡ fromLe bs
+unfolding field
+holds-first s at run h k bs l e =
+    ap (λ m. fromLe (part s m k)) (sym (add-zero at)) ∙ ap fromLe (holds-part s at run h 0 k (omega arith) ∙ e)
+
+pub holds-number : (s : List ℕ) (at k v : ℕ) → Holds s at (toLe k v) → v < 256 ^ k → field s at k ≡ v
+unfolding field
+holds-number s at k v h b =
+    ap (λ m. fromLe (part s at m)) (sym (length-toLe k v)) ∙ ap fromLe (holds-all s at (toLe k v) h) ∙ fromLe-toLe k v b

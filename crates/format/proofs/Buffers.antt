@@ -1,0 +1,129 @@
+-- A writing call on a buffer: its outcome by its verdict, and the image afterwards against the image before.
+use mathlib.Core.List.{List, _++_}
+use mathlib.Core.Logic.{inl, inr}
+use mathlib.Core.Path.{_≡_, refl, sym, ap, _∙_}
+use Prim.Native.Nat.{ℕ, _+_, _^_, _≤_, _<_}
+use native.Mathlib.Nat.{le-refl}
+use native.Mathlib.Omega.{arith}
+use lib.ListN.{length, take, getD, length-take}
+use lib.Seq.{getD-take, length-take-le}
+use Rattle.fields.specs.Bytes.{toLe, overwrite}
+use Rattle.fields.proofs.Numbers.{length-toLe}
+use Rattle.fields.proofs.Overwrite.{length-overwrite, getD-off, getD-in}
+use Rattle.fields.proofs.Holds.{Holds, holds-take, holds-overwrite, holds-number}
+use Rattle.format.specs.declared.Placed.{Placed}
+use Rattle.format.specs.declared.Refusal.{Refusal}
+use Rattle.format.specs.declared.Verdict.{Verdict}
+use Rattle.format.specs.declared.Verdict.the-variants.{Passes, Refuses}
+use Rattle.format.specs.Lists.{IsBytes}
+use Rattle.format.specs.Refusals.{Answer, refused, accepted}
+use Rattle.format.specs.Layouts.{headerLength, indexOffsetAt, lastWrittenAt, indexOffset}
+use Rattle.format.specs.Writing.{Outcome, outcome, setHeader}
+use Rattle.format.proofs.Agree.{Agree}
+use Rattle.format.proofs.Bytes.{bytes-overwrite, bytes-toLe}
+
+-- ---- outcomes
+pub record Accepts (v : Verdict) (p q : Placed) (new after : List ℕ) : Type 0 where
+  pub passes : v ≡ Passes
+  pub answer : p ≡ q
+  pub buffer : after ≡ new
+
+pub outcome-accepted : (buffer : List ℕ) (v : Verdict) (p : Placed) (new : List ℕ) (q : Placed) → outcome buffer v p new .result ≡ accepted q
+    → Accepts v p q new (outcome buffer v p new .buffer)
+unfolding outcome
+outcome-accepted buffer Passes p new q e = record { passes = refl; answer = cc; buffer = refl }
+outcome-accepted buffer (Refuses r) p new q e = let z : _≡_ {A = ℕ} 0 1 = cc in absurd (omega arith)
+
+pub outcome-passes : (buffer : List ℕ) (v : Verdict) (p : Placed) (new : List ℕ) → v ≡ Passes → outcome buffer v p new ≡ record { result = accepted p; buffer = new }
+unfolding outcome
+outcome-passes buffer v p new e = rw e
+
+pub outcome-refused : (buffer : List ℕ) (v : Verdict) (p : Placed) (new : List ℕ) (r : Refusal) → outcome buffer v p new .result ≡ refused r
+    → outcome buffer v p new .buffer ≡ buffer
+unfolding outcome
+outcome-refused buffer Passes p new r e = let z : _≡_ {A = ℕ} 0 1 = cc in absurd (omega arith)
+outcome-refused buffer (Refuses s) p new r e = refl
+
+-- ---- the header's two fields
+module _ (l : List ℕ) (o time : ℕ) where
+  abbrev once : List ℕ
+  once = overwrite l indexOffsetAt (toLe 8 o)
+
+  pub length-setHeader : length (setHeader l o time) ≡ length l
+  unfolding setHeader
+  length-setHeader = length-overwrite once lastWrittenAt (toLe 8 time) ∙ length-overwrite l indexOffsetAt (toLe 8 o)
+
+  setHeader-front : (p : ℕ) → p < indexOffsetAt → getD (setHeader l o time) p 0 ≡ getD l p 0
+  unfolding setHeader
+  setHeader-front p h =
+      getD-off once lastWrittenAt (toLe 8 time) p (inl (omega arith)) ∙ getD-off l indexOffsetAt (toLe 8 o) p (inl h)
+
+  setHeader-rest : (p : ℕ) → headerLength ≤ p → getD (setHeader l o time) p 0 ≡ getD l p 0
+  unfolding setHeader
+  setHeader-rest p h =
+      getD-off once lastWrittenAt (toLe 8 time) p (inr (omega (arith, length-toLe 8 time)))
+      ∙ getD-off l indexOffsetAt (toLe 8 o) p (inr (omega (arith, length-toLe 8 o)))
+
+  setHeader-holds : headerLength ≤ length l → Holds (setHeader l o time) indexOffsetAt (toLe 8 o)
+  unfolding setHeader
+  setHeader-holds long =
+      record {
+        fits = omega (arith, length-setHeader, length-toLe 8 o);
+        there = λ i h.
+            getD-off once lastWrittenAt (toLe 8 time) (indexOffsetAt + i) (inl (omega (arith, length-toLe 8 o)))
+            ∙ getD-in l indexOffsetAt (toLe 8 o) i h (omega (arith, length-toLe 8 o));
+      }
+
+  pub bytes-setHeader : headerLength ≤ length l → IsBytes l → IsBytes (setHeader l o time)
+  unfolding setHeader
+  bytes-setHeader long h =
+      bytes-overwrite once lastWrittenAt (toLe 8 time) (omega (arith, length-overwrite l indexOffsetAt (toLe 8 o), length-toLe 8 time))
+      (bytes-overwrite l indexOffsetAt (toLe 8 o) (omega (arith, length-toLe 8 o)) h (bytes-toLe 8 o)) (bytes-toLe 8 time)
+
+-- ---- the first n bytes of a buffer whose header was set
+pub indexOffset-set : (l : List ℕ) (n o time : ℕ) → headerLength ≤ n → n ≤ length l → o < 256 ^ 8 → indexOffset (take n (setHeader l o time)) ≡ o
+unfolding indexOffset
+indexOffset-set l n o time h k b =
+    let long : headerLength ≤ length l = omega arith in
+    holds-number (take n (setHeader l o time)) indexOffsetAt 8 o
+    (holds-take (setHeader l o time) n indexOffsetAt (toLe 8 o) (setHeader-holds l o time long) (omega (arith, length-toLe 8 o))) b
+
+pub agree-set : (l : List ℕ) (n o time : ℕ) → n ≤ length l → Agree (take n l) (take n (setHeader l o time))
+agree-set l n o time k =
+    let ln : length (take n l) ≡ n = length-take-le n l k in
+    let lm : length (setHeader l o time) ≡ length l = length-setHeader l o time in
+    record {
+      longer = simp length-take (omega arith);
+      front = λ p b c. getD-take n l p 0 (omega arith) ∙ sym (setHeader-front l o time p b) ∙ sym (getD-take n (setHeader l o time) p 0 (omega arith));
+      rest = λ p b c. getD-take n l p 0 (omega arith) ∙ sym (setHeader-rest l o time p b) ∙ sym (getD-take n (setHeader l o time) p 0 (omega arith));
+    }
+
+-- ---- an image to which a run was appended, and whose header was then set
+module _ (l : List ℕ) (used : ℕ) (run : List ℕ) (o time : ℕ) (low : headerLength ≤ used) (fits : used + length run ≤ length l) where
+  abbrev longer : List ℕ
+  longer = overwrite l used run
+
+  abbrev after : List ℕ
+  after = setHeader longer o time
+
+  length-after : length after ≡ length l
+  length-after = length-setHeader longer o time ∙ length-overwrite l used run
+
+  pub agree-append : Agree (take used l) (take (used + length run) after)
+  agree-append =
+      let lu : length (take used l) ≡ used = length-take-le used l (omega arith) in
+      record {
+        longer = simp length-take (omega (arith, length-after));
+        front = λ p b c.
+            getD-take used l p 0 (omega arith) ∙ sym (setHeader-front longer o time p b ∙ getD-off l used run p (inl (omega arith)))
+            ∙ sym (getD-take (used + length run) after p 0 (omega arith));
+        rest = λ p b c.
+            getD-take used l p 0 (omega arith) ∙ sym (setHeader-rest longer o time p b ∙ getD-off l used run p (inl (omega arith)))
+            ∙ sym (getD-take (used + length run) after p 0 (omega arith));
+      }
+
+  pub holds-appended : Holds (take (used + length run) after) used run
+  holds-appended =
+      let h : Holds longer used run = holds-overwrite l used run fits in
+      holds-take after (used + length run) used run
+      (record { fits = omega (arith, length-after); there = λ i b. setHeader-rest longer o time (used + i) (omega arith) ∙ h .there i b }) (le-refl _)

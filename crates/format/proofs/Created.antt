@@ -1,0 +1,210 @@
+-- An accepted creation: the disc is sound, and no sector of it is written.
+use mathlib.Core.Bool.{true, false}
+use mathlib.Core.List.{List, [], _∷_, _++_}
+use mathlib.Core.Logic.{inl}
+use mathlib.Core.Path.{_≡_, refl, sym, ap, _∙_, subst}
+use Prim.Native.Nat.{ℕ, _+_, _*_, _^_, _≤_, _<_, zero-le}
+use native.Mathlib.Omega.{arith}
+use lib.Dec.{lit<, lit≤}
+use lib.ListN.{length, take, replicate, length-replicate, length-append}
+use Rattle.fields.specs.Bytes.{part, fromLe, toLe, field, overwrite}
+use Rattle.fields.specs.Layout.{layout}
+use Rattle.fields.proofs.Overwrite.{length-overwrite}
+use Rattle.fields.proofs.Holds.{Holds, holds-take, holds-overwrite, holds-part, holds-left, holds-right, holds-field, holds-first}
+use Rattle.format.specs.declared.Entry.{Entry}
+use Rattle.format.specs.declared.Placed.{Placed}
+use Rattle.format.specs.Lists.{All, done, more, IsBytes}
+use Rattle.format.specs.Refusals.{accepted}
+use Rattle.format.specs.Layouts.{AARUFRMT, DDT*, tag, headerLength, applicationLength, imageMajorAt, indexOffsetAt, indexOffset, headerBytes, entries, indexBytes, tableCount, tableBytes}
+use Rattle.format.specs.Opening.{offsetsOf, first, tableAt, Opened, openedAt, opened}
+use Rattle.format.specs.Reading.{tableEntry, notWritten}
+use Rattle.format.specs.Writing.{longestBuffer, placed}
+use Rattle.format.specs.Creating.{createdIndexAt, createdUsed, createdEntries, createdBytes, create}
+use Rattle.format.specs.Facts.{Identified, HeaderOk, EntryOk}
+use Rattle.format.proofs.Tests.{same-true}
+use Rattle.format.proofs.Lists.{all-take, all-drop, all-replicate}
+use Rattle.format.proofs.Checks.{OpenOk, Sound, CreateOk, create-ok}
+use Rattle.format.proofs.Named.{user-data-true, offsets-yes}
+use Rattle.format.proofs.Written.{EntryFits, length-tableBytes, table-identified, table-count, table-entries, table-written, length-indexBytes, index-entries, index-written}
+use Rattle.format.proofs.Bytes.{bytes-overwrite, bytes-created}
+use Rattle.format.proofs.Buffers.{outcome-accepted}
+
+fromLe-zeros : (l : List ℕ) → All (λ (b : ℕ). b ≡ 0) l → fromLe l ≡ 0
+unfolding fromLe
+fromLe-zeros _ done = refl
+fromLe-zeros _ (more {a = b} {l = l} h hs) = rw (h, fromLe-zeros l hs)
+
+module _ (count : ℕ) (application : List ℕ) (major minor mediaType creationTime lastWrittenTime : ℕ) (sized : length application ≡ applicationLength) where
+  abbrev new : List ℕ
+  new = createdBytes count application major minor mediaType creationTime lastWrittenTime
+
+  abbrev header : List ℕ
+  header = headerBytes application major minor mediaType (createdIndexAt count) creationTime lastWrittenTime
+
+  abbrev zeros : List ℕ
+  zeros = replicate (8 * count) 0
+
+  abbrev table : List ℕ
+  table = tableBytes 0 count zeros
+
+  length-zeros : length zeros ≡ 8 * count
+  length-zeros = length-replicate {A = ℕ} (8 * count) 0
+
+  -- the header's fields from the image's version on
+  abbrev fields : List ℕ
+  fields =
+      toLe 1 2 ++ (toLe 1 0 ++ (toLe 1 major ++ (toLe 1 minor ++ (toLe 4 mediaType ++ (toLe 8 (createdIndexAt count) ++ (toLe 8 creationTime ++ (toLe 8 lastWrittenTime ++ [])))))))
+
+  length-header : length header ≡ headerLength
+  unfolding headerBytes layout toLe
+  length-header = let a = length-append application fields in omega arith
+
+  length-new : length new ≡ createdUsed count
+  unfolding createdBytes createdUsed createdIndexAt
+  length-new =
+      let a = length-append header (table ++ indexBytes createdEntries) in
+      let b = length-append table (indexBytes createdEntries) in
+      let c = length-tableBytes 0 count zeros in
+      let d = length-zeros in
+      let e = length-indexBytes createdEntries in
+      let f = length-header in
+      omega arith
+
+  module _ (y : List ℕ) (h : Holds y 0 new) (few : count ≤ 1048576) where
+    abbrev o : ℕ
+    o = createdIndexAt count
+
+    h-header : Holds y 0 header
+    unfolding createdBytes
+    h-header = holds-left y 0 header (table ++ indexBytes createdEntries) h
+
+    h-rest : Holds y headerLength (table ++ indexBytes createdEntries)
+    unfolding createdBytes
+    h-rest =
+        let e : 0 + length header ≡ headerLength = omega (arith, length-header) in
+        subst (λ n. Holds y n (table ++ indexBytes createdEntries)) e (holds-right y 0 header (table ++ indexBytes createdEntries) h)
+
+    h-fields : Holds y imageMajorAt fields
+    unfolding headerBytes layout
+    h-fields =
+        subst (λ n. Holds y (8 + n) fields) sized (holds-right y 8 application fields (holds-right y 0 AARUFRMT (application ++ fields) h-header))
+
+    h-table : Holds y headerLength table
+    h-table = holds-left y headerLength table (indexBytes createdEntries) h-rest
+
+    h-index : Holds y o (indexBytes createdEntries)
+    unfolding createdIndexAt
+    h-index =
+        let e : headerLength + length table ≡ headerLength + 49 + 8 * count = omega (arith, length-tableBytes 0 count zeros, length-zeros) in
+        subst (λ n. Holds y n (indexBytes createdEntries)) e (holds-right y headerLength table (indexBytes createdEntries) h-rest)
+
+    y-long : createdUsed count ≤ length y
+    y-long = omega (arith, h .fits, length-new)
+
+    header-new : HeaderOk y
+    unfolding Identified headerBytes layout toLe part fromLe tag createdUsed createdIndexAt
+    header-new =
+        record {
+          long = omega (arith, y-long);
+          identifier = inl (holds-first y 0 header h-header 8 AARUFRMT (omega (arith, length-header)) refl);
+          major = holds-first y imageMajorAt fields h-fields 1 (2 ∷ []) (lit≤ tt) refl;
+        }
+
+    -- ---- the table and the index
+    short : length zeros < 256 ^ 8
+    short = omega (arith, length-zeros)
+
+    fit : All EntryFits createdEntries
+    unfolding tag fromLe
+    fit = more (record { blockType = lit< tt; dataType = lit< tt; offset = lit< tt }) done
+
+    index-low : headerLength ≤ o
+    unfolding createdIndexAt
+    index-low = omega arith
+
+    one : length createdEntries < 256 ^ 8
+    one = lit< tt
+
+    entries-new : entries y o ≡ createdEntries
+    entries-new = index-entries y o createdEntries h-index index-low fit one
+
+    only : offsetsOf DDT* createdEntries ≡ headerLength ∷ []
+    unfolding offsetsOf
+    only = offsets-yes DDT* _ [] (user-data-true DDT* _ (record { type = refl; user = refl }))
+
+    tableAt-new : tableAt y o ≡ headerLength
+    unfolding tableAt first
+    tableAt-new = ap (λ (es : List Entry). first (offsetsOf DDT* es)) entries-new ∙ ap first only
+
+    named : All (EntryOk y) createdEntries
+    unfolding Identified createdUsed createdIndexAt
+    named =
+        let fits : headerLength + 4 ≤ length y = omega (arith, y-long) in
+        more
+        (record {
+          low = lit≤ tt;
+          fits = fits;
+          identifier = table-identified y headerLength 0 count zeros h-table zero-le length-zeros short;
+        })
+        done
+
+    opens : OpenOk y o
+    opens =
+        record {
+          header = header-new;
+          index = index-written y o createdEntries h-index index-low fit one;
+          entriesOk = rw entries-new named;
+          only = rw (entries-new, tableAt-new) only;
+          table = rw tableAt-new (table-written y headerLength 0 count zeros h-table zero-le length-zeros short);
+        }
+
+    count-new : opened y o .count ≡ count
+    unfolding opened openedAt
+    count-new = ap (tableCount y) tableAt-new ∙ table-count y headerLength 0 count zeros h-table zero-le length-zeros short
+
+    nothing-written : (a : ℕ) → a < count → notWritten y (opened y o) a ≡ true
+    unfolding notWritten opened openedAt tableEntry field part
+    nothing-written a k =
+        let hp : Holds y (headerLength + 49) zeros = table-entries y headerLength 0 count zeros h-table zero-le length-zeros short in
+        let e : part y (headerLength + 49 + 8 * a) 8 ≡ part zeros (8 * a) 8 = holds-part y (headerLength + 49) zeros hp (8 * a) 8 (omega (arith, length-zeros)) in
+        same-true _ _
+        (ap (λ (t : ℕ). fromLe (part y (t + 49 + 8 * a) 8)) tableAt-new ∙ ap fromLe e
+        ∙ fromLe-zeros _ (all-take _ (all-drop _ (all-replicate (8 * count) 0 refl) (8 * a)) 8))
+
+    pub created-sound : Sound y o
+    created-sound = record { opens = opens; sectors = λ a k. inl (nothing-written a (rw count-new at k)) }
+
+    pub created-offset : indexOffset y ≡ o
+    unfolding indexOffset toLe part createdIndexAt
+    created-offset = holds-field y imageMajorAt fields h-fields 8 8 o (lit≤ tt) refl (omega arith)
+
+-- ---- an accepted creation that answered p and left `after`
+pub record Created (p : Placed) (after : List ℕ) : Type 0 where
+  pub long : length after ≤ longestBuffer
+  pub inside : p .used ≤ length after
+  pub offset : indexOffset (take (p .used) after) ≡ p .index .0
+  pub sound : Sound (take (p .used) after) (p .index .0)
+  pub bytes : IsBytes after
+
+pub create-accepted : (buffer : List ℕ) → IsBytes buffer → (count : ℕ) (application : List ℕ) → IsBytes application
+    → (major minor mediaType creationTime lastWrittenTime : ℕ) (p : Placed)
+    → create buffer count application major minor mediaType creationTime lastWrittenTime .result ≡ accepted p
+    → Created p (create buffer count application major minor mediaType creationTime lastWrittenTime .buffer)
+unfolding create
+create-accepted buffer b count application ba major minor mediaType creationTime lastWrittenTime p e =
+    let r = outcome-accepted _ _ _ _ p e in
+    let k = create-ok buffer count application .0 (r .passes) in
+    let new : List ℕ = createdBytes count application major minor mediaType creationTime lastWrittenTime in
+    let ln : length new ≡ createdUsed count = length-new count application major minor mediaType creationTime lastWrittenTime (k .sized) in
+    let fits : 0 + length new ≤ length buffer = omega (arith, k .room) in
+    let lo : length (overwrite buffer 0 new) ≡ length buffer = length-overwrite buffer 0 new in
+    let h : Holds (take (createdUsed count) (overwrite buffer 0 new)) 0 new =
+    holds-take (overwrite buffer 0 new) (createdUsed count) 0 new (holds-overwrite buffer 0 new fits) (omega arith) in
+    rw (r .buffer, ← (r .answer))
+    (record {
+      long = omega (arith, k .long);
+      inside = omega (arith, k .room);
+      offset = created-offset count application major minor mediaType creationTime lastWrittenTime (k .sized) _ h (k .few);
+      sound = created-sound count application major minor mediaType creationTime lastWrittenTime (k .sized) _ h (k .few);
+      bytes = bytes-overwrite buffer 0 new fits b (bytes-created count application ba major minor mediaType creationTime lastWrittenTime);
+    })

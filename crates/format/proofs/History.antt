@@ -1,0 +1,195 @@
+-- Demand 3: one claim about a whole list of calls on one buffer. What carries it: each point's image is still there, but for the header's
+-- index offset and times, so that a rollback to its offset finds it. The header's index offset is nowhere mentioned.
+use mathlib.Core.Bool.{true, false}
+use mathlib.Core.List.{List, [], _∷_}
+use mathlib.Core.Logic.{_≢_}
+use mathlib.Core.Path.{_≡_, refl, sym, ap, _∙_, subst}
+use Prim.Native.Nat.{ℕ, _+_, _^_, _≤_, _<_}
+use native.Mathlib.Omega.{arith}
+use lib.ListN.{length, take}
+use lib.Seq.{length-take-le}
+use Rattle.format.specs.declared.Placed.{Placed}
+use Rattle.format.specs.declared.Refusal.{Refusal}
+use Rattle.format.specs.Lists.{All, done, more, IsBytes}
+use Rattle.format.specs.Refusals.{Answer, refused, accepted}
+use Rattle.format.specs.Layouts.{headerLength, indexOffset}
+use Rattle.format.specs.Reading.{readAt, read}
+use Rattle.format.specs.Writing.{longestBuffer, Outcome, placed, setHeader}
+use Rattle.format.specs.Creating.{create}
+use Rattle.format.specs.Committing.{append, commit}
+use Rattle.format.specs.RollingBack.{rollbackVerdict, rollback}
+use Rattle.format.specs.Histories.{Call, commits, rollsBack, Point, Moment, reads, pointNow, started, outcomeOf, pointsAfter, momentAfter, after, atEnd, Throughout, end, call, Permitted}
+use Rattle.format.specs.Demands.{ReturnsTo, Unchanged, RollbackPromise, CommitPromise, Promised, Distinct, nothing, fresh, Kept, Demand3}
+use Rattle.format.proofs.Lists.{all-map}
+use Rattle.format.proofs.Checks.{Sound, RollbackOk, rollback-ok}
+use Rattle.format.proofs.Agree.{Agree, agree-refl, agree-trans, sound-agree, reads-agree}
+use Rattle.format.proofs.Buffers.{outcome-accepted, outcome-passes, outcome-refused, length-setHeader, bytes-setHeader, indexOffset-set, agree-set}
+use Rattle.format.proofs.Committed.{Committed, commit-accepted, demand-2-committing}
+use Rattle.format.proofs.Created.{Created, create-accepted}
+
+-- ---- the invariant
+-- the point's image is still there in x
+pub record StillThere (x : List ℕ) (p : Point) : Type 0 where
+  pub image : List ℕ
+  pub sound : Sound image (p .offset)
+  pub agree : Agree image x
+  pub disc : (a : ℕ) → readAt image (p .offset) a ≡ p .disc a
+
+pub record Inv (m : Moment) : Type 0 where
+  pub long : length (m .buffer) ≤ longestBuffer
+  pub inside : m .used ≤ length (m .buffer)
+  pub bytes : IsBytes (m .buffer)
+  pub points : All (StillThere (take (m .used) (m .buffer))) (m .points)
+  pub distinct : Distinct (m .points)
+
+still-agree : {x y : List ℕ} → Agree x y → (p : Point) → StillThere x p → StillThere y p
+still-agree {x} {y} g p k = record { image = k .image; sound = k .sound; agree = agree-trans (k .image) x y (k .agree) g; disc = k .disc }
+
+-- a point that was just made
+still-now : (buffer : List ℕ) (p : Placed) → indexOffset (take (p .used) buffer) ≡ p .index .0 → Sound (take (p .used) buffer) (p .index .0)
+    → StillThere (take (p .used) buffer) (pointNow buffer p)
+unfolding pointNow read
+still-now buffer p e s =
+    let y : List ℕ = take (p .used) buffer in
+    record { image = y; sound = s; agree = agree-refl y; disc = λ a. ap (λ n. readAt y n a) (sym e) }
+
+module _ (m : Moment) (i : Inv m) where
+  abbrev x : List ℕ
+  x = take (m .used) (m .buffer)
+
+  length-x : length x ≡ m .used
+  length-x = length-take-le (m .used) (m .buffer) (i .inside)
+
+  -- a point's offset lies in the image
+  offset-inside : (p : Point) → StillThere x p → p .offset < m .used
+  offset-inside p k = omega (arith, sound-agree (k .image) x (k .agree) (p .offset) (k .sound) .opens .index .head, length-x)
+
+  -- ---- (a)
+  can-return : (time : ℕ) (p : Point) → StillThere x p → ReturnsTo m time p
+  unfolding rollback after outcomeOf momentAfter reads read
+  can-return time p k =
+      let s : Sound x (p .offset) = sound-agree (k .image) x (k .agree) (p .offset) (k .sound) in
+      let low : headerLength ≤ m .used = omega (arith, s .opens .header .long, length-x) in
+      let small : p .offset < 256 ^ 8 = omega (arith, offset-inside p k, i .inside, i .long) in
+      let new : List ℕ = setHeader (m .buffer) (p .offset) time in
+      let v = rollback-ok (m .buffer) (m .used) (p .offset) .1 (record { long = i .long; inside = i .inside; opens = s .opens }) in
+      let e : rollback (m .buffer) (m .used) (p .offset) time ≡ record { result = accepted (placed (m .used) (p .offset)); buffer = new } =
+      outcome-passes (m .buffer) _ (placed (m .used) (p .offset)) new v in
+      let y : List ℕ = take (m .used) new in
+      let g : Agree (k .image) y = agree-trans (k .image) x y (k .agree) (agree-set (m .buffer) (m .used) (p .offset) time (i .inside)) in
+      record {
+        accepts = ap (λ (w : Outcome). w .result) e;
+        disc = λ a.
+            ap (λ (w : Outcome). reads (momentAfter m (rollsBack (p .offset) time) (w .result) (w .buffer)) a) e
+            ∙ ap (λ n. readAt y n a) (indexOffset-set (m .buffer) (m .used) (p .offset) time low (i .inside) small)
+            ∙ sym (reads-agree (k .image) y g (p .offset) (k .sound) a) ∙ k .disc a;
+      }
+
+-- ---- what a call leaves
+after-refused : (m : Moment) (c : Call) (r : Refusal) → outcomeOf m c .result ≡ refused r
+    → after m c ≡ record { buffer = outcomeOf m c .buffer; used = m .used; points = m .points }
+unfolding after momentAfter
+after-refused m c r e = ap (λ (w : Answer Placed). momentAfter m c w (outcomeOf m c .buffer)) e
+
+after-accepted : (m : Moment) (c : Call) (p : Placed) → outcomeOf m c .result ≡ accepted p
+    → after m c ≡ record { buffer = outcomeOf m c .buffer; used = p .used; points = pointsAfter (m .points) c (outcomeOf m c .buffer) p }
+unfolding after momentAfter
+after-accepted m c p e = ap (λ (w : Answer Placed). momentAfter m c w (outcomeOf m c .buffer)) e
+
+-- ---- (d)
+refused-buffer : (m : Moment) (c : Call) (r : Refusal) → outcomeOf m c .result ≡ refused r → outcomeOf m c .buffer ≡ m .buffer
+unfolding outcomeOf commit append rollback
+refused-buffer m (commits addresses size sectors time) r e = outcome-refused _ _ _ _ r e
+refused-buffer m (rollsBack offset time) r e = outcome-refused _ _ _ _ r e
+
+refused-same : (m : Moment) (c : Call) (r : Refusal) → outcomeOf m c .result ≡ refused r → after m c ≡ m
+refused-same m c r e = after-refused m c r e ∙ (λ i. record { buffer = refused-buffer m c r e i; used = m .used; points = m .points })
+
+unchanged : (m : Moment) (c : Call) (r : Refusal) → outcomeOf m c .result ≡ refused r → Unchanged m (after m c)
+unchanged m c r e =
+    record { buffer = ap (λ (n : Moment). n .buffer) (refused-same m c r e); used = ap (λ (n : Moment). n .used) (refused-same m c r e) }
+
+-- ---- each call keeps its promise, and the invariant
+promised : (m : Moment) → Inv m → (c : Call) → Promised m c
+unfolding Promised outcomeOf reads
+promised m i (rollsBack offset time) =
+    record { returns = all-map (λ p k e. can-return m i time p k) (i .points); unchanged = λ r e. unchanged m (rollsBack offset time) r e }
+promised m i (commits addresses size sectors time) =
+    record {
+      disc = λ p e a.
+          ap (λ (n : Moment). reads n a) (after-accepted m (commits addresses size sectors time) p e)
+          ∙ demand-2-committing (m .buffer) (i .bytes) (m .used) addresses size sectors time p e a;
+      unchanged = λ r e. unchanged m (commits addresses size sectors time) r e;
+    }
+
+-- an accepted commit's index lies past every point's
+distinct-new : (m : Moment) → Inv m → (o : ℕ) → m .used ≤ o → All (λ (q : Point). o ≢ q .offset) (m .points)
+distinct-new m i o h = all-map (λ q k e. absurd (omega (arith, offset-inside m i q k))) (i .points)
+
+inv-commit : (m : Moment) → Inv m → (addresses : List ℕ) (size : ℕ) (sectors : List ℕ) (time : ℕ) → IsBytes sectors → (p : Placed)
+    → commit (m .buffer) (m .used) addresses size sectors time .result ≡ accepted p → Inv (after m (commits addresses size sectors time))
+unfolding outcomeOf pointsAfter pointNow
+inv-commit m i addresses size sectors time b p e =
+    let c : Committed (m .buffer) (m .used) addresses size sectors p (commit (m .buffer) (m .used) addresses size sectors time .buffer) =
+    commit-accepted (m .buffer) (i .bytes) (m .used) addresses size sectors time p e in
+    rw (after-accepted m (commits addresses size sectors time) p e)
+    (record {
+      long = omega (arith, i .long, c .same-length);
+      inside = c .inside;
+      bytes = c .bytes b;
+      points = more (still-now _ p (c .offset) (c .sound)) (all-map (still-agree (c .agree)) (i .points));
+      distinct = fresh (distinct-new m i (p .index .0) (c .past)) (i .distinct);
+    })
+
+inv-rollback : (m : Moment) → Inv m → (offset time : ℕ) (p : Placed) → rollback (m .buffer) (m .used) offset time .result ≡ accepted p
+    → Inv (after m (rollsBack offset time))
+unfolding outcomeOf pointsAfter rollback
+inv-rollback m i offset time p e =
+    let r = outcome-accepted _ _ _ _ p e in
+    let k = rollback-ok (m .buffer) (m .used) offset .0 (r .passes) in
+    let long : headerLength ≤ length (m .buffer) = omega (arith, k .opens .header .long, length-x m i, i .inside) in
+    let ls : length (setHeader (m .buffer) offset time) ≡ length (m .buffer) = length-setHeader (m .buffer) offset time in
+    rw (after-accepted m (rollsBack offset time) p e, ← (r .answer), r .buffer)
+    (record {
+      long = omega (arith, i .long);
+      inside = omega (arith, i .inside);
+      bytes = bytes-setHeader (m .buffer) offset time long (i .bytes);
+      points = all-map (still-agree (agree-set (m .buffer) (m .used) offset time (i .inside))) (i .points);
+      distinct = i .distinct;
+    })
+
+inv-after : (m : Moment) → Inv m → (c : Call) → Permitted m c → Inv (after m c)
+unfolding Permitted outcomeOf
+inv-after m i (commits addresses size sectors time) b = go (commit (m .buffer) (m .used) addresses size sectors time .result) refl
+  where
+    go : (w : Answer Placed) → commit (m .buffer) (m .used) addresses size sectors time .result ≡ w → Inv (after m (commits addresses size sectors time))
+    go (refused r) e = rw (refused-same m (commits addresses size sectors time) r e) i
+    go (accepted p) e = inv-commit m i addresses size sectors time b p e
+inv-after m i (rollsBack offset time) b = go (rollback (m .buffer) (m .used) offset time .result) refl
+  where
+    go : (w : Answer Placed) → rollback (m .buffer) (m .used) offset time .result ≡ w → Inv (after m (rollsBack offset time))
+    go (refused r) e = rw (refused-same m (rollsBack offset time) r e) i
+    go (accepted p) e = inv-rollback m i offset time p e
+
+-- ---- the whole list
+kept : (m : Moment) (calls : List Call) → Inv m → Throughout Permitted m calls → Kept m calls
+unfolding atEnd
+kept m _ i end = record { promises = end; distinct = i .distinct }
+kept m _ i (call {c = c} {cs = cs} h hs) =
+    let r = kept (after m c) cs (inv-after m i c h) hs in
+    record { promises = call (promised m i c) (r .promises); distinct = r .distinct }
+
+inv-started : (buffer : List ℕ) (p : Placed) → Created p buffer → Inv (started buffer p)
+unfolding started
+inv-started buffer p c =
+    record {
+      long = c .long;
+      inside = c .inside;
+      bytes = c .bytes;
+      points = more (still-now buffer p (c .offset) (c .sound)) done;
+      distinct = fresh done nothing;
+    }
+
+pub demand-3 : Demand3
+demand-3 buffer b count application ba major minor mediaType creationTime lastWrittenTime p e calls h =
+    kept _ calls (inv-started _ p (create-accepted buffer b count application ba major minor mediaType creationTime lastWrittenTime p e)) h

@@ -1,0 +1,17 @@
+pub mod Tests
+pub mod Refusals
+pub mod Lists
+pub mod Checks
+pub mod Named
+pub mod Agree
+pub mod Written
+pub mod KeptEntries
+pub mod Storing
+pub mod Bytes
+pub mod Appended
+pub mod Buffers
+pub mod Committed
+pub mod Created
+pub mod Reading
+pub mod History
+pub mod WorkedDisc

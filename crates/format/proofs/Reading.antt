@@ -1,0 +1,101 @@
+-- Demand 2 for reading: a read answers bytes exactly if the address names an intact item, and those bytes are the item's.
+use mathlib.Core.Bool.{true, false}
+use mathlib.Core.List.{List, [], _∷_}
+use mathlib.Core.Logic.{_≢_, _↔_}
+use mathlib.Core.Path.{_≡_, refl, sym, ap, _∙_}
+use Prim.Native.Nat.{ℕ, _+_, _*_}
+use Rattle.fields.specs.Bytes.{part, field}
+use Rattle.format.specs.declared.Pointer.{Pointer}
+use Rattle.format.specs.Refusals.{accepted}
+use Rattle.format.specs.Layouts.{DBLK, DDT*, indexOffset, entries, decode, tableCount, tableShift, sectorSize}
+use Rattle.format.specs.Opening.{offsetsOf, first, tableAt, Opened, openedAt, opened}
+use Rattle.format.specs.Reading.{tableEntry, notWritten, pointerAt, placeOf, itemBytes, readVerdict, readAt, read}
+use Rattle.format.specs.Committing.{itemOf}
+use Rattle.format.specs.Demands.{NamesItem, Demand2Reading}
+use Rattle.format.proofs.Tests.{same-off, same-false}
+use Rattle.format.proofs.Refusals.{then-left, then-right, answer-accepted}
+use Rattle.format.proofs.Checks.{OpenOk, open-ok, SectorOk, sector-ok}
+use Rattle.format.proofs.Named.{named, only-named}
+use Rattle.format.proofs.Agree.{read-bytes}
+
+module _ (img : List ℕ) (a : ℕ) (sector : List ℕ) where
+  abbrev o : ℕ
+  o = indexOffset img
+
+  forth : read img a ≡ accepted sector → NamesItem img a sector
+  unfolding read readAt readVerdict opened openedAt notWritten tableEntry pointerAt decode itemBytes placeOf
+  forth e =
+      let r = answer-accepted _ _ sector e in
+      let k = open-ok img o .0 (then-left _ _ (r .0)) in
+      let q = sector-ok img (entries img o) (opened img o) a .0 (then-right _ _ (r .0)) in
+      let n = only-named DDT* (entries img o) (tableAt img o) .0 (k .only) in
+      record {
+        header = k .header;
+        index = k .index;
+        entriesOk = k .entriesOk;
+        tableEntry = n .entry;
+        only = n .only;
+        table = tableAt img o;
+        tablePlace = n .place;
+        tableOk = k .table;
+        inside = q .inside;
+        entry = tableEntry img (opened img o) a;
+        entryThere = refl;
+        written = same-off _ _ (q .written);
+        block = pointerAt img (opened img o) a .block .0;
+        blockPlace = refl;
+        item = pointerAt img (opened img o) a .item .0;
+        itemNumber = refl;
+        indexed = named DBLK _ (entries img o) .0 (q .named);
+        itemOk = q .item;
+        bytes = r .1;
+      }
+
+  module _ (n : NamesItem img a sector) where
+    abbrev t : Opened
+    t = openedAt img (n .table)
+
+    table-only : offsetsOf DDT* (entries img o) ≡ n .table ∷ []
+    table-only = only-named DDT* (entries img o) (n .table) .1 (record { entry = n .tableEntry; only = n .only; place = n .tablePlace })
+
+    table-at : tableAt img o ≡ n .table
+    unfolding tableAt first
+    table-at = ap first table-only
+
+    opens : OpenOk img o
+    opens =
+        record {
+          header = n .header;
+          index = n .index;
+          entriesOk = n .entriesOk;
+          only = rw table-at table-only;
+          table = rw table-at (n .tableOk);
+        }
+
+    opened-is : opened img o ≡ t
+    unfolding opened
+    opened-is = ap (openedAt img) table-at
+
+    pointer-is : pointerAt img t a ≡ itemOf (n .block) (n .item)
+    unfolding pointerAt tableEntry openedAt decode
+    pointer-is =
+        ap (decode (tableShift img (n .table))) (n .entryThere) ∙ (λ i. itemOf (n .blockPlace i) (n .itemNumber i))
+
+    sector-is : SectorOk img (entries img o) t a
+    unfolding notWritten tableEntry openedAt
+    sector-is =
+        record {
+          inside = n .inside;
+          written = same-false _ _ (λ e. n .written (sym (n .entryThere) ∙ e));
+          named = rw pointer-is (named DBLK (n .block) (entries img o) .1 (n .indexed));
+          item = rw pointer-is (n .itemOk);
+        }
+
+    back : read img a ≡ accepted sector
+    unfolding read itemBytes placeOf
+    back =
+        read-bytes img o opens a (rw opened-is sector-is)
+        ∙ ap accepted (ap (λ (u : Opened). itemBytes img (pointerAt img u a)) opened-is ∙ ap (itemBytes img) pointer-is ∙ n .bytes)
+
+pub demand-2-reading : Demand2Reading
+demand-2-reading img a sector = (forth img a sector, back img a sector)

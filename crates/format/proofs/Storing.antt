@@ -1,0 +1,174 @@
+-- Where the sectors of a commit end up: each handed-in sector gets a pointer to an equal one, on the old disc or among the stored ones.
+use mathlib.Core.Bool.{Bool, true, false, not}
+use mathlib.Core.List.{List, [], _∷_, _++_, append-assoc, append-nil}
+use mathlib.Core.Logic.{_⊎_, inl, inr}
+use mathlib.Core.Option.{Option, none, some}
+use mathlib.Core.Path.{_≡_, refl, sym, ap, _∙_, subst}
+use Prim.Native.Nat.{ℕ, zero, suc, _+_, _^_, _≤_, _<_}
+use native.Mathlib.Nat.{add-zero, lt-of-not-le, le-trans, not-suc-le-zero, le-of-suc-le-suc, le-max-left, le-max-right, zero-add}
+use native.Mathlib.Omega.{arith}
+use lib.ListN.{length, getD, length-append, List·getD-append}
+use lib.Pow.{pow-mono}
+use lib.Seq.{getD-append-seam}
+use Rattle.fields.specs.Bytes.{equal}
+use Rattle.fields.proofs.Equal.{equal-true}
+use Rattle.format.specs.declared.Pointer.{Pointer}
+use Rattle.format.specs.Tests.{same, below}
+use Rattle.format.specs.Lists.{All, done, more, firstWith, given}
+use Rattle.format.specs.Opening.{Opened}
+use Rattle.format.specs.Reading.{notWritten, pointerAt, itemBytes}
+use Rattle.format.specs.Committing.{holdsSector, onDisc, amongStored, Step, itemOf, stepFor, storeOne, Stored, storeAll, oldPointer, orElse, newPointer, newPointers, itemNumber, largestItem, shiftFrom}
+use Rattle.format.proofs.Tests.{on-or-off, not-on, below-on, below-off, and-on, choose-true, choose-false}
+use Rattle.format.proofs.Lists.{all-append, all-head, all-tail, firstWith-found}
+
+-- ---- the smallest shift
+pub shift-fits : (k s n : ℕ) → n < 2 ^ (s + k) → n < 2 ^ shiftFrom k s n
+unfolding shiftFrom
+shift-fits zero s n h = rw add-zero at h
+shift-fits (suc k) s n h = go (shift-fits k (suc s) n (subst (λ m. n < 2 ^ m) (omega arith) h)) (on-or-off (below n (2 ^ s)))
+  where
+    go : n < 2 ^ shiftFrom k (suc s) n → (below n (2 ^ s) ≡ true) ⊎ (below n (2 ^ s) ≡ false) → n < 2 ^ shiftFrom (suc k) s n
+    go ih (inl e) = rw (choose-true _ s (shiftFrom k (suc s) n) e) (below-on _ _ e)
+    go ih (inr e) = rw (choose-false _ s (shiftFrom k (suc s) n) e) ih
+
+pub shift-least : (k s n m : ℕ) → s ≤ m → n < 2 ^ m → shiftFrom k s n ≤ m
+unfolding shiftFrom
+shift-least zero s n m h q = h
+shift-least (suc k) s n m h q = go (shift-least k (suc s) n m) (on-or-off (below n (2 ^ s)))
+  where
+    past : 2 ^ s ≤ n → suc s ≤ m
+    past b = lt-of-not-le (λ (z : m ≤ s). let z′ : 2 ^ m ≤ 2 ^ s = pow-mono z in omega arith)
+
+    go : (suc s ≤ m → n < 2 ^ m → shiftFrom k (suc s) n ≤ m) → (below n (2 ^ s) ≡ true) ⊎ (below n (2 ^ s) ≡ false) → shiftFrom (suc k) s n ≤ m
+    go ih (inl e) = rw (choose-true _ s (shiftFrom k (suc s) n) e) h
+    go ih (inr e) = rw (choose-false _ s (shiftFrom k (suc s) n) e) (ih (past (below-off _ _ e)) q)
+
+-- ---- the searches
+pub record OnDisc (img : List ℕ) (t : Opened) (sector : List ℕ) (a : ℕ) : Type 0 where
+  pub inside : a < t .count
+  pub written : notWritten img t a ≡ false
+  pub bytes : itemBytes img (pointerAt img t a) ≡ sector
+
+onDisc-found : (img : List ℕ) (t : Opened) (sector : List ℕ) (a : ℕ) → onDisc img t sector ≡ some a → OnDisc img t sector a
+unfolding onDisc holdsSector
+onDisc-found img t sector a e =
+    let r = firstWith-found (holdsSector img t sector) (t .count) 0 a e in
+    let q = and-on _ _ (r .0) in
+    record { inside = omega (arith, r .2); written = not-on _ (q .0); bytes = equal-true _ _ (q .1) }
+
+amongStored-found : (stored : List (List ℕ)) (sector : List ℕ) (j : ℕ) → amongStored stored sector ≡ some j → (j < length stored) × (getD stored j [] ≡ sector)
+unfolding amongStored
+amongStored-found stored sector j e =
+    let r = firstWith-found (λ j. equal (getD stored j []) sector) (length stored) 0 j e in
+    (omega (arith, r .2), equal-true _ _ (r .0))
+
+-- ---- where a handed-in sector's bytes are, once `items` are stored in a block at `block`
+pub data Source (img : List ℕ) (t : Opened) (block : ℕ) (items : List (List ℕ)) (sector : List ℕ) : Pointer → Type 0 where
+  old : {a : ℕ} → OnDisc img t sector a → Source img t block items sector (pointerAt img t a)
+  new : {i : ℕ} → i < length items → getD items i [] ≡ sector → Source img t block items sector (itemOf block i)
+
+source-grow : {img : List ℕ} {t : Opened} {block : ℕ} {items : List (List ℕ)} {sector : List ℕ} {p : Pointer} (extra : List (List ℕ))
+    → Source img t block items sector p → Source img t block (items ++ extra) sector p
+source-grow extra (old h) = old h
+source-grow {items = items} extra (new {i = i} h e) = new {i = i} (simp length-append (omega arith)) (List·getD-append items extra [] i h ∙ e)
+
+-- two lists, member by member
+pub data Both {A B : Type 0} (R : A → B → Type 0) : List A → List B → Type 0 where
+  ended : Both R [] []
+  next : {a : A} {b : B} {l : List A} {m : List B} → R a b → Both R l m → Both R (a ∷ l) (b ∷ m)
+
+-- P: a property that all handed-in sectors have, and so all stored ones
+module _ (img : List ℕ) (t : Opened) (block : ℕ) (P : List ℕ → Type 0) where
+  -- one sector
+  record StepOk (stored : List (List ℕ)) (sector : List ℕ) (r : Step) : Type 0 where
+    extra : List (List ℕ)
+    grown : r .stored ≡ stored ++ extra
+    keeps : All P stored → P sector → All P (r .stored)
+    source : Source img t block (r .stored) sector (r .pointer)
+
+  step-ok : (stored : List (List ℕ)) (sector : List ℕ) → StepOk stored sector (storeOne img t block stored sector)
+  unfolding storeOne stepFor
+  step-ok stored sector = go (onDisc img t sector) refl (amongStored stored sector) refl
+    where
+      go : (u : Option ℕ) → onDisc img t sector ≡ u → (v : Option ℕ) → amongStored stored sector ≡ v → StepOk stored sector (stepFor img t block stored sector u v)
+      go (some a) e v f =
+          record { extra = []; grown = sym (append-nil stored); keeps = λ h k. h; source = old (onDisc-found img t sector a e) }
+      go none e (some j) f =
+          let r = amongStored-found stored sector j f in
+          record { extra = []; grown = sym (append-nil stored); keeps = λ h k. h; source = new (r .0) (r .1) }
+      go none e none f =
+          record {
+            extra = sector ∷ [];
+            grown = refl;
+            keeps = λ h k. all-append h (more k done);
+            source = new {i = length stored} (simp length-append (omega arith)) (getD-append-seam stored sector [] []);
+          }
+
+  pub record StoredOk (stored sectors : List (List ℕ)) (r : Stored) : Type 0 where
+    pub extra : List (List ℕ)
+    pub grown : r .items ≡ stored ++ extra
+    pub keeps : All P stored → All P sectors → All P (r .items)
+    pub sources : Both (λ (sector : List ℕ) (p : Pointer). Source img t block (r .items) sector p) sectors (r .pointers)
+
+  pub stored-ok : (sectors stored : List (List ℕ)) → StoredOk stored sectors (storeAll img t block stored sectors)
+  unfolding storeAll
+  stored-ok [] stored = record { extra = []; grown = sym (append-nil stored); keeps = λ h k. h; sources = ended }
+  stored-ok (d ∷ ds) stored = go (storeOne img t block stored d) (step-ok stored d) (stored-ok ds)
+    where
+      go : (s : Step) → StepOk stored d s → ((l : List (List ℕ)) → StoredOk l ds (storeAll img t block l ds))
+          → StoredOk stored (d ∷ ds) (record { items = storeAll img t block (s .stored) ds .items; pointers = s .pointer ∷ storeAll img t block (s .stored) ds .pointers })
+      go s k ih =
+          let r : StoredOk (s .stored) ds (storeAll img t block (s .stored) ds) = ih (s .stored) in
+          record {
+            extra = k .extra ++ r .extra;
+            grown = r .grown ∙ ap (λ (l : List (List ℕ)). l ++ r .extra) (k .grown) ∙ append-assoc stored (k .extra) (r .extra);
+            keeps = λ h q. r .keeps (k .keeps h (all-head q)) (all-tail q);
+            sources = next {a = d} {b = s .pointer} (rw (r .grown) (source-grow (r .extra) (k .source))) (r .sources);
+          }
+
+-- ---- the new pointers: of address a, beside what was handed in for it
+pub data NewPointer (img : List ℕ) (t : Opened) (block : ℕ) (items : List (List ℕ)) (a : ℕ) : Option Pointer → Option (List ℕ) → Type 0 where
+  fresh : {p : Pointer} {sector : List ℕ} → Source img t block items sector p → NewPointer img t block items a (some p) (some sector)
+  kept : NewPointer img t block items a (oldPointer img t a) none
+
+module _ (img : List ℕ) (t : Opened) (block : ℕ) (items : List (List ℕ)) (a : ℕ) where
+  pub new-pointer : (addresses : List ℕ) (ds : List (List ℕ)) (ps : List Pointer) → Both (λ (sector : List ℕ) (p : Pointer). Source img t block items sector p) ds ps
+      → NewPointer img t block items a (newPointer img t addresses ps a) (given addresses ds a)
+  unfolding newPointer given orElse
+  new-pointer [] ds ps h = kept
+  new-pointer (b ∷ bs) _ _ ended = kept
+  new-pointer (b ∷ bs) _ _ (next {a = d} {b = p} {l = ds} {m = ps} h hs) = go (new-pointer bs ds ps hs) (on-or-off (same b a))
+    where
+      go : NewPointer img t block items a (newPointer img t bs ps a) (given bs ds a) → (same b a ≡ true) ⊎ (same b a ≡ false)
+          → NewPointer img t block items a (newPointer img t (b ∷ bs) (p ∷ ps) a) (given (b ∷ bs) (d ∷ ds) a)
+      go ih (inl e) = rw (choose-true _ (some p) (given bs ps a) e, choose-true _ (some d) (given bs ds a) e) (fresh h)
+      go ih (inr e) = rw (choose-false _ (some p) (given bs ps a) e, choose-false _ (some d) (given bs ds a) e) ih
+
+module _ (img : List ℕ) (t : Opened) (addresses : List ℕ) (ps : List Pointer) where
+  pub length-newPointers : (k a : ℕ) → length (newPointers img t addresses ps k a) ≡ k
+  unfolding newPointers
+  length-newPointers zero a = refl
+  length-newPointers (suc k) a = ap suc (length-newPointers k (suc a))
+
+  pub getD-newPointers : (k a j : ℕ) → j < k → getD (newPointers img t addresses ps k a) j none ≡ newPointer img t addresses ps (a + j)
+  unfolding newPointers
+  getD-newPointers zero a j h = absurd (not-suc-le-zero h)
+  getD-newPointers (suc k) a zero h = ap (newPointer img t addresses ps) (sym (add-zero a))
+  getD-newPointers (suc k) a (suc j) h =
+      let e : suc a + j ≡ a + suc j = omega arith in
+      getD-newPointers k (suc a) j (le-of-suc-le-suc h) ∙ ap (newPointer img t addresses ps) e
+
+-- ---- the largest item number
+pub item-largest : (l : List (Option Pointer)) (j : ℕ) → j < length l → itemNumber (getD l j none) ≤ largestItem l
+unfolding largestItem
+item-largest [] j h = absurd (not-suc-le-zero h)
+item-largest (p ∷ l) zero h = le-max-left (itemNumber p) (largestItem l)
+item-largest (p ∷ l) (suc j) h = le-trans (item-largest l j (le-of-suc-le-suc h)) (le-max-right (itemNumber p) (largestItem l))
+
+pub largest-bound : (b : ℕ) (l : List (Option Pointer)) → 0 < b → ((j : ℕ) → j < length l → itemNumber (getD l j none) < b) → largestItem l < b
+unfolding largestItem
+largest-bound b [] h f = h
+largest-bound b (p ∷ l) h f =
+    let x : itemNumber p < b = f 0 (omega arith) in
+    let y : largestItem l < b = largest-bound b l h (λ j k. f (suc j) (omega arith)) in
+    omega arith

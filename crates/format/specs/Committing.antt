@@ -1,0 +1,210 @@
+-- "*Commit* takes buffer, `used`, an address list, a sector size, the sectors' bytes one after another, and a time."
+use mathlib.Core.Bool.{Bool, true, false, not}
+use mathlib.Core.List.{List, [], _∷_, _++_, map}
+use mathlib.Core.Option.{Option, none, some}
+use Prim.Native.Nat.{ℕ, zero, suc, _+_, _*_, _^_, max}
+use lib.ListN.{length, take, getD}
+use Rattle.fields.specs.Bytes.{overwrite, toLe, equal}
+use Rattle.format.specs.declared.Entry.{Entry}
+use Rattle.format.specs.declared.Pointer.{Pointer}
+use Rattle.format.specs.declared.Verdict.{Verdict}
+use Rattle.format.specs.declared.Verdict.the-variants.{Passes, Refuses}
+use Rattle.format.specs.Tests.{same, differs, below, atLeast, _or_, _and_, choose}
+use Rattle.format.specs.Lists.{flat, pieces, firstWith, given}
+use Rattle.format.specs.Refusals.{refusal, row, _then_, firstRefusal}
+use Rattle.format.specs.Layouts.{DBLK, DDT*, CKSM, tag, indexOffset, entries, isType, isUserData, indexBytes, blockBytes, tableBytes, tableEntryLength, encode}
+use Rattle.format.specs.Opening.{Opened, opened, openVerdict}
+use Rattle.format.specs.Reading.{notWritten, pointerAt, itemBytes, sectorVerdict}
+use Rattle.format.specs.Writing.{longestBuffer, Outcome, outcome, placed, setHeader}
+
+-- ---- "Equal sectors are stored once": t is the old disc, as it stood
+-- address a of the old disc holds these bytes, "length included"
+unfoldable pub holdsSector : List ℕ → Opened → List ℕ → ℕ → Bool
+holdsSector img t sector a = not (notWritten img t a) and equal (itemBytes img (pointerAt img t a)) sector
+
+-- "the old disc is searched by rising address": the first address that holds them
+unfoldable pub onDisc : List ℕ → Opened → List ℕ → Option ℕ
+onDisc img t sector = firstWith (holdsSector img t sector) (t .count) 0
+
+-- "then the stored sectors of this commit in order": the first of those stored that is equal, by its number
+unfoldable pub amongStored : List (List ℕ) → List ℕ → Option ℕ
+amongStored stored sector = firstWith (λ j. equal (getD stored j []) sector) (length stored) 0
+
+-- what becomes of one handed-in sector: the sectors stored after it, and its pointer
+pub record Step : Type 0 where
+  pub stored : List (List ℕ)
+  pub pointer : Pointer
+
+abbrev pub itemOf : ℕ → ℕ → Pointer
+itemOf block item = record { block = record { 0 = block }; item = record { 0 = item } }
+
+-- "the search stops at the first sector that holds the same bytes .., and its pointer is used. Exactly if there is none, the
+-- sector is stored as the next item" of the new block
+unfoldable pub stepFor : List ℕ → Opened → ℕ → List (List ℕ) → List ℕ → Option ℕ → Option ℕ → Step
+stepFor img t block stored sector (some a) j = record { stored = stored; pointer = pointerAt img t a }
+stepFor img t block stored sector none (some j) = record { stored = stored; pointer = itemOf block j }
+stepFor img t block stored sector none none = record { stored = stored ++ (sector ∷ []); pointer = itemOf block (length stored) }
+
+unfoldable pub storeOne : List ℕ → Opened → ℕ → List (List ℕ) → List ℕ → Step
+storeOne img t block stored sector = stepFor img t block stored sector (onDisc img t sector) (amongStored stored sector)
+
+-- what becomes of all of them, in order: the sectors stored in the end, and a pointer for each handed in
+pub record Stored : Type 0 where
+  pub items : List (List ℕ)
+  pub pointers : List Pointer
+
+unfoldable pub storeAll : List ℕ → Opened → ℕ → List (List ℕ) → List (List ℕ) → Stored
+storeAll img t block stored [] = record { items = stored; pointers = [] }
+storeAll img t block stored (d ∷ ds) =
+    let one = storeOne img t block stored d in
+    let rest = storeAll img t block (one .stored) ds in
+    record { items = rest .items; pointers = one .pointer ∷ rest .pointers }
+
+-- ---- "a table of the same count": the new pointers by address, none where a sector is not written
+unfoldable pub oldPointer : List ℕ → Opened → ℕ → Option Pointer
+oldPointer img t a = choose (notWritten img t a) none (some (pointerAt img t a))
+
+unfoldable pub orElse : {A : Type 0} → Option A → Option A → Option A
+orElse (some x) y = some x
+orElse none y = y
+
+unfoldable pub newPointer : List ℕ → Opened → List ℕ → List Pointer → ℕ → Option Pointer
+newPointer img t addresses ps a = orElse (given addresses ps a) (oldPointer img t a)
+
+-- those of the k addresses from a on
+unfoldable pub newPointers : List ℕ → Opened → List ℕ → List Pointer → ℕ → ℕ → List (Option Pointer)
+newPointers img t addresses ps zero a = []
+newPointers img t addresses ps (suc k) a = newPointer img t addresses ps a ∷ newPointers img t addresses ps k (suc a)
+
+-- "The table's shift is the smallest shift that every item number fits under (each one in the new table is below 2^shift)"
+unfoldable pub itemNumber : Option Pointer → ℕ
+itemNumber none = 0
+itemNumber (some p) = p .item .0
+
+unfoldable pub largestItem : List (Option Pointer) → ℕ
+largestItem [] = 0
+largestItem (p ∷ ps) = max (itemNumber p) (largestItem ps)
+
+-- the first of the k shifts from s on under which n fits
+unfoldable pub shiftFrom : ℕ → ℕ → ℕ → ℕ
+shiftFrom zero s n = s
+shiftFrom (suc k) s n = choose (below n (2 ^ s)) s (shiftFrom k (suc s) n)
+
+unfoldable pub shiftFor : ℕ → ℕ
+shiftFor n = shiftFrom 64 0 n
+
+-- "old entries are encoded anew for it"
+unfoldable pub tableEntryBytes : ℕ → Option Pointer → List ℕ
+tableEntryBytes shift none = toLe tableEntryLength 0
+tableEntryBytes shift (some p) = toLe tableEntryLength (encode shift p)
+
+unfoldable pub newTable : List (Option Pointer) → List ℕ
+newTable ps =
+    let shift = shiftFor (largestItem ps) in
+    tableBytes shift (length ps) (flat (map (tableEntryBytes shift) ps))
+
+-- ---- "The index holds the old entries in order, the table's entry replaced in its place, every 'CKSM' entry left out .., and the
+-- new data block's entry (dataType 1) last."
+unfoldable pub keptEntry : ℕ → Entry → Entry
+keptEntry table e =
+    choose (isUserData DDT* e) (record { blockType = e .blockType; dataType = e .dataType; offset = record { 0 = table } }) e
+
+unfoldable pub keptEntries : ℕ → List Entry → List Entry
+keptEntries table [] = []
+keptEntries table (e ∷ es) = choose (isType CKSM e) (keptEntries table es) (keptEntry table e ∷ keptEntries table es)
+
+-- "one data block if anything is stored"
+unfoldable pub newBlock : ℕ → List (List ℕ) → List ℕ
+newBlock size [] = []
+newBlock size (i ∷ is) = blockBytes size (flat (i ∷ is))
+
+unfoldable pub newBlockEntry : ℕ → List (List ℕ) → List Entry
+newBlockEntry block [] = []
+newBlockEntry block (i ∷ is) = record { blockType = tag DBLK; dataType = 1; offset = record { 0 = block } } ∷ []
+
+-- ---- "Appended at `used`, without gaps: one data block if anything is stored; a table of the same count; an index."
+pub record Appended : Type 0 where
+  pub block : List ℕ
+  pub table : List ℕ
+  pub index : List ℕ
+
+-- for stored items and new pointers, to an image of `used` bytes whose index has the entries es
+unfoldable pub appendedFor : ℕ → ℕ → List Entry → List (List ℕ) → List (Option Pointer) → Appended
+appendedFor used size es items ps =
+    let block = newBlock size items in
+    record {
+      block = block;
+      table = newTable ps;
+      index = indexBytes (keptEntries (used + length block) es ++ newBlockEntry used items);
+    }
+
+unfoldable pub storedFor : List ℕ → ℕ → List ℕ → ℕ → List ℕ → Stored
+storedFor img o addresses size sectors = storeAll img (opened img o) (length img) [] (pieces (length addresses) size sectors)
+
+unfoldable pub pointersFor : List ℕ → ℕ → List ℕ → List Pointer → List (Option Pointer)
+pointersFor img o addresses ps = newPointers img (opened img o) addresses ps (opened img o .count) 0
+
+unfoldable pub appended : List ℕ → ℕ → List ℕ → ℕ → List ℕ → Appended
+appended img o addresses size sectors =
+    let st = storedFor img o addresses size sectors in
+    appendedFor (length img) size (entries img o) (st .items) (pointersFor img o addresses (st .pointers))
+
+unfoldable pub tableStart : ℕ → Appended → ℕ
+tableStart used new = used + length (new .block)
+
+unfoldable pub indexStart : ℕ → Appended → ℕ
+indexStart used new = tableStart used new + length (new .table)
+
+unfoldable pub usedAfter : ℕ → Appended → ℕ
+usedAfter used new = indexStart used new + length (new .index)
+
+-- ---- "Order: 31, 32, 30, 33, 34, opening's numbers, 20, then sectors by rising address: the first that reads as a refusal other
+-- than 21 gives that number; last 35."
+-- 34: "addresses not strictly rising"
+unfoldable pub rising : List ℕ → Bool
+rising [] = true
+rising (a ∷ []) = true
+rising (a ∷ b ∷ addresses) = below a b and rising (b ∷ addresses)
+
+-- "30: sector size 0 or over 65,536; over 65,536 addresses"; "33: sectors' bytes are not count x size"
+unfoldable pub argumentsVerdict : List ℕ → ℕ → List ℕ → ℕ → List ℕ → Verdict
+argumentsVerdict buffer used addresses size sectors =
+    row (below longestBuffer (length buffer)) (refusal 31)
+    then row (below (length buffer) used) (refusal 32)
+    then row (same size 0 or below 65536 size or below 65536 (length addresses)) (refusal 30)
+    then row (differs (length sectors) (length addresses * size)) (refusal 33)
+    then row (not (rising addresses)) (refusal 34)
+
+-- 20: an address is not below the count
+unfoldable pub anyOutside : ℕ → List ℕ → Bool
+anyOutside count [] = false
+anyOutside count (a ∷ addresses) = atLeast a count or anyOutside count addresses
+
+-- a refusal other than 21
+unfoldable pub otherThan21 : Verdict → Verdict
+otherThan21 Passes = Passes
+otherThan21 (Refuses r) = choose (same (r .number) 21) Passes (Refuses r)
+
+unfoldable pub sectorsVerdict : List ℕ → List Entry → Opened → Verdict
+sectorsVerdict img es t = firstRefusal (λ a. otherThan21 (sectorVerdict img es t a)) (t .count) 0
+
+unfoldable pub discVerdict : List ℕ → ℕ → List ℕ → Verdict
+discVerdict img o addresses =
+    openVerdict img o
+    then row (anyOutside (opened img o .count) addresses) (refusal 20)
+    then sectorsVerdict img (entries img o) (opened img o)
+
+-- "Then indexOffset and lastWrittenTime are set. No other byte changes below the old `used` or from the new one on. The result is the
+-- new `used` and the new index's offset". 35: "the new `used` would exceed the buffer"
+unfoldable pub append : List ℕ → ℕ → Verdict → Appended → ℕ → Outcome
+append buffer used verdict new time =
+    outcome buffer (verdict then row (below (length buffer) (usedAfter used new)) (refusal 35))
+    (placed (usedAfter used new) (indexStart used new))
+    (setHeader (overwrite buffer used (new .block ++ (new .table ++ new .index))) (indexStart used new) time)
+
+unfoldable pub commit : List ℕ → ℕ → List ℕ → ℕ → List ℕ → ℕ → Outcome
+commit buffer used addresses size sectors time =
+    let img = take used buffer in
+    let o = indexOffset img in
+    append buffer used (argumentsVerdict buffer used addresses size sectors then discVerdict img o addresses)
+    (appended img o addresses size sectors) time

@@ -1,0 +1,111 @@
+-- The demands, as the claims that proofs/ proves of these definitions.
+use mathlib.Core.List.{List, [], _∷_}
+use mathlib.Core.Logic.{_≢_, _↔_}
+use mathlib.Core.Option.{Option, none, some}
+use mathlib.Core.Path.{_≡_}
+use Prim.Native.Nat.{ℕ, _+_, _*_, _/_, _%_, _^_, _<_}
+use lib.ListN.{length, take}
+use Rattle.fields.specs.Bytes.{part, field}
+use Rattle.format.specs.declared.Entry.{Entry}
+use Rattle.format.specs.declared.Placed.{Placed}
+use Rattle.format.specs.declared.Refusal.{Refusal}
+use Rattle.format.specs.Lists.{All, Any, Only, IsBytes, pieces, given}
+use Rattle.format.specs.Refusals.{Answer, refused, accepted}
+use Rattle.format.specs.Layouts.{DBLK, DDT*, indexOffset, entries, blockHeaderLength, sectorSize, tableHeaderLength, tableShift, tableCount, tableEntryLength}
+use Rattle.format.specs.Reading.{read}
+use Rattle.format.specs.Writing.{placed}
+use Rattle.format.specs.Creating.{create}
+use Rattle.format.specs.Committing.{commit}
+use Rattle.format.specs.RollingBack.{rollback}
+use Rattle.format.specs.Histories.{Call, commits, rollsBack, Point, Moment, reads, started, after, atEnd, Throughout, Permitted}
+use Rattle.format.specs.Facts.{HeaderOk, IndexOk, EntryOk, UserData, TableOk, ItemOk}
+
+-- ---- Demand 2, reading. "In an image that opens, a sector is given exactly if its table entry names an item of an indexed, intact,
+-- unpacked data block, and then it is that item's bytes."
+-- address a of the image names an item, whose bytes are the sector's
+pub record NamesItem (img : List ℕ) (a : ℕ) (sector : List ℕ) : Type 0 where
+  -- the image opens, at its header's index offset, with the one table that its index names
+  pub header : HeaderOk img
+  pub index : IndexOk img (indexOffset img)
+  pub entriesOk : All (EntryOk img) (entries img (indexOffset img))
+  pub tableEntry : Entry
+  pub only : Only (UserData DDT*) tableEntry (entries img (indexOffset img))
+  pub table : ℕ
+  pub tablePlace : tableEntry .offset .0 ≡ table
+  pub tableOk : TableOk img table
+  -- the address has a table entry, which is not 0
+  pub inside : a < tableCount img table
+  pub entry : ℕ
+  pub entryThere : field img (table + tableHeaderLength + tableEntryLength * a) 8 ≡ entry
+  pub written : entry ≢ 0
+  -- it names an item of an indexed, intact, unpacked data block
+  pub block : ℕ
+  pub blockPlace : entry / 2 ^ tableShift img table ≡ block
+  pub item : ℕ
+  pub itemNumber : entry % 2 ^ tableShift img table ≡ item
+  pub indexed : Any (λ (e : Entry). UserData DBLK e × (e .offset .0 ≡ block)) (entries img (indexOffset img))
+  pub itemOk : ItemOk img block item
+  -- the sector is that item's bytes
+  pub bytes : part img (block + blockHeaderLength + item * sectorSize img block) (sectorSize img block) ≡ sector
+
+abbrev pub Demand2Reading : Type 0
+Demand2Reading = (img : List ℕ) (a : ℕ) (sector : List ℕ) → (read img a ≡ accepted sector) ↔ NamesItem img a sector
+
+-- ---- Demand 2, committing. "An accepted commit makes the named sectors read as handed in and every other sector read as before."
+-- what an address reads as, by what was handed in for it and by what it read as before
+unfoldable pub handedOr : Option (List ℕ) → Answer (List ℕ) → Answer (List ℕ)
+handedOr (some sector) before = accepted sector
+handedOr none before = before
+
+abbrev pub Demand2Committing : Type 0
+Demand2Committing =
+    (buffer : List ℕ) → IsBytes buffer → (used : ℕ) (addresses : List ℕ) (size : ℕ) (sectors : List ℕ) (time : ℕ) (p : Placed)
+    → commit buffer used addresses size sectors time .result ≡ accepted p
+    → (a : ℕ)
+    → read (take (p .used) (commit buffer used addresses size sectors time .buffer)) a
+    ≡ handedOr (given addresses (pieces (length addresses) size sectors) a) (read (take used buffer) a)
+
+-- ---- Demand 3, one claim over the whole list
+-- (a) a rollback to a point's offset: it is accepted, it answers `used` and the offset, and right after it every address reads the same
+-- bytes, or the same refusal, as at the point
+pub record ReturnsTo (m : Moment) (time : ℕ) (p : Point) : Type 0 where
+  pub accepts : rollback (m .buffer) (m .used) (p .offset) time .result ≡ accepted (placed (m .used) (p .offset))
+  pub disc : (a : ℕ) → reads (after m (rollsBack (p .offset) time)) a ≡ p .disc a
+
+-- (d) "A refused call passes buffer and `used` on unchanged."
+pub record Unchanged (m n : Moment) : Type 0 where
+  pub buffer : n .buffer ≡ m .buffer
+  pub used : n .used ≡ m .used
+
+pub record RollbackPromise (m : Moment) (offset time : ℕ) : Type 0 where
+  pub returns : All (λ (p : Point). p .offset ≡ offset → ReturnsTo m time p) (m .points)
+  pub unchanged : (r : Refusal) → rollback (m .buffer) (m .used) offset time .result ≡ refused r → Unchanged m (after m (rollsBack offset time))
+
+-- (c) at an accepted commit the named addresses read as handed in and every other as just before it
+pub record CommitPromise (m : Moment) (addresses : List ℕ) (size : ℕ) (sectors : List ℕ) (time : ℕ) : Type 0 where
+  pub disc : (p : Placed) → commit (m .buffer) (m .used) addresses size sectors time .result ≡ accepted p → (a : ℕ)
+      → reads (after m (commits addresses size sectors time)) a ≡ handedOr (given addresses (pieces (length addresses) size sectors) a) (reads m a)
+  pub unchanged : (r : Refusal) → commit (m .buffer) (m .used) addresses size sectors time .result ≡ refused r
+      → Unchanged m (after m (commits addresses size sectors time))
+
+unfoldable pub Promised : Moment → Call → Type 0
+Promised m (commits addresses size sectors time) = CommitPromise m addresses size sectors time
+Promised m (rollsBack offset time) = RollbackPromise m offset time
+
+-- (b) "No two points have the same offset"
+pub data Distinct : List Point → Type 0 where
+  nothing : Distinct []
+  fresh : {p : Point} {ps : List Point} → All (λ (q : Point). p .offset ≢ q .offset) ps → Distinct ps → Distinct (p ∷ ps)
+
+pub record Kept (start : Moment) (calls : List Call) : Type 0 where
+  pub promises : Throughout Promised start calls
+  pub distinct : Distinct (atEnd start calls .points)
+
+abbrev pub Demand3 : Type 0
+Demand3 =
+    (buffer : List ℕ) → IsBytes buffer → (count : ℕ) (application : List ℕ) → IsBytes application
+    → (major minor mediaType creationTime lastWrittenTime : ℕ) (p : Placed)
+    → create buffer count application major minor mediaType creationTime lastWrittenTime .result ≡ accepted p
+    → (calls : List Call)
+    → Throughout Permitted (started (create buffer count application major minor mediaType creationTime lastWrittenTime .buffer) p) calls
+    → Kept (started (create buffer count application major minor mediaType creationTime lastWrittenTime .buffer) p) calls

@@ -1,0 +1,207 @@
+-- Layouts: the identifiers, each record's fields and the record as it is written, and what a table entry means.
+-- "All little-endian and packed; 'at' counts from the start of the record. The image is the first `used` bytes of a lent buffer."
+-- A record's place comes first of all: `field img (b + 8) 4` is the 4-byte field at 8 of the record at b.
+use mathlib.Core.Bool.{Bool}
+use mathlib.Core.List.{List, [], _∷_, _++_, map}
+use mathlib.Core.Path.{_≡_}
+use Prim.Native.Nat.{ℕ, zero, suc, _+_, _*_, _/_, _%_, _^_}
+use lib.ListN.{length}
+use Rattle.crc64.specs.Crc.{crcOf}
+use Rattle.fields.specs.Bytes.{part, field, fromLe, toLe}
+use Rattle.fields.specs.Layout.{Field, num, raw, layout}
+use Rattle.format.specs.declared.Entry.{Entry}
+use Rattle.format.specs.declared.Pointer.{Pointer}
+use Rattle.format.specs.Tests.{same, differs, _and_}
+use Rattle.format.specs.Lists.{flat}
+
+-- ---- identifiers, by the codes of their letters
+abbrev pub AARUFRMT : List ℕ
+AARUFRMT = 65 ∷ 65 ∷ 82 ∷ 85 ∷ 70 ∷ 82 ∷ 77 ∷ 84 ∷ []
+
+abbrev pub DICMFRMT : List ℕ
+DICMFRMT = 68 ∷ 73 ∷ 67 ∷ 77 ∷ 70 ∷ 82 ∷ 77 ∷ 84 ∷ []
+
+abbrev pub IDX2 : List ℕ
+IDX2 = 73 ∷ 68 ∷ 88 ∷ 50 ∷ []
+
+abbrev pub DBLK : List ℕ
+DBLK = 68 ∷ 66 ∷ 76 ∷ 75 ∷ []
+
+abbrev pub DDT* : List ℕ
+DDT* = 68 ∷ 68 ∷ 84 ∷ 42 ∷ []
+
+abbrev pub CKSM : List ℕ
+CKSM = 67 ∷ 75 ∷ 83 ∷ 77 ∷ []
+
+-- the number that an identifier's letters make
+unfoldable pub tag : List ℕ → ℕ
+tag letters = fromLe letters
+
+-- the identifier at a place is not this one
+unfoldable pub lacks : List ℕ → ℕ → List ℕ → Bool
+lacks img at letters = differs (field img at (length letters)) (tag letters)
+
+-- ---- Header, 72: identifier at 0 (8); application at 8 (32); image major 40, minor 41; application major 42, minor 43;
+-- mediaType 44 (4); indexOffset 48 (8); creationTime 56 (8); lastWrittenTime 64 (8)
+abbrev pub headerLength : ℕ
+headerLength = 72
+
+abbrev pub applicationLength : ℕ
+applicationLength = 32
+
+abbrev pub imageMajorAt : ℕ
+imageMajorAt = 40
+
+abbrev pub indexOffsetAt : ℕ
+indexOffsetAt = 48
+
+abbrev pub lastWrittenAt : ℕ
+lastWrittenAt = 64
+
+unfoldable pub indexOffset : List ℕ → ℕ
+indexOffset img = field img indexOffsetAt 8
+
+-- a new image's header, of version 2.0
+unfoldable pub headerBytes : List ℕ → ℕ → ℕ → ℕ → ℕ → ℕ → ℕ → List ℕ
+headerBytes application major minor mediaType index creationTime lastWrittenTime =
+    layout (raw AARUFRMT ∷ raw application ∷ num 1 2 ∷ num 1 0 ∷ num 1 major ∷ num 1 minor ∷ num 4 mediaType ∷ num 8 index
+    ∷ num 8 creationTime ∷ num 8 lastWrittenTime ∷ [])
+
+-- ---- Index, 20: 'IDX2' at 0; entries 4 (8); crc64 12 (8)
+abbrev pub indexHeaderLength : ℕ
+indexHeaderLength = 20
+
+unfoldable pub entryCount : List ℕ → ℕ → ℕ
+entryCount img o = field img (o + 4) 8
+
+abbrev pub indexCrc64 : List ℕ → ℕ → ℕ
+indexCrc64 img o = field img (o + 12) 8
+
+-- ---- Index entry, 16: blockType 0 (4); dataType 4 (4); offset 8 (8)
+abbrev pub entryLength : ℕ
+entryLength = 16
+
+unfoldable pub entryAt : List ℕ → ℕ → Entry
+entryAt img p = record { blockType = field img p 4; dataType = field img (p + 4) 4; offset = record { 0 = field img (p + 8) 8 } }
+
+-- k entries, one after another from place p on
+unfoldable pub entriesFrom : List ℕ → ℕ → ℕ → List Entry
+entriesFrom img zero p = []
+entriesFrom img (suc k) p = entryAt img p ∷ entriesFrom img k (p + entryLength)
+
+-- the entries of the index at o
+unfoldable pub entries : List ℕ → ℕ → List Entry
+entries img o = entriesFrom img (entryCount img o) (o + indexHeaderLength)
+
+-- "The index checksum covers its entries"
+abbrev pub entriesPart : List ℕ → ℕ → List ℕ
+entriesPart img o = part img (o + indexHeaderLength) (entryLength * entryCount img o)
+
+-- an entry for this kind of block
+unfoldable pub isType : List ℕ → Entry → Bool
+isType letters e = same (e .blockType) (tag letters)
+
+-- an entry for this kind of block, of user data (dataType 1)
+unfoldable pub isUserData : List ℕ → Entry → Bool
+isUserData letters e = isType letters e and same (e .dataType) 1
+
+unfoldable pub entryBytes : Entry → List ℕ
+entryBytes e = layout (num 4 (e .blockType) ∷ num 4 (e .dataType) ∷ num 8 (e .offset .0) ∷ [])
+
+unfoldable pub indexHeader : ℕ → List ℕ → List ℕ
+indexHeader count payload = layout (raw IDX2 ∷ num 8 count ∷ num 8 (crcOf payload) ∷ [])
+
+unfoldable pub indexBytes : List Entry → List ℕ
+indexBytes es = let payload = flat (map entryBytes es) in indexHeader (length es) payload ++ payload
+
+-- ---- Data block, 36: 'DBLK' at 0; type 4 (2); compression 6 (2); sectorSize 8 (4); cmpLength 12 (4); length 16 (4);
+-- cmpCrc64 20 (8); crc64 28 (8). "Payload follows its header at once."
+abbrev pub blockHeaderLength : ℕ
+blockHeaderLength = 36
+
+module _ (img : List ℕ) (b : ℕ) where
+  abbrev pub blockDataType : ℕ
+  blockDataType = field img (b + 4) 2
+
+  abbrev pub blockCompression : ℕ
+  blockCompression = field img (b + 6) 2
+
+  abbrev pub sectorSize : ℕ
+  sectorSize = field img (b + 8) 4
+
+  abbrev pub blockCmpLength : ℕ
+  blockCmpLength = field img (b + 12) 4
+
+  abbrev pub blockLength : ℕ
+  blockLength = field img (b + 16) 4
+
+  abbrev pub blockCmpCrc64 : ℕ
+  blockCmpCrc64 = field img (b + 20) 8
+
+  abbrev pub blockCrc64 : ℕ
+  blockCrc64 = field img (b + 28) 8
+
+  abbrev pub blockPayload : List ℕ
+  blockPayload = part img (b + blockHeaderLength) blockLength
+
+-- "In all that is written, by creating too, compression is 0, type is 1, cmpLength equals length, and both checksums are the payload's."
+unfoldable pub blockHeader : ℕ → List ℕ → List ℕ
+blockHeader size payload =
+    layout (raw DBLK ∷ num 2 1 ∷ num 2 0 ∷ num 4 size ∷ num 4 (length payload) ∷ num 4 (length payload)
+    ∷ num 8 (crcOf payload) ∷ num 8 (crcOf payload) ∷ [])
+
+unfoldable pub blockBytes : ℕ → List ℕ → List ℕ
+blockBytes size payload = blockHeader size payload ++ payload
+
+-- ---- Table, 49: 'DDT*' at 0; type 4 (2); compression 6 (2); shift 8 (1); entries 9 (8); cmpLength 17 (8); length 25 (8);
+-- cmpCrc64 33 (8); crc64 41 (8)
+abbrev pub tableHeaderLength : ℕ
+tableHeaderLength = 49
+
+module _ (img : List ℕ) (t : ℕ) where
+  abbrev pub tableDataType : ℕ
+  tableDataType = field img (t + 4) 2
+
+  abbrev pub tableCompression : ℕ
+  tableCompression = field img (t + 6) 2
+
+  abbrev pub tableShift : ℕ
+  tableShift = field img (t + 8) 1
+
+  abbrev pub tableCount : ℕ
+  tableCount = field img (t + 9) 8
+
+  abbrev pub tableCmpLength : ℕ
+  tableCmpLength = field img (t + 17) 8
+
+  abbrev pub tableLength : ℕ
+  tableLength = field img (t + 25) 8
+
+  abbrev pub tableCmpCrc64 : ℕ
+  tableCmpCrc64 = field img (t + 33) 8
+
+  abbrev pub tableCrc64 : ℕ
+  tableCrc64 = field img (t + 41) 8
+
+  abbrev pub tablePayload : List ℕ
+  tablePayload = part img (t + tableHeaderLength) tableLength
+
+-- of `count` entries, which are the payload
+unfoldable pub tableHeader : ℕ → ℕ → List ℕ → List ℕ
+tableHeader shift count payload =
+    layout (raw DDT* ∷ num 2 1 ∷ num 2 0 ∷ num 1 shift ∷ num 8 count ∷ num 8 (length payload) ∷ num 8 (length payload)
+    ∷ num 8 (crcOf payload) ∷ num 8 (crcOf payload) ∷ [])
+
+unfoldable pub tableBytes : ℕ → ℕ → List ℕ → List ℕ
+tableBytes shift count payload = tableHeader shift count payload ++ payload
+
+-- ---- "A table entry is 8 bytes; entry n is sector address n."
+abbrev pub tableEntryLength : ℕ
+tableEntryLength = 8
+
+-- "byte offset = entry / 2^shift, whole part, and item number = the remainder"
+unfoldable pub decode : ℕ → ℕ → Pointer
+decode shift entry = record { block = record { 0 = entry / 2 ^ shift }; item = record { 0 = entry % 2 ^ shift } }
+
+unfoldable pub encode : ℕ → Pointer → ℕ
+encode shift p = p .block .0 * 2 ^ shift + p .item .0

@@ -1,0 +1,14 @@
+pub mod Tests
+pub mod Lists
+pub mod Refusals
+pub mod Layouts
+pub mod Opening
+pub mod Reading
+pub mod Writing
+pub mod Creating
+pub mod Committing
+pub mod RollingBack
+pub mod Histories
+pub mod Facts
+pub mod Demands
+pub mod WorkedDisc

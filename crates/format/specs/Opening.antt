@@ -1,0 +1,103 @@
+-- Opening, with o for the index's offset: a rollback checks at the offset that it is handed, all else at the header's.
+-- "All sums are whole numbers. Checks in this order".
+use mathlib.Core.Bool.{Bool}
+use mathlib.Core.List.{List, [], _∷_}
+use Prim.Native.Nat.{ℕ, zero, suc, _+_, _*_}
+use lib.ListN.{length}
+use Rattle.crc64.specs.Crc.{crcOf}
+use Rattle.fields.specs.Bytes.{field}
+use Rattle.format.specs.declared.Entry.{Entry}
+use Rattle.format.specs.declared.Verdict.{Verdict}
+use Rattle.format.specs.declared.Verdict.the-variants.{Passes, Refuses}
+use Rattle.format.specs.Tests.{differs, below, _or_, _and_, choose}
+use Rattle.format.specs.Refusals.{refusal, row, _then_, Answer, answer}
+use Rattle.format.specs.Layouts.{AARUFRMT, DICMFRMT, IDX2, DDT*, lacks, headerLength, imageMajorAt, indexOffset, indexHeaderLength, entryCount, indexCrc64, entryLength, entryAt, entries, entriesPart, isUserData, tableHeaderLength, tableDataType, tableCompression, tableShift, tableCount, tableCmpLength, tableLength, tableCmpCrc64, tableCrc64, tablePayload}
+
+-- 1. "`used` below 72: 1. Identifier neither 'AARUFRMT' nor 'DICMFRMT': 2. Image major not 2: 3 (minor is not looked at)."
+unfoldable pub headerVerdict : List ℕ → Verdict
+headerVerdict img =
+    row (below (length img) headerLength) (refusal 1)
+    then row (lacks img 0 AARUFRMT and lacks img 0 DICMFRMT) (refusal 2)
+    then row (differs (field img imageMajorAt 1) 2) (refusal 3)
+
+-- 2. "indexOffset below 72, or its header past the end: 4. Not 'IDX2': 5. Entries past the end: 4. Checksum: 6."
+unfoldable pub indexVerdict : List ℕ → ℕ → Verdict
+indexVerdict img o =
+    row (below o headerLength or below (length img) (o + indexHeaderLength)) (refusal 4)
+    then row (lacks img o IDX2) (refusal 5)
+    then row (below (length img) (o + indexHeaderLength + entryLength * entryCount img o)) (refusal 4)
+    then row (differs (crcOf (entriesPart img o)) (indexCrc64 img o)) (refusal 6)
+
+-- 3. "For each index entry in turn: offset below 72 or offset + 4 past the end: 7; the four bytes there differ from blockType: 8."
+-- The entry stands at place p.
+unfoldable pub entryVerdict : List ℕ → ℕ → Verdict
+entryVerdict img p =
+    let e = entryAt img p in
+    row (below (e .offset .0) headerLength or below (length img) (e .offset .0 + 4)) (refusal 7)
+    then row (differs (field img (e .offset .0) 4) (e .blockType)) (refusal 8)
+
+unfoldable pub entriesVerdict : List ℕ → ℕ → ℕ → Verdict
+entriesVerdict img zero p = Passes
+entriesVerdict img (suc k) p = entryVerdict img p then entriesVerdict img k (p + entryLength)
+
+-- 4. "Entries with blockType 'DDT*' and dataType 1: none is 9, more than one is 10."
+unfoldable pub offsetsOf : List ℕ → List Entry → List ℕ
+offsetsOf letters [] = []
+offsetsOf letters (e ∷ es) = choose (isUserData letters e) (e .offset .0 ∷ offsetsOf letters es) (offsetsOf letters es)
+
+unfoldable pub oneVerdict : List ℕ → Verdict
+oneVerdict [] = Refuses (refusal 9)
+oneVerdict (t ∷ []) = Passes
+oneVerdict (t ∷ u ∷ ts) = Refuses (refusal 10)
+
+-- the table's place, where the index names one table
+unfoldable pub first : List ℕ → ℕ
+first [] = 0
+first (t ∷ ts) = t
+
+unfoldable pub tableAt : List ℕ → ℕ → ℕ
+tableAt img o = first (offsetsOf DDT* (entries img o))
+
+-- 5. "Table header past the end: 11. Compression not 0: 13. Type not 1, shift over 32, length not 8 x entries, or cmpLength not
+-- length: 12. Payload past the end: 11. Either checksum wrong: 14."
+unfoldable pub tableMalformed : List ℕ → ℕ → Bool
+tableMalformed img t =
+    differs (tableDataType img t) 1 or below 32 (tableShift img t)
+    or differs (tableLength img t) (8 * tableCount img t) or differs (tableCmpLength img t) (tableLength img t)
+
+-- either of two stored checksums is not this one
+unfoldable pub sumsDiffer : ℕ → ℕ → ℕ → Bool
+sumsDiffer sum stored1 stored2 = differs sum stored1 or differs sum stored2
+
+unfoldable pub tableVerdict : List ℕ → ℕ → Verdict
+tableVerdict img t =
+    row (below (length img) (t + tableHeaderLength)) (refusal 11)
+    then row (differs (tableCompression img t) 0) (refusal 13)
+    then row (tableMalformed img t) (refusal 12)
+    then row (below (length img) (t + tableHeaderLength + tableLength img t)) (refusal 11)
+    then row (sumsDiffer (crcOf (tablePayload img t)) (tableCmpCrc64 img t) (tableCrc64 img t)) (refusal 14)
+
+-- all of opening's checks
+unfoldable pub openVerdict : List ℕ → ℕ → Verdict
+openVerdict img o =
+    headerVerdict img
+    then indexVerdict img o
+    then entriesVerdict img (entryCount img o) (o + indexHeaderLength)
+    then oneVerdict (offsetsOf DDT* (entries img o))
+    then tableVerdict img (tableAt img o)
+
+-- "An opened image travels as one record holding the lent bytes and the table's place (that of its header), count and shift."
+-- This is what opening finds, beside the bytes; it means something only where opening accepts.
+pub record Opened : Type 0 where
+  pub table : ℕ
+  pub count : ℕ
+  pub shift : ℕ
+
+unfoldable pub openedAt : List ℕ → ℕ → Opened
+openedAt img t = record { table = t; count = tableCount img t; shift = tableShift img t }
+
+unfoldable pub opened : List ℕ → ℕ → Opened
+opened img o = openedAt img (tableAt img o)
+
+unfoldable pub opening : List ℕ → Answer Opened
+opening img = answer (openVerdict img (indexOffset img)) (opened img (indexOffset img))

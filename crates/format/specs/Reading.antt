@@ -1,0 +1,85 @@
+-- Reading a sector. "A read takes bytes, whose length is its `used`, and an address, opens, then checks".
+use mathlib.Core.Bool.{Bool, true, false, not}
+use mathlib.Core.List.{List, [], _∷_}
+use Prim.Native.Nat.{ℕ, _+_, _*_, _/_, _%_}
+use lib.ListN.{length}
+use Rattle.crc64.specs.Crc.{crcOf}
+use Rattle.fields.specs.Bytes.{part, field}
+use Rattle.format.specs.declared.Entry.{Entry}
+use Rattle.format.specs.declared.Pointer.{Pointer}
+use Rattle.format.specs.declared.Place.{Place}
+use Rattle.format.specs.declared.Verdict.{Verdict}
+use Rattle.format.specs.Tests.{same, differs, below, atLeast, _or_}
+use Rattle.format.specs.Refusals.{refusal, row, _then_, Answer, answer}
+use Rattle.format.specs.Layouts.{DBLK, indexOffset, entries, blockHeaderLength, blockDataType, blockCompression, sectorSize, blockCmpLength, blockLength, blockCmpCrc64, blockCrc64, blockPayload, tableHeaderLength, tableEntryLength, decode}
+use Rattle.format.specs.Opening.{Opened, opened, openVerdict, offsetsOf, sumsDiffer}
+
+-- the table entry of address a
+unfoldable pub tableEntry : List ℕ → Opened → ℕ → ℕ
+tableEntry img t a = field img (t .table + tableHeaderLength + tableEntryLength * a) 8
+
+-- "Entry 0x0 means not written."
+unfoldable pub notWritten : List ℕ → Opened → ℕ → Bool
+notWritten img t a = same (tableEntry img t a) 0
+
+unfoldable pub pointerAt : List ℕ → Opened → ℕ → Pointer
+pointerAt img t a = decode (t .shift) (tableEntry img t a)
+
+unfoldable pub has : ℕ → List ℕ → Bool
+has x [] = false
+has x (y ∷ ys) = same y x or has x ys
+
+-- "block header past the end: 23; compression not 0: 24; type not 1, sectorSize 0, cmpLength not length, or length no multiple of
+-- sectorSize: 25; payload past the end: 23"
+unfoldable pub blockMalformed : List ℕ → ℕ → Bool
+blockMalformed img b =
+    differs (blockDataType img b) 1 or same (sectorSize img b) 0
+    or differs (blockCmpLength img b) (blockLength img b) or differs (blockLength img b % sectorSize img b) 0
+
+unfoldable pub blockVerdict : List ℕ → ℕ → Verdict
+blockVerdict img b =
+    row (below (length img) (b + blockHeaderLength)) (refusal 23)
+    then row (differs (blockCompression img b) 0) (refusal 24)
+    then row (blockMalformed img b) (refusal 25)
+    then row (below (length img) (b + blockHeaderLength + blockLength img b)) (refusal 23)
+
+-- "item number not below length / sectorSize: 26; either checksum wrong: 27"
+unfoldable pub itemVerdict : List ℕ → Pointer → Verdict
+itemVerdict img p =
+    let b = p .block .0 in
+    blockVerdict img b
+    then row (atLeast (p .item .0) (blockLength img b / sectorSize img b)) (refusal 26)
+    then row (sumsDiffer (crcOf (blockPayload img b)) (blockCmpCrc64 img b) (blockCrc64 img b)) (refusal 27)
+
+-- "address not below entries: 20; not written: 21; byte offset named by no index entry with blockType 'DBLK' and dataType 1: 22",
+-- in an opened image whose index has the entries es
+unfoldable pub sectorVerdict : List ℕ → List Entry → Opened → ℕ → Verdict
+sectorVerdict img es t a =
+    row (atLeast a (t .count)) (refusal 20)
+    then row (notWritten img t a) (refusal 21)
+    then row (not (has (pointerAt img t a .block .0) (offsetsOf DBLK es))) (refusal 22)
+    then itemVerdict img (pointerAt img t a)
+
+-- where an item lies
+unfoldable pub placeOf : List ℕ → Pointer → Place
+placeOf img p =
+    let size = sectorSize img (p .block .0) in
+    record { start = record { 0 = p .block .0 + blockHeaderLength + p .item .0 * size }; size = size }
+
+-- "The answer is the sectorSize bytes of that item, a part of the lent image."
+unfoldable pub itemBytes : List ℕ → Pointer → List ℕ
+itemBytes img p = part img (placeOf img p .start .0) (placeOf img p .size)
+
+-- all of a read's checks, with o for the index's offset
+unfoldable pub readVerdict : List ℕ → ℕ → ℕ → Verdict
+readVerdict img o a = openVerdict img o then sectorVerdict img (entries img o) (opened img o) a
+
+unfoldable pub readAt : List ℕ → ℕ → ℕ → Answer (List ℕ)
+readAt img o a = answer (readVerdict img o a) (itemBytes img (pointerAt img (opened img o) a))
+
+unfoldable pub read : List ℕ → ℕ → Answer (List ℕ)
+read img a = readAt img (indexOffset img) a
+
+-- the same sector by its place
+unfoldable pub locate : List ℕ → ℕ → Answer Place
+locate img a = answer (readVerdict img (indexOffset img) a) (placeOf img (pointerAt img (opened img (indexOffset img)) a))

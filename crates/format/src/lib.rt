@@ -1,0 +1,47 @@
+// The types that the definitions of specs/ and the code share. A byte offset, an item number and a sector address are
+// three separate things, and none is passed for another.
+
+// A place in an image.
+pub struct ByteOffset(pub u64);
+
+// Which item of a data block.
+pub struct ItemNumber(pub u64);
+
+// Which sector of a disc.
+pub struct SectorAddress(pub u64);
+
+// Why a call is refused: the number of document 01.
+pub struct Refusal {
+    pub number: u32,
+}
+
+// What a check, or a chain of checks, comes to.
+pub enum Verdict {
+    Passes,
+    Refuses(Refusal),
+}
+
+// An entry of an index.
+pub struct Entry {
+    pub blockType: u64,
+    pub dataType: u64,
+    pub offset: ByteOffset,
+}
+
+// What a table entry encodes: a data block and one of its items.
+pub struct Pointer {
+    pub block: ByteOffset,
+    pub item: ItemNumber,
+}
+
+// Where a sector lies in its image.
+pub struct Place {
+    pub start: ByteOffset,
+    pub size: u64,
+}
+
+// What a call that writes answers: how many bytes of the buffer the image has, and where its index is.
+pub struct Placed {
+    pub used: u64,
+    pub index: ByteOffset,
+}
