@@ -28,20 +28,6 @@ unfolding equal
 equal-refl [] = refl
 equal-refl (x ∷ xs) = ap (λ (b : Bool). b && equal xs xs) (eq-eqb x x refl) ∙ equal-refl xs
 
-pub eq-equal : (xs ys : List ℕ) → xs ≡ ys → equal xs ys ≡ true
-eq-equal xs ys e = ap (equal xs) (sym e) ∙ equal-refl xs
-
--- lists that are not equal differ
-pub equal-false : (xs ys : List ℕ) → equal xs ys ≡ false → xs ≡ ys → ⊥
-equal-false xs ys e q = true≢false (sym (eq-equal xs ys q) ∙ e)
-
-pub ne-equal : (xs ys : List ℕ) → (xs ≡ ys → ⊥) → equal xs ys ≡ false
-ne-equal xs ys h = pick (equal xs ys) refl
-  where
-    pick : (b : Bool) → equal xs ys ≡ b → equal xs ys ≡ false
-    pick true e = absurd (h (equal-true xs ys e))
-    pick false e = e
-
 -- ---- byte by byte
 
 pub equal-step : (x y : ℕ) (xs ys : List ℕ) → x ≡ y → equal (x ∷ xs) (y ∷ ys) ≡ equal xs ys

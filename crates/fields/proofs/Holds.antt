@@ -1,15 +1,15 @@
 -- What was written stands there: `Holds s at run`, and what follows for the run's parts and numbers.
 -- Assumes nothing.
-use mathlib.Core.List.{List, [], _∷_, _++_}
-use mathlib.Core.Path.{_≡_, refl, sym, ap, _∙_}
+use mathlib.Core.List.{List, _++_}
+use mathlib.Core.Path.{_≡_, sym, ap, _∙_}
 use Prim.Native.Nat.{ℕ, _+_, _^_, _≤_, _<_}
 use native.Mathlib.Nat.{add-zero}
 use native.Mathlib.Omega.{arith}
 use lib.ListN.{length, take, getD, length-append, length-take, List·getD-append}
-use lib.Seq.{ext-getD, getD-take, getD-append-add, take-length}
+use lib.Seq.{getD-take, getD-append-add, take-length}
 use Rattle.fields.specs.Bytes.{part, fromLe, toLe, field, overwrite}
 use Rattle.fields.proofs.Numbers.{length-toLe, fromLe-toLe}
-use Rattle.fields.proofs.Overwrite.{length-overwrite, getD-in, length-part, getD-part}
+use Rattle.fields.proofs.Overwrite.{length-overwrite, getD-in, part-alike}
 
 pub record Holds (s : List ℕ) (at : ℕ) (run : List ℕ) : Type 0 where
   pub fits : at + length run ≤ length s
@@ -25,14 +25,9 @@ holds-take s n at run h k =
 -- ---- a part of it
 pub holds-part : (s : List ℕ) (at : ℕ) (run : List ℕ) → Holds s at run → (i n : ℕ) → i + n ≤ length run → part s (at + i) n ≡ part run i n
 holds-part s at run h i n k =
-    let f : at + length run ≤ length s = h .fits in
-    let ls : length (part s (at + i) n) ≡ n = length-part s (at + i) n (omega arith) in
-    let lr : length (part run i n) ≡ n = length-part run i n k in
-    ext-getD 0 (part s (at + i) n) (part run i n) (ls ∙ sym lr)
-    (λ j q.
-    let q′ : j < n = omega arith in
-    let e : at + i + j ≡ at + (i + j) = omega arith in
-    getD-part s (at + i) n j q′ ∙ ap (λ m. getD s m 0) e ∙ h .there (i + j) (omega arith) ∙ sym (getD-part run i n j q′))
+    part-alike s run (at + i) i n (omega (arith, h .fits)) k
+    (λ j q. let e : at + i + j ≡ at + (i + j) = omega arith in
+    ap (λ m. getD s m 0) e ∙ h .there (i + j) (omega arith))
 
 pub holds-all : (s : List ℕ) (at : ℕ) (run : List ℕ) → Holds s at run → part s at (length run) ≡ run
 unfolding part
@@ -56,17 +51,7 @@ holds-right s at a b h =
           ap (λ m. getD s m 0) e ∙ h .there (length a + i) (simp length-append (omega arith)) ∙ getD-append-add a b i 0;
     }
 
--- ---- its numbers
-pub holds-field : (s : List ℕ) (at : ℕ) (run : List ℕ) → Holds s at run → (i k v : ℕ) → i + k ≤ length run → part run i k ≡ toLe k v → v < 256 ^ k
-    → field s (at + i) k ≡ v
-unfolding field
-holds-field s at run h i k v l e b = ap fromLe (holds-part s at run h i k l ∙ e) ∙ fromLe-toLe k v b
-
-pub holds-first : (s : List ℕ) (at : ℕ) (run : List ℕ) → Holds s at run → (k : ℕ) (bs : List ℕ) → k ≤ length run → part run 0 k ≡ bs → field s at k ≡ fromLe bs
-unfolding field
-holds-first s at run h k bs l e =
-    ap (λ m. fromLe (part s m k)) (sym (add-zero at)) ∙ ap fromLe (holds-part s at run h 0 k (omega arith) ∙ e)
-
+-- ---- a number
 pub holds-number : (s : List ℕ) (at k v : ℕ) → Holds s at (toLe k v) → v < 256 ^ k → field s at k ≡ v
 unfolding field
 holds-number s at k v h b =

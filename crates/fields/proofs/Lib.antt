@@ -1,7 +1,7 @@
 pub mod Overwrite
 pub mod Steps
 pub mod Numbers
-pub mod Records
 pub mod Holds
+pub mod Records
 pub mod Equal
 mod Compare

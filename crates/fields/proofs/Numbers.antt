@@ -7,8 +7,7 @@ use native.Mathlib.Omega.{arith}
 use lib.Dec.{lit<}
 use lib.ListN.{length, getD}
 use lib.Seq.{take-nil, drop-nil}
-use Rattle.fields.specs.Bytes.{part, fromLe, toLe, field, overwrite}
-use Rattle.fields.proofs.Overwrite.{Apart, part-same, part-off}
+use Rattle.fields.specs.Bytes.{part, fromLe, toLe, field}
 use Rattle.fields.proofs.Steps.{sub-step, sub-done}
 
 pub length-toLe : (k v : ℕ) → length (toLe k v) ≡ k
@@ -22,16 +21,6 @@ fromLe-toLe zero v h = omega arith
 fromLe-toLe (suc k) v h =
     ap (λ (n : ℕ). v % 256 + 256 * n) (fromLe-toLe k (v / 256) (div-lt-iff-lt-mul {k = 256} (lit< tt) .1 (rw pow-suc at h)))
     ∙ mod-add-div v 256
-
--- what was written is read back
-pub field-same : (s : List ℕ) (at k v : ℕ) → v < 256 ^ k → at + k ≤ length s → field (overwrite s at (toLe k v)) at k ≡ v
-unfolding field
-field-same s at k v small room = ap fromLe (part-same s at k (toLe k v) (length-toLe k v) room) ∙ fromLe-toLe k v small
-
--- a number elsewhere is as it was
-pub field-off : (s : List ℕ) (at : ℕ) (new : List ℕ) (p k : ℕ) → Apart p k at (length new) → field (overwrite s at new) p k ≡ field s p k
-unfolding field
-field-off s at new p k o = ap fromLe (part-off s at new p k o)
 
 pub field-zero : (s : List ℕ) (at : ℕ) → field s at 0 ≡ 0
 unfolding field part fromLe

@@ -3,25 +3,24 @@
 use mathlib.Core.Bool.{true, false}
 use mathlib.Core.List.{List, [], _∷_}
 use mathlib.Core.Logic.{_⊎_, inl, inr}
-use mathlib.Core.Path.{_≡_, refl, sym, ap, _∙_, subst}
-use Prim.Native.Nat.{ℕ, zero, suc, _+_, _*_, _/_, _≤_, _<_}
+use mathlib.Core.Path.{_≡_, refl, sym, ap, _∙_}
+use Prim.Native.Nat.{ℕ, zero, suc, _+_, _*_, _≤_, _<_}
 use native.Mathlib.Nat.{le-trans, le-refl, mul-le-mul-right, div-mul-le-self, suc-mul}
 use native.Mathlib.Omega.{arith}
 use lib.Dec.{lit≤}
 use lib.ListN.{length, getD}
 use Rattle.crc64.specs.Crc.{crcOf}
 use Rattle.fields.specs.Bytes.{part, fromLe, field}
-use Rattle.fields.proofs.Overwrite.{part-agree}
+use Rattle.fields.proofs.Overwrite.{part-alike}
 use Rattle.format.specs.declared.Entry.{Entry}
 use Rattle.format.specs.declared.Pointer.{Pointer}
-use Rattle.format.specs.declared.Verdict.the-variants.{Passes, Refuses}
 use Rattle.format.specs.Lists.{All}
 use Rattle.format.specs.Refusals.{refusal, refused, accepted}
 use Rattle.format.specs.Tests.{below, same}
-use Rattle.format.specs.Layouts.{AARUFRMT, DICMFRMT, IDX2, DBLK, DDT*, headerLength, imageMajorAt, indexOffsetAt, entryCount, entryAt, entriesFrom, entries, blockLength, sectorSize, blockPayload, tableLength, tablePayload, decode}
-use Rattle.format.specs.Opening.{offsetsOf, first, tableAt, Opened, openedAt, opened, openVerdict}
+use Rattle.format.specs.Layouts.{DBLK, DDT*, headerLength, imageMajorAt, indexOffsetAt, entryCount, entryAt, entriesFrom, entries, blockLength, sectorSize, blockPayload, tableLength, tablePayload, decode}
+use Rattle.format.specs.Opening.{offsetsOf, first, tableAt, Opened, openedAt, opened}
 use Rattle.format.specs.Reading.{tableEntry, notWritten, pointerAt, has, sectorVerdict, placeOf, itemBytes, readVerdict, readAt}
-use Rattle.format.specs.Facts.{Identified, HeaderOk, IndexOk, EntryOk, TableOk, BlockOk, ItemOk}
+use Rattle.format.specs.Facts.{Identified, HeaderOk, IndexOk, EntryOk, TableOk, ItemOk}
 use Rattle.format.proofs.Tests.{on-or-off, below-on, below-off}
 use Rattle.format.proofs.Refusals.{then-rest, answer-passes, answer-refuses}
 use Rattle.format.proofs.Lists.{all-map, all-head}
@@ -48,7 +47,7 @@ agree-trans x y z f g =
 -- ---- fields, and the facts of each group of checks
 module _ (x y : List ℕ) (g : Agree x y) where
   pub part-rest : (at n : ℕ) → headerLength ≤ at → at + n ≤ length x → part x at n ≡ part y at n
-  part-rest at n h k = part-agree x y at n k (le-trans k (g .longer)) (λ i b. g .rest (at + i) (omega arith) (omega arith))
+  part-rest at n h k = part-alike x y at at n k (le-trans k (g .longer)) (λ i b. g .rest (at + i) (omega arith) (omega arith))
 
   field-rest : (at n : ℕ) → headerLength ≤ at → at + n ≤ length x → field x at n ≡ field y at n
   unfolding field
@@ -56,7 +55,7 @@ module _ (x y : List ℕ) (g : Agree x y) where
 
   field-front : (at n : ℕ) → at + n ≤ indexOffsetAt → headerLength ≤ length x → field x at n ≡ field y at n
   unfolding field
-  field-front at n h k = ap fromLe (part-agree x y at n (omega arith) (omega (arith, g .longer)) (λ i b. g .front (at + i) (omega arith) (omega arith)))
+  field-front at n h k = ap fromLe (part-alike x y at at n (omega arith) (omega (arith, g .longer)) (λ i b. g .front (at + i) (omega arith) (omega arith)))
 
   pub header-agree : HeaderOk x → HeaderOk y
   unfolding Identified
@@ -125,8 +124,8 @@ module _ (x y : List ℕ) (g : Agree x y) where
         whole = sym e25 ∙ k .whole ∙ ap (λ n. 8 * n) (f 9 8 (lit≤ tt));
         unpacked = sym (f 17 8 (lit≤ tt)) ∙ k .unpacked ∙ e25;
         fits = le-trans (rw e25 at (k .fits)) (g .longer);
-        sum1 = ap crcOf (sym ep) ∙ k .sum1 ∙ f 33 8 (lit≤ tt);
-        sum2 = ap crcOf (sym ep) ∙ k .sum2 ∙ f 41 8 (lit≤ tt);
+        cmpSum = ap crcOf (sym ep) ∙ k .cmpSum ∙ f 33 8 (lit≤ tt);
+        sum = ap crcOf (sym ep) ∙ k .sum ∙ f 41 8 (lit≤ tt);
       }
 
   pub item-agree : (b i : ℕ) → headerLength ≤ b → ItemOk x b i → ItemOk y b i
@@ -148,8 +147,8 @@ module _ (x y : List ℕ) (g : Agree x y) where
               fits = le-trans (rw e16 at (k .block .fits)) (g .longer);
             };
         item = rw (e16, e8) at (k .item);
-        sum1 = ap crcOf (sym ep) ∙ k .sum1 ∙ f 20 8 (lit≤ tt);
-        sum2 = ap crcOf (sym ep) ∙ k .sum2 ∙ f 28 8 (lit≤ tt);
+        cmpSum = ap crcOf (sym ep) ∙ k .cmpSum ∙ f 20 8 (lit≤ tt);
+        sum = ap crcOf (sym ep) ∙ k .sum ∙ f 28 8 (lit≤ tt);
       }
 
   -- an item's bytes

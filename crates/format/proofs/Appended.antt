@@ -5,34 +5,33 @@ use mathlib.Core.List.{List, [], _∷_, _++_, map}
 use mathlib.Core.Logic.{_≢_, _⊎_, inl, inr}
 use mathlib.Core.Option.{Option, none, some}
 use mathlib.Core.Path.{_≡_, refl, sym, ap, _∙_, subst}
-use Prim.Native.Nat.{ℕ, zero, suc, _+_, _*_, _/_, _^_, _≤_, _<_, zero-le}
+use Prim.Native.Nat.{ℕ, suc, _+_, _*_, _/_, _^_, _≤_, _<_, zero-le}
 use native.Mathlib.Nat.{zero-add, not-suc-le-zero, div-le-self, mul-le-mul-right, lt-of-lt-of-le, lt-of-le-of-lt}
 use native.Mathlib.Omega.{arith}
 use lib.Dec.{lit<, lit≤}
 use lib.ListN.{length, getD, length-map}
 use lib.Pow.{pow-mono, pow-pos, high, low}
-use Rattle.fields.specs.Bytes.{part, fromLe, toLe}
+use Rattle.fields.specs.Bytes.{part, fromLe}
 use Rattle.fields.proofs.Numbers.{length-toLe}
 use Rattle.fields.proofs.Holds.{Holds, holds-all, holds-left, holds-right, holds-number}
 use Rattle.format.specs.declared.Entry.{Entry}
 use Rattle.format.specs.declared.Pointer.{Pointer}
-use Rattle.format.specs.Lists.{All, done, more, IsBytes, flat, pieces, given}
+use Rattle.format.specs.Lists.{All, done, more, IsBytes, flat}
 use Rattle.format.specs.Refusals.{refusal, Answer, refused, accepted}
-use Rattle.format.specs.Layouts.{DBLK, DDT*, CKSM, tag, headerLength, entries, indexBytes, sectorSize, blockLength, blockBytes, tableBytes, decode, encode}
+use Rattle.format.specs.Layouts.{DBLK, DDT*, CKSM, tag, headerLength, entries, indexBytes, sectorSize, blockLength, tableBytes, decode, encode}
 use Rattle.format.specs.Opening.{offsetsOf, first, tableAt, Opened, openedAt, opened}
 use Rattle.format.specs.Reading.{tableEntry, notWritten, pointerAt, has, placeOf, itemBytes, readAt}
-use Rattle.format.specs.Writing.{longestBuffer}
-use Rattle.format.specs.Committing.{itemOf, oldPointer, newPointer, itemNumber, largestItem, shiftFor, tableEntryBytes, keptEntries, newBlock, newBlockEntry, storedFor, pointersFor}
-use Rattle.format.specs.Facts.{Identified, EntryOk, TableOk, ItemOk}
-use Rattle.format.specs.Demands.{handedOr}
-use Rattle.format.proofs.Tests.{on-or-off, never, same-true, same-false, choose-true, choose-false}
-use Rattle.format.proofs.Lists.{Sized, all-append, all-map, all-get, length-flat, pieces-sized, getD-map}
+use Rattle.format.specs.Writing.{largestSize, longestBuffer}
+use Rattle.format.specs.Committing.{pieces, given, itemOf, oldPointer, newPointer, itemOrZero, largestItem, shiftFor, tableEntryBytes, keptEntries, newBlock, newBlockEntry, storedFor, pointersFor}
+use Rattle.format.specs.Facts.{Identified, EntryOk, ItemOk}
+use Rattle.format.proofs.Tests.{never, same-true, same-false, choose-true, choose-false}
+use Rattle.format.proofs.Lists.{Sized, all-append, all-map, all-get, length-flat, getD-map}
 use Rattle.format.proofs.Checks.{OpenOk, PointerOk, SectorOk, AddressOk, Sound}
 use Rattle.format.proofs.Named.{user-data-on, user-data-true, user-data-false, offsets-yes, offsets-no, offsets-append, has-head, has-left, has-right}
 use Rattle.format.proofs.Agree.{Agree, header-agree, entry-agree, item-agree, bytes-agree, block-low, read-20, read-21, read-bytes}
 use Rattle.format.proofs.Written.{EntryFits, holds-piece, length-tableBytes, table-identified, table-shift, table-count, table-entries, table-written, length-blockBytes, block-identified, block-size, block-items, item-written, length-indexBytes, index-entries, index-written}
 use Rattle.format.proofs.KeptEntries.{dblk-cksm, dblk-ddt, kept-all, kept-blocks, kept-table}
-use Rattle.format.proofs.Storing.{shift-fits, shift-least, OnDisc, Source, old, new, StoredOk, stored-ok, NewPointer, fresh, kept, new-pointer, length-newPointers, getD-newPointers, item-largest, largest-bound}
+use Rattle.format.proofs.Storing.{handedOr, pieces-sized, shift-fits, shift-least, Source, old, new, stored-ok, NewPointer, fresh, kept, new-pointer, length-newPointers, getD-newPointers, item-largest, largest-bound}
 use Rattle.format.proofs.Bytes.{entries-fit}
 
 -- ---- a pointer, encoded and decoded
@@ -62,7 +61,7 @@ record NewItem (y : List ℕ) (b : ℕ) (items : List (List ℕ)) (j : ℕ) : Ty
   bytes : itemBytes y (itemOf b j) ≡ getD items j []
   named : has b (offsetsOf DBLK (newBlockEntry b items)) ≡ true
 
-new-item : (y : List ℕ) (b size : ℕ) (items : List (List ℕ)) → All (Sized size) items → Holds y b (newBlock size items) → size ≢ 0 → size ≤ 65536
+new-item : (y : List ℕ) (b size : ℕ) (items : List (List ℕ)) → All (Sized size) items → Holds y b (newBlock size items) → size ≢ 0 → size ≤ largestSize
     → length y ≤ longestBuffer → (j : ℕ) → j < length items → NewItem y b items j
 unfolding newBlock newBlockEntry itemBytes placeOf
 new-item y b size [] sz h pos small long j k = absurd (not-suc-le-zero k)
@@ -102,7 +101,7 @@ new-item y b size (s ∷ ss) sz h pos small long j k = made
           fits = omega (arith, f);
           item = item-written y b size (length items) payload h pos small whole short j k;
           bytes = ap (λ n. part y (b + 36 + j * n) n) es ∙ ap (part y (b + 36 + j * size)) (sym ln) ∙ holds-all y (b + 36 + j * size) (getD items j []) hi;
-          named = ap (has b) (offsets-yes DBLK e [] (user-data-true DBLK e (record { type = refl; user = refl }))) ∙ has-head b b _ refl;
+          named = ap (has b) (offsets-yes DBLK e [] (user-data-true DBLK e (record { type = refl; userData = refl }))) ∙ has-head b b _ refl;
         }
 
 -- ---- a pointer that stands, in an image whose index has the entries es: it names an intact item, which holds these bytes
@@ -173,7 +172,7 @@ module _ (x : List ℕ) (o : ℕ) (addresses : List ℕ) (size : ℕ) (sectors :
   unfolding pointersFor
   length-pointers = length-newPointers x (opened x o) addresses ps (opened x o .count) 0
 
-  module _ (y : List ℕ) (g : Agree x y) (s : Sound x o) (isBytes : IsBytes x) (pos : size ≢ 0) (small : size ≤ 65536)
+  module _ (y : List ℕ) (g : Agree x y) (s : Sound x o) (isBytes : IsBytes x) (pos : size ≢ 0) (small : size ≤ largestSize)
       (whole : length sectors ≡ length addresses * size) (h : Holds y (length x) (block ++ (table ++ index))) (long : length y ≤ longestBuffer) where
     hb : Holds y (length x) block
     hb = holds-left y (length x) block (table ++ index) h
@@ -264,11 +263,11 @@ module _ (x : List ℕ) (o : ℕ) (addresses : List ℕ) (size : ℕ) (sectors :
     pointer-at a k = getD-newPointers x (opened x o) addresses ps (opened x o .count) 0 a k ∙ ap (newPointer x (opened x o) addresses ps) (zero-add a)
 
     -- ---- the table
-    item-below : (j : ℕ) → j < length pointers → itemNumber (getD pointers j none) < 2 ^ 32
-    unfolding itemNumber
+    item-below : (j : ℕ) → j < length pointers → itemOrZero (getD pointers j none) < 2 ^ 32
+    unfolding itemOrZero
     item-below j k = let jc : j < opened x o .count = omega (arith, length-pointers) in rw (pointer-at j jc) (go _ _ (gets j jc))
       where
-        go : (u : Option Pointer) (v : Answer (List ℕ)) → Gets y newEntries u v → itemNumber u < 2 ^ 32
+        go : (u : Option Pointer) (v : Answer (List ℕ)) → Gets y newEntries u v → itemOrZero u < 2 ^ 32
         go _ _ nothing = lit< tt
         go _ _ (stands q) = q .item
 
@@ -414,9 +413,9 @@ module _ (x : List ℕ) (o : ℕ) (addresses : List ℕ) (size : ℕ) (sectors :
         let c : tableStart + 49 + a * 8 ≡ tableStart + 49 + 8 * a = omega arith in
         subst (λ n. Holds y n (tableEntryBytes shift (newPtr a))) c (subst (Holds y (tableStart + 49 + a * 8)) e hj)
 
-    item-fits : (a : ℕ) → a < opened x o .count → itemNumber (newPtr a) < 2 ^ shift
+    item-fits : (a : ℕ) → a < opened x o .count → itemOrZero (newPtr a) < 2 ^ shift
     item-fits a k =
-        let b : itemNumber (getD pointers a none) ≤ largestItem pointers = item-largest pointers a (omega (arith, length-pointers)) in
+        let b : itemOrZero (getD pointers a none) ≤ largestItem pointers = item-largest pointers a (omega (arith, length-pointers)) in
         rw (pointer-at a k) at (lt-of-le-of-lt b shift-holds)
 
     -- an address below the count: it is not written, or its sector is good; and what is then expected of it
@@ -426,10 +425,10 @@ module _ (x : List ℕ) (o : ℕ) (addresses : List ℕ) (size : ℕ) (sectors :
         ⊎ (SectorOk y newEntries newOpened a × (v ≡ accepted (itemBytes y (pointerAt y newOpened a))))
 
     reads-inside : (a : ℕ) → a < opened x o .count → Reads a (expected a)
-    unfolding tableEntry pointerAt tableEntryBytes itemNumber
+    unfolding tableEntry pointerAt tableEntryBytes itemOrZero
     reads-inside a k = go (newPtr a) (expected a) (gets a k) (pointer-holds a k) (item-fits a k)
       where
-        go : (u : Option Pointer) (v : Answer (List ℕ)) → Gets y newEntries u v → Holds y (tableStart + 49 + 8 * a) (tableEntryBytes shift u) → itemNumber u < 2 ^ shift → Reads a v
+        go : (u : Option Pointer) (v : Answer (List ℕ)) → Gets y newEntries u v → Holds y (tableStart + 49 + 8 * a) (tableEntryBytes shift u) → itemOrZero u < 2 ^ shift → Reads a v
         go _ _ nothing hl il = inl (entry-zero y newOpened a (holds-number y _ 8 0 hl (lit< tt)), refl)
         go _ _ (stands {p = p} {sector = d} q) hl il =
             let n : tableEntry y newOpened a ≡ encode shift p = holds-number y _ 8 (encode shift p) hl (encode-lt shift p shift-small (q .block) il) in

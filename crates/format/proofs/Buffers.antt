@@ -1,7 +1,7 @@
 -- A writing call on a buffer: its outcome by its verdict, and the image afterwards against the image before.
-use mathlib.Core.List.{List, _++_}
+use mathlib.Core.List.{List}
 use mathlib.Core.Logic.{inl, inr}
-use mathlib.Core.Path.{_≡_, refl, sym, ap, _∙_}
+use mathlib.Core.Path.{_≡_, refl, sym, _∙_}
 use Prim.Native.Nat.{ℕ, _+_, _^_, _≤_, _<_}
 use native.Mathlib.Nat.{le-refl}
 use native.Mathlib.Omega.{arith}
@@ -16,9 +16,9 @@ use Rattle.format.specs.declared.Refusal.{Refusal}
 use Rattle.format.specs.declared.Verdict.{Verdict}
 use Rattle.format.specs.declared.Verdict.the-variants.{Passes, Refuses}
 use Rattle.format.specs.Lists.{IsBytes}
-use Rattle.format.specs.Refusals.{Answer, refused, accepted}
+use Rattle.format.specs.Refusals.{refused, accepted}
 use Rattle.format.specs.Layouts.{headerLength, indexOffsetAt, lastWrittenAt, indexOffset}
-use Rattle.format.specs.Writing.{Outcome, outcome, setHeader}
+use Rattle.format.specs.Writing.{outcome, setHeader}
 use Rattle.format.proofs.Agree.{Agree}
 use Rattle.format.proofs.Bytes.{bytes-overwrite, bytes-toLe}
 

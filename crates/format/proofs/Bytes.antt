@@ -1,26 +1,24 @@
 -- Lists of bytes: their fields fit, and what is written is bytes again.
 use mathlib.Core.List.{List, [], _∷_, _++_, map}
 use mathlib.Core.Option.{Option, none, some}
-use mathlib.Core.Path.{_≡_}
-use Prim.Native.Nat.{ℕ, zero, suc, _+_, _*_, _/_, _^_, _≤_, _<_}
+use Prim.Native.Nat.{ℕ, zero, suc, _+_, _*_, _/_, _≤_, _<_}
 use native.Mathlib.Nat.{mod-lt, zero-lt-suc}
-use native.Mathlib.Omega.{arith}
 use lib.Dec.{lit<}
-use lib.ListN.{length, take, drop, getD}
-use Rattle.fields.specs.Bytes.{toLe, field, overwrite}
+use lib.ListN.{length, getD}
+use Rattle.fields.specs.Bytes.{toLe, overwrite}
 use Rattle.fields.specs.Layout.{layout}
 use Rattle.fields.proofs.Numbers.{field-lt}
 use Rattle.fields.proofs.Overwrite.{overwrite-split}
 use Rattle.format.specs.declared.Entry.{Entry}
 use Rattle.format.specs.declared.Pointer.{Pointer}
-use Rattle.format.specs.Lists.{All, done, more, IsBytes, flat, pieces}
-use Rattle.format.specs.Layouts.{AARUFRMT, IDX2, DBLK, DDT*, headerBytes, entryAt, entriesFrom, entryBytes, indexHeader, indexBytes, blockHeader, blockBytes, tableHeader, tableBytes, encode}
+use Rattle.format.specs.Lists.{All, done, more, IsBytes, flat}
+use Rattle.format.specs.Layouts.{headerBytes, entryAt, entriesFrom, entryBytes, indexHeader, indexBytes, blockHeader, blockBytes, tableHeader, tableBytes, encode}
 use Rattle.format.specs.Opening.{opened}
 use Rattle.format.specs.Creating.{createdEntries, createdBytes}
-use Rattle.format.specs.Committing.{largestItem, shiftFor, tableEntryBytes, newTable, newBlock, appendedFor, storedFor, appended}
-use Rattle.format.proofs.Lists.{all-append, all-take, all-drop, all-replicate, all-flat, pieces-all}
+use Rattle.format.specs.Committing.{pieces, largestItem, shiftFor, tableEntryBytes, newTable, newBlock, appendedFor, storedFor, appended}
+use Rattle.format.proofs.Lists.{all-append, all-take, all-drop, all-replicate, all-flat}
 use Rattle.format.proofs.Written.{EntryFits}
-use Rattle.format.proofs.Storing.{stored-ok}
+use Rattle.format.proofs.Storing.{pieces-all, stored-ok}
 
 -- ---- fields fit
 bytes-get : {l : List ℕ} → IsBytes l → (i : ℕ) → getD l i 0 < 256

@@ -1,5 +1,5 @@
 -- Each group of checks passes exactly if its facts hold. Nobody else opens a chain of checks.
-use mathlib.Core.Bool.{Bool, true, false, not}
+use mathlib.Core.Bool.{true, false, not}
 use mathlib.Core.List.{List, [], _∷_}
 use mathlib.Core.Logic.{_≢_, _⊎_, inl, inr, _↔_}
 use mathlib.Core.Path.{_≡_, refl, sym, ap, _∙_}
@@ -11,13 +11,13 @@ use Rattle.format.specs.declared.Entry.{Entry}
 use Rattle.format.specs.declared.Pointer.{Pointer}
 use Rattle.format.specs.declared.Verdict.{Verdict}
 use Rattle.format.specs.declared.Verdict.the-variants.{Passes, Refuses}
-use Rattle.format.specs.Tests.{same, _or_, _and_}
+use Rattle.format.specs.Tests.{same, _and_}
 use Rattle.format.specs.Lists.{All, done, more}
-use Rattle.format.specs.Refusals.{refusal, row, _then_, firstRefusal}
-use Rattle.format.specs.Layouts.{AARUFRMT, DICMFRMT, DBLK, DDT*, lacks, headerLength, applicationLength, indexHeaderLength, entryCount, entryLength, entryAt, entriesFrom, entries}
-use Rattle.format.specs.Opening.{headerVerdict, indexVerdict, entryVerdict, entriesVerdict, offsetsOf, oneVerdict, first, tableAt, tableMalformed, sumsDiffer, tableVerdict, openVerdict, Opened, opened}
+use Rattle.format.specs.Refusals.{refusal, row, firstRefusal}
+use Rattle.format.specs.Layouts.{AARUFRMT, DICMFRMT, DBLK, DDT*, applicationLength, entryLength, entryAt, entriesFrom, entries}
+use Rattle.format.specs.Opening.{lacks, headerVerdict, indexVerdict, entryVerdict, entriesVerdict, offsetsOf, oneVerdict, first, tableAt, tableMalformed, sumsDiffer, tableVerdict, openVerdict, Opened, opened}
 use Rattle.format.specs.Reading.{notWritten, pointerAt, has, blockMalformed, blockVerdict, itemVerdict, sectorVerdict}
-use Rattle.format.specs.Writing.{longestBuffer}
+use Rattle.format.specs.Writing.{mostSectors, largestSize, mostAddresses, longestBuffer, bufferVerdict}
 use Rattle.format.specs.Creating.{createdUsed, createVerdict}
 use Rattle.format.specs.Committing.{rising, argumentsVerdict, anyOutside, otherThan21, sectorsVerdict, discVerdict}
 use Rattle.format.specs.RollingBack.{rollbackVerdict}
@@ -134,8 +134,8 @@ table-ok img t = (forth, back)
           whole = differs-off _ _ (or-left _ _ v3);
           unpacked = differs-off _ _ (or-right _ _ v3);
           fits = below-off _ _ (row-off _ _ (then-left _ _ k3));
-          sum1 = differs-off _ _ (or-left _ _ t5);
-          sum2 = differs-off _ _ (or-right _ _ t5);
+          cmpSum = differs-off _ _ (or-left _ _ t5);
+          sum = differs-off _ _ (or-right _ _ t5);
         }
 
     back : TableOk img t → tableVerdict img t ≡ Passes
@@ -147,7 +147,7 @@ table-ok img t = (forth, back)
         (or-false _ _ (differs-false _ _ (k .type))
         (or-false _ _ (below-false _ _ (k .shift)) (or-false _ _ (differs-false _ _ (k .whole)) (differs-false _ _ (k .unpacked))))))
         (then-passes _ _ (row-passes _ _ (below-false _ _ (k .fits)))
-        (row-passes _ (refusal 14) (or-false _ _ (differs-false _ _ (k .sum1)) (differs-false _ _ (k .sum2)))))))
+        (row-passes _ (refusal 14) (or-false _ _ (differs-false _ _ (k .cmpSum)) (differs-false _ _ (k .sum)))))))
 
 -- opening as a whole
 pub record OpenOk (img : List ℕ) (o : ℕ) : Type 0 where
@@ -228,15 +228,15 @@ item-ok img p = (forth, back)
         record {
           block = block-ok img (p .block .0) .0 (then-left _ _ h);
           item = atLeast-off _ _ (row-off _ _ (then-left _ _ k1));
-          sum1 = differs-off _ _ (or-left _ _ t);
-          sum2 = differs-off _ _ (or-right _ _ t);
+          cmpSum = differs-off _ _ (or-left _ _ t);
+          sum = differs-off _ _ (or-right _ _ t);
         }
 
     back : PointerOk img p → itemVerdict img p ≡ Passes
     back k =
         then-passes _ _ (block-ok img (p .block .0) .1 (k .block))
         (then-passes _ _ (row-passes _ _ (atLeast-false _ _ (k .item)))
-        (row-passes _ (refusal 27) (or-false _ _ (differs-false _ _ (k .sum1)) (differs-false _ _ (k .sum2)))))
+        (row-passes _ (refusal 27) (or-false _ _ (differs-false _ _ (k .cmpSum)) (differs-false _ _ (k .sum)))))
 
 item-not-21 : (img : List ℕ) (p : Pointer) → ¬ Gives 21 (itemVerdict img p)
 unfolding itemVerdict blockVerdict
@@ -301,7 +301,7 @@ module _ (img : List ℕ) (es : List Entry) (t : Opened) (a : ℕ) where
 pub record CreateOk (buffer : List ℕ) (count : ℕ) (application : List ℕ) : Type 0 where
   pub long : length buffer ≤ longestBuffer
   pub some : count ≢ 0
-  pub few : count ≤ 1048576
+  pub few : count ≤ mostSectors
   pub sized : length application ≡ applicationLength
   pub room : createdUsed count ≤ length buffer
 
@@ -328,13 +328,24 @@ create-ok buffer count application = (forth, back)
         (then-passes _ _ (row-passes _ (refusal 30) (or-false _ _ (same-false _ _ (k .some)) (below-false _ _ (k .few))))
         (then-passes _ _ (row-passes _ _ (differs-false _ _ (k .sized))) (row-passes _ _ (below-false _ _ (k .room)))))
 
--- ---- committing
-pub record ArgumentsOk (buffer : List ℕ) (used : ℕ) (addresses : List ℕ) (size : ℕ) (sectors : List ℕ) : Type 0 where
+-- ---- the buffer of a commit or a rollback
+pub record BufferOk (buffer : List ℕ) (used : ℕ) : Type 0 where
   pub long : length buffer ≤ longestBuffer
   pub inside : used ≤ length buffer
+
+pub buffer-ok : (buffer : List ℕ) (used : ℕ) → (bufferVerdict buffer used ≡ Passes) ↔ BufferOk buffer used
+unfolding bufferVerdict
+buffer-ok buffer used = (
+  (λ h. record { long = below-off _ _ (row-off _ _ (then-left _ _ h)); inside = below-off _ _ (row-off _ _ (then-right _ _ h)) }),
+  (λ k. then-passes _ _ (row-passes _ _ (below-false _ _ (k .long))) (row-passes _ _ (below-false _ _ (k .inside)))),
+)
+
+-- ---- committing
+pub record ArgumentsOk (buffer : List ℕ) (used : ℕ) (addresses : List ℕ) (size : ℕ) (sectors : List ℕ) : Type 0 where
+  pub bufferOk : BufferOk buffer used
   pub pos : size ≢ 0
-  pub small : size ≤ 65536
-  pub few : length addresses ≤ 65536
+  pub small : size ≤ largestSize
+  pub few : length addresses ≤ mostAddresses
   pub whole : length sectors ≡ length addresses * size
   pub rises : rising addresses ≡ true
 
@@ -347,25 +358,22 @@ arguments-ok buffer used addresses size sectors = (forth, back)
     forth h =
         let k1 = then-right _ _ h in
         let k2 = then-right _ _ k1 in
-        let k3 = then-right _ _ k2 in
-        let t = row-off _ _ (then-left _ _ k2) in
+        let t = row-off _ _ (then-left _ _ k1) in
         record {
-          long = below-off _ _ (row-off _ _ (then-left _ _ h));
-          inside = below-off _ _ (row-off _ _ (then-left _ _ k1));
+          bufferOk = buffer-ok buffer used .0 (then-left _ _ h);
           pos = same-off _ _ (or-left _ _ t);
           small = below-off _ _ (or-left _ _ (or-right _ _ t));
           few = below-off _ _ (or-right _ _ (or-right _ _ t));
-          whole = differs-off _ _ (row-off _ _ (then-left _ _ k3));
-          rises = not-off _ (row-off _ _ (then-right _ _ k3));
+          whole = differs-off _ _ (row-off _ _ (then-left _ _ k2));
+          rises = not-off _ (row-off _ _ (then-right _ _ k2));
         }
 
     back : ArgumentsOk buffer used addresses size sectors → argumentsVerdict buffer used addresses size sectors ≡ Passes
     back k =
-        then-passes _ _ (row-passes _ _ (below-false _ _ (k .long)))
-        (then-passes _ _ (row-passes _ _ (below-false _ _ (k .inside)))
+        then-passes _ _ (buffer-ok buffer used .1 (k .bufferOk))
         (then-passes _ _
         (row-passes _ (refusal 30) (or-false _ _ (same-false _ _ (k .pos)) (or-false _ _ (below-false _ _ (k .small)) (below-false _ _ (k .few)))))
-        (then-passes _ _ (row-passes _ _ (differs-false _ _ (k .whole))) (row-passes _ _ (ap not (k .rises))))))
+        (then-passes _ _ (row-passes _ _ (differs-false _ _ (k .whole))) (row-passes _ _ (ap not (k .rises)))))
 
 -- an address is not written, or its sector is good
 abbrev pub AddressOk : List ℕ → ℕ → ℕ → Type 0
@@ -433,8 +441,7 @@ disc-ok img o addresses = (forth, back)
 
 -- ---- rolling back
 pub record RollbackOk (buffer : List ℕ) (used offset : ℕ) : Type 0 where
-  pub long : length buffer ≤ longestBuffer
-  pub inside : used ≤ length buffer
+  pub bufferOk : BufferOk buffer used
   pub opens : OpenOk (take used buffer) offset
 
 pub rollback-ok : (buffer : List ℕ) (used offset : ℕ) → (rollbackVerdict buffer used offset ≡ Passes) ↔ RollbackOk buffer used offset
@@ -443,14 +450,8 @@ rollback-ok buffer used offset = (forth, back)
   where
     forth : rollbackVerdict buffer used offset ≡ Passes → RollbackOk buffer used offset
     forth h =
-        let k = then-right _ _ h in
-        record {
-          long = below-off _ _ (row-off _ _ (then-left _ _ h));
-          inside = below-off _ _ (row-off _ _ (then-left _ _ k));
-          opens = open-ok (take used buffer) offset .0 (then-right _ _ k);
-        }
+        record { bufferOk = buffer-ok buffer used .0 (then-left _ _ h); opens = open-ok (take used buffer) offset .0 (then-right _ _ h) }
 
     back : RollbackOk buffer used offset → rollbackVerdict buffer used offset ≡ Passes
     back k =
-        then-passes _ _ (row-passes _ _ (below-false _ _ (k .long)))
-        (then-passes _ _ (row-passes _ _ (below-false _ _ (k .inside))) (open-ok (take used buffer) offset .1 (k .opens)))
+        then-passes _ _ (buffer-ok buffer used .1 (k .bufferOk)) (open-ok (take used buffer) offset .1 (k .opens))

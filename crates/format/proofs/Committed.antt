@@ -1,54 +1,47 @@
 -- An accepted commit: the disc afterwards is sound, keeps the old image's bytes, and reads as handed in, or as before.
 use mathlib.Core.Bool.{true, false}
-use mathlib.Core.List.{List, [], _∷_, _++_}
-use mathlib.Core.Logic.{_≢_, _⊎_, inl, inr}
-use mathlib.Core.Option.{Option, none, some}
-use mathlib.Core.Path.{_≡_, refl, sym, ap, _∙_, subst}
-use Prim.Native.Nat.{ℕ, _+_, _^_, _≤_, _<_}
+use mathlib.Core.List.{List, [], _++_}
+use mathlib.Core.Logic.{_⊎_, inl, inr}
+use mathlib.Core.Option.{Option}
+use mathlib.Core.Path.{_≡_, sym, ap, _∙_, subst}
+use Prim.Native.Nat.{ℕ, _+_, _≤_}
 use native.Mathlib.Omega.{arith}
-use lib.ListN.{length, take, length-append, length-take}
+use lib.ListN.{length, take, getD, length-append, length-take}
 use lib.Seq.{length-take-le}
 use Rattle.fields.specs.Bytes.{overwrite}
 use Rattle.fields.proofs.Overwrite.{length-overwrite}
 use Rattle.fields.proofs.Holds.{Holds}
-use Rattle.format.specs.declared.Entry.{Entry}
 use Rattle.format.specs.declared.Placed.{Placed}
-use Rattle.format.specs.Tests.{same, below}
-use Rattle.format.specs.Lists.{All, IsBytes, pieces, given}
+use Rattle.format.specs.Tests.{below}
+use Rattle.format.specs.Lists.{IsBytes}
 use Rattle.format.specs.Refusals.{Answer, accepted}
-use Rattle.format.specs.Layouts.{CKSM, tag, headerLength, indexOffset, entries}
+use Rattle.format.specs.Layouts.{headerLength, indexOffset}
 use Rattle.format.specs.Opening.{opened}
 use Rattle.format.specs.Reading.{readAt, read}
 use Rattle.format.specs.Writing.{longestBuffer, placed, setHeader}
-use Rattle.format.specs.Committing.{newTable, Appended, appendedFor, appended, tableStart, indexStart, usedAfter, anyOutside, discVerdict, append, commit}
-use Rattle.format.specs.Demands.{handedOr, Demand2Committing}
-use Rattle.format.proofs.Tests.{on-or-off, below-on, below-off, atLeast-off, same-false, or-left, or-right, choose-false}
+use Rattle.format.specs.Committing.{rising, pieces, given, newTable, Appended, appendedFor, appended, tableStart, indexStart, usedAfter, append, commit}
+use Rattle.format.specs.Demands.{ReadsCommitted, NoStaleChecksum, Demand2Committing}
+use Rattle.format.proofs.Tests.{on-or-off, below-on, below-off}
 use Rattle.format.proofs.Refusals.{row-off, then-left, then-right}
 use Rattle.format.proofs.Lists.{all-take}
 use Rattle.format.proofs.Checks.{ArgumentsOk, arguments-ok, Sound, DiscOk, disc-ok}
 use Rattle.format.proofs.Agree.{Agree, read-20}
 use Rattle.format.proofs.Bytes.{bytes-overwrite, bytes-appended}
+use Rattle.format.proofs.Addresses.{given-named, given-other, outside-other}
+use Rattle.format.proofs.Storing.{handedOr, getD-pieces, length-pieces}
 use Rattle.format.proofs.Appended.{no-cksm, sound-new, reads-new, reads-past}
 use Rattle.format.proofs.Buffers.{outcome-accepted, agree-append, holds-appended, indexOffset-set, length-setHeader, bytes-setHeader}
 
--- no sector is handed in for an address past the count
-given-none : {A : Type 0} (n a : ℕ) (addresses : List ℕ) (ys : List A) → anyOutside n addresses ≡ false → n ≤ a → given addresses ys a ≡ none
-unfolding given anyOutside
-given-none n a [] ys h k = refl
-given-none n a (b ∷ bs) [] h k = refl
-given-none n a (b ∷ bs) (y ∷ ys) h k =
-    let lt : b < n = atLeast-off _ _ (or-left _ _ h) in
-    choose-false _ (some y) (given bs ys a) (same-false b a (λ q. absurd (omega arith))) ∙ given-none n a bs ys (or-right _ _ h) k
-
 -- an accepted commit that answered p and left `after`
 pub record Committed (buffer : List ℕ) (used : ℕ) (addresses : List ℕ) (size : ℕ) (sectors : List ℕ) (p : Placed) (after : List ℕ) : Type 0 where
+  pub rises : rising addresses ≡ true
   pub agree : Agree (take used buffer) (take (p .used) after)
   pub past : used ≤ p .index .0
   pub offset : indexOffset (take (p .used) after) ≡ p .index .0
   pub sound : Sound (take (p .used) after) (p .index .0)
   pub reads : (a : ℕ) → readAt (take (p .used) after) (p .index .0) a
       ≡ handedOr (given addresses (pieces (length addresses) size sectors) a) (read (take used buffer) a)
-  pub noChecksums : All (λ (e : Entry). e .blockType ≢ tag CKSM) (entries (take (p .used) after) (p .index .0))
+  pub stale : NoStaleChecksum (take (p .used) after) (p .index .0)
   pub same-length : length after ≡ length buffer
   pub inside : p .used ≤ length after
   pub bytes : IsBytes sectors → IsBytes after
@@ -81,7 +74,7 @@ module _ (buffer : List ℕ) (isBytes : IsBytes buffer) (used : ℕ) (addresses 
   s = d .sound
 
   length-x : length x ≡ used
-  length-x = length-take-le used buffer (k .inside)
+  length-x = length-take-le used buffer (k .bufferOk .inside)
 
   low : headerLength ≤ used
   low = omega (arith, length-x, s .opens .header .long)
@@ -103,22 +96,22 @@ module _ (buffer : List ℕ) (isBytes : IsBytes buffer) (used : ℕ) (addresses 
   length-after = length-setHeader (overwrite buffer used run) (indexStart used new) time ∙ length-overwrite buffer used run
 
   y-long : length y ≤ longestBuffer
-  y-long = simp length-take (omega (arith, length-after, k .long))
+  y-long = simp length-take (omega (arith, length-after, k .bufferOk .long))
 
   index-at : indexStart used new ≡ length x + length (new .block) + length (new .table)
   unfolding indexStart tableStart
   index-at = ap (λ n. n + length (new .block) + length (new .table)) (sym length-x)
 
   sound-y : Sound y (indexStart used new)
-  unfolding appended appendedFor newTable
+  unfolding appended appendedFor newTable tableStart
   sound-y = subst (Sound y) (sym index-at) (sound-new x o addresses size sectors y agrees s (all-take buffer isBytes used) (k .pos) (k .small) (k .whole) holds y-long)
 
-  no-cksm-y : All (λ (e : Entry). e .blockType ≢ tag CKSM) (entries y (indexStart used new))
-  unfolding appended appendedFor newTable
-  no-cksm-y = subst (λ n. All (λ (e : Entry). e .blockType ≢ tag CKSM) (entries y n)) (sym index-at) (no-cksm x o addresses size sectors y agrees s (all-take buffer isBytes used) (k .pos) (k .small) (k .whole) holds y-long)
+  no-cksm-y : NoStaleChecksum y (indexStart used new)
+  unfolding appended appendedFor newTable tableStart
+  no-cksm-y = subst (NoStaleChecksum y) (sym index-at) (no-cksm x o addresses size sectors y agrees s (all-take buffer isBytes used) (k .pos) (k .small) (k .whole) holds y-long)
 
   reads-y : (a : ℕ) → readAt y (indexStart used new) a ≡ handedOr (given addresses ds a) (readAt x o a)
-  unfolding appended appendedFor newTable handedOr
+  unfolding appended appendedFor newTable tableStart handedOr
   reads-y a = ap (λ n. readAt y n a) index-at ∙ go (on-or-off (below a (opened x o .count)))
     where
       go : (below a (opened x o .count) ≡ true) ⊎ (below a (opened x o .count) ≡ false)
@@ -126,7 +119,7 @@ module _ (buffer : List ℕ) (isBytes : IsBytes buffer) (used : ℕ) (addresses 
       go (inl e) = reads-new x o addresses size sectors y agrees s (all-take buffer isBytes used) (k .pos) (k .small) (k .whole) holds y-long a (below-on _ _ e)
       go (inr e) =
           reads-past x o addresses size sectors y agrees s (all-take buffer isBytes used) (k .pos) (k .small) (k .whole) holds y-long a (below-off _ _ e)
-          ∙ sym (ap (λ (v : Option (List ℕ)). handedOr v (readAt x o a)) (given-none _ a addresses ds (d .inside) (below-off _ _ e)) ∙ read-20 x o (s .opens) a (below-off _ _ e))
+          ∙ sym (ap (λ (v : Option (List ℕ)). handedOr v (readAt x o a)) (given-other addresses ds a (outside-other _ a addresses (d .inside) (below-off _ _ e))) ∙ read-20 x o (s .opens) a (below-off _ _ e))
 
   committed : Committed buffer used addresses size sectors (placed (usedAfter used new) (indexStart used new)) after
   unfolding read usedAfter
@@ -136,12 +129,13 @@ module _ (buffer : List ℕ) (isBytes : IsBytes buffer) (used : ℕ) (addresses 
       let lo : length (overwrite buffer used run) ≡ length buffer = length-overwrite buffer used run in
       let past : used ≤ indexStart used new = omega (arith, index-at, length-x) in
       record {
+        rises = k .rises;
         agree = rw y-is agrees;
         past = past;
-        offset = indexOffset-set (overwrite buffer used run) (usedAfter used new) (indexStart used new) time (omega (arith, low)) (omega arith) (omega (arith, k .long));
+        offset = indexOffset-set (overwrite buffer used run) (usedAfter used new) (indexStart used new) time (omega (arith, low)) (omega arith) (omega (arith, k .bufferOk .long));
         sound = rw y-is sound-y;
         reads = rw y-is reads-y;
-        noChecksums = rw y-is no-cksm-y;
+        stale = rw y-is no-cksm-y;
         same-length = length-after;
         inside = omega (arith, room, length-after);
         bytes = λ h.
@@ -162,8 +156,28 @@ commit-accepted buffer b used addresses size sectors time p e =
     rw (r .buffer, ← (r .answer)) (committed buffer b used addresses size sectors time k d room)
 
 -- ---- demand 2, committing
+reads-committed : (before later : ℕ → Answer (List ℕ)) (addresses : List ℕ) (size : ℕ) (sectors : List ℕ) → rising addresses ≡ true
+    → ((a : ℕ) → later a ≡ handedOr (given addresses (pieces (length addresses) size sectors) a) (before a))
+    → ReadsCommitted before later addresses size sectors
+unfolding handedOr
+reads-committed before later addresses size sectors r h =
+    let ds : List (List ℕ) = pieces (length addresses) size sectors in
+    let ld : length ds ≡ length addresses = length-pieces (length addresses) size sectors in
+    record {
+      named = λ i k.
+          h (getD addresses i 0)
+          ∙ ap (λ (v : Option (List ℕ)). handedOr v (before (getD addresses i 0))) (given-named [] addresses ds i r k (omega arith))
+          ∙ ap accepted (getD-pieces (length addresses) size sectors i k);
+      others = λ a o. h a ∙ ap (λ (v : Option (List ℕ)). handedOr v (before a)) (given-other addresses ds a o);
+    }
+
 pub demand-2-committing : Demand2Committing
 unfolding read
-demand-2-committing buffer b used addresses size sectors time p e a =
+demand-2-committing buffer b used addresses size sectors time p e =
+    let after : List ℕ = commit buffer used addresses size sectors time .buffer in
     let c = commit-accepted buffer b used addresses size sectors time p e in
-    ap (λ n. readAt (take (p .used) (commit buffer used addresses size sectors time .buffer)) n a) (c .offset) ∙ c .reads a
+    record {
+      disc = reads-committed (read (take used buffer)) (read (take (p .used) after)) addresses size sectors (c .rises)
+          (λ a. ap (λ n. readAt (take (p .used) after) n a) (c .offset) ∙ c .reads a);
+      index = c .stale;
+    }

@@ -1,29 +1,29 @@
 -- An accepted creation: the disc is sound, and no sector of it is written.
-use mathlib.Core.Bool.{true, false}
+use mathlib.Core.Bool.{true}
 use mathlib.Core.List.{List, [], _∷_, _++_}
 use mathlib.Core.Logic.{inl}
-use mathlib.Core.Path.{_≡_, refl, sym, ap, _∙_, subst}
+use mathlib.Core.Path.{_≡_, refl, ap, _∙_, subst}
 use Prim.Native.Nat.{ℕ, _+_, _*_, _^_, _≤_, _<_, zero-le}
 use native.Mathlib.Omega.{arith}
 use lib.Dec.{lit<, lit≤}
 use lib.ListN.{length, take, replicate, length-replicate, length-append}
-use Rattle.fields.specs.Bytes.{part, fromLe, toLe, field, overwrite}
-use Rattle.fields.specs.Layout.{layout}
+use Rattle.fields.specs.Bytes.{part, fromLe, field, overwrite}
 use Rattle.fields.proofs.Overwrite.{length-overwrite}
-use Rattle.fields.proofs.Holds.{Holds, holds-take, holds-overwrite, holds-part, holds-left, holds-right, holds-field, holds-first}
+use Rattle.fields.proofs.Holds.{Holds, holds-take, holds-overwrite, holds-part, holds-left, holds-right}
+use Rattle.fields.proofs.Records.{length-layout, holds-num, holds-raw}
 use Rattle.format.specs.declared.Entry.{Entry}
 use Rattle.format.specs.declared.Placed.{Placed}
 use Rattle.format.specs.Lists.{All, done, more, IsBytes}
 use Rattle.format.specs.Refusals.{accepted}
 use Rattle.format.specs.Layouts.{AARUFRMT, DDT*, tag, headerLength, applicationLength, imageMajorAt, indexOffsetAt, indexOffset, headerBytes, entries, indexBytes, tableCount, tableBytes}
-use Rattle.format.specs.Opening.{offsetsOf, first, tableAt, Opened, openedAt, opened}
+use Rattle.format.specs.Opening.{offsetsOf, first, tableAt, openedAt, opened}
 use Rattle.format.specs.Reading.{tableEntry, notWritten}
-use Rattle.format.specs.Writing.{longestBuffer, placed}
+use Rattle.format.specs.Writing.{mostSectors, longestBuffer}
 use Rattle.format.specs.Creating.{createdIndexAt, createdUsed, createdEntries, createdBytes, create}
 use Rattle.format.specs.Facts.{Identified, HeaderOk, EntryOk}
 use Rattle.format.proofs.Tests.{same-true}
 use Rattle.format.proofs.Lists.{all-take, all-drop, all-replicate}
-use Rattle.format.proofs.Checks.{OpenOk, Sound, CreateOk, create-ok}
+use Rattle.format.proofs.Checks.{OpenOk, Sound, create-ok}
 use Rattle.format.proofs.Named.{user-data-true, offsets-yes}
 use Rattle.format.proofs.Written.{EntryFits, length-tableBytes, table-identified, table-count, table-entries, table-written, length-indexBytes, index-entries, index-written}
 use Rattle.format.proofs.Bytes.{bytes-overwrite, bytes-created}
@@ -50,14 +50,9 @@ module _ (count : ℕ) (application : List ℕ) (major minor mediaType creationT
   length-zeros : length zeros ≡ 8 * count
   length-zeros = length-replicate {A = ℕ} (8 * count) 0
 
-  -- the header's fields from the image's version on
-  abbrev fields : List ℕ
-  fields =
-      toLe 1 2 ++ (toLe 1 0 ++ (toLe 1 major ++ (toLe 1 minor ++ (toLe 4 mediaType ++ (toLe 8 (createdIndexAt count) ++ (toLe 8 creationTime ++ (toLe 8 lastWrittenTime ++ [])))))))
-
   length-header : length header ≡ headerLength
-  unfolding headerBytes layout toLe
-  length-header = let a = length-append application fields in omega arith
+  unfolding headerBytes
+  length-header = simp length-layout (omega arith)
 
   length-new : length new ≡ createdUsed count
   unfolding createdBytes createdUsed createdIndexAt
@@ -70,24 +65,15 @@ module _ (count : ℕ) (application : List ℕ) (major minor mediaType creationT
       let f = length-header in
       omega arith
 
-  module _ (y : List ℕ) (h : Holds y 0 new) (few : count ≤ 1048576) where
+  module _ (y : List ℕ) (h : Holds y 0 new) (few : count ≤ mostSectors) where
     abbrev o : ℕ
     o = createdIndexAt count
-
-    h-header : Holds y 0 header
-    unfolding createdBytes
-    h-header = holds-left y 0 header (table ++ indexBytes createdEntries) h
 
     h-rest : Holds y headerLength (table ++ indexBytes createdEntries)
     unfolding createdBytes
     h-rest =
         let e : 0 + length header ≡ headerLength = omega (arith, length-header) in
         subst (λ n. Holds y n (table ++ indexBytes createdEntries)) e (holds-right y 0 header (table ++ indexBytes createdEntries) h)
-
-    h-fields : Holds y imageMajorAt fields
-    unfolding headerBytes layout
-    h-fields =
-        subst (λ n. Holds y (8 + n) fields) sized (holds-right y 8 application fields (holds-right y 0 AARUFRMT (application ++ fields) h-header))
 
     h-table : Holds y headerLength table
     h-table = holds-left y headerLength table (indexBytes createdEntries) h-rest
@@ -102,13 +88,20 @@ module _ (count : ℕ) (application : List ℕ) (major minor mediaType creationT
     y-long = omega (arith, h .fits, length-new)
 
     header-new : HeaderOk y
-    unfolding Identified headerBytes layout toLe part fromLe tag createdUsed createdIndexAt
+    unfolding Identified createdBytes headerBytes tag createdUsed createdIndexAt
     header-new =
+        let e : 0 + (8 + (length application + 0)) ≡ imageMajorAt = omega arith in
         record {
           long = omega (arith, y-long);
-          identifier = inl (holds-first y 0 header h-header 8 AARUFRMT (omega (arith, length-header)) refl);
-          major = holds-first y imageMajorAt fields h-fields 1 (2 ∷ []) (lit≤ tt) refl;
+          identifier = inl (holds-raw y 0 AARUFRMT _ _ h);
+          major = subst (λ n. field y n 1 ≡ 2) e (holds-num y 0 _ _ h 2 1 2 (lit< tt) refl (lit< tt));
         }
+
+    pub created-offset : indexOffset y ≡ o
+    unfolding indexOffset createdBytes headerBytes createdIndexAt
+    created-offset =
+        let e : 0 + (8 + (length application + (1 + (1 + (1 + (1 + (4 + 0))))))) ≡ indexOffsetAt = omega arith in
+        subst (λ n. field y n 8 ≡ o) e (holds-num y 0 _ _ h 7 8 o (lit< tt) refl (omega arith))
 
     -- ---- the table and the index
     short : length zeros < 256 ^ 8
@@ -130,7 +123,7 @@ module _ (count : ℕ) (application : List ℕ) (major minor mediaType creationT
 
     only : offsetsOf DDT* createdEntries ≡ headerLength ∷ []
     unfolding offsetsOf
-    only = offsets-yes DDT* _ [] (user-data-true DDT* _ (record { type = refl; user = refl }))
+    only = offsets-yes DDT* _ [] (user-data-true DDT* _ (record { type = refl; userData = refl }))
 
     tableAt-new : tableAt y o ≡ headerLength
     unfolding tableAt first
@@ -173,10 +166,6 @@ module _ (count : ℕ) (application : List ℕ) (major minor mediaType creationT
 
     pub created-sound : Sound y o
     created-sound = record { opens = opens; sectors = λ a k. inl (nothing-written a (rw count-new at k)) }
-
-    pub created-offset : indexOffset y ≡ o
-    unfolding indexOffset toLe part createdIndexAt
-    created-offset = holds-field y imageMajorAt fields h-fields 8 8 o (lit≤ tt) refl (omega arith)
 
 -- ---- an accepted creation that answered p and left `after`
 pub record Created (p : Placed) (after : List ℕ) : Type 0 where

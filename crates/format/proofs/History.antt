@@ -1,10 +1,9 @@
 -- Demand 3: one claim about a whole list of calls on one buffer. What carries it: each point's image is still there, but for the header's
 -- index offset and times, so that a rollback to its offset finds it. The header's index offset is nowhere mentioned.
-use mathlib.Core.Bool.{true, false}
-use mathlib.Core.List.{List, [], _∷_}
+use mathlib.Core.List.{List}
 use mathlib.Core.Logic.{_≢_}
 use mathlib.Core.Path.{_≡_, refl, sym, ap, _∙_, subst}
-use Prim.Native.Nat.{ℕ, _+_, _^_, _≤_, _<_}
+use Prim.Native.Nat.{ℕ, _^_, _≤_, _<_}
 use native.Mathlib.Omega.{arith}
 use lib.ListN.{length, take}
 use lib.Seq.{length-take-le}
@@ -15,13 +14,12 @@ use Rattle.format.specs.Refusals.{Answer, refused, accepted}
 use Rattle.format.specs.Layouts.{headerLength, indexOffset}
 use Rattle.format.specs.Reading.{readAt, read}
 use Rattle.format.specs.Writing.{longestBuffer, Outcome, placed, setHeader}
-use Rattle.format.specs.Creating.{create}
 use Rattle.format.specs.Committing.{append, commit}
-use Rattle.format.specs.RollingBack.{rollbackVerdict, rollback}
-use Rattle.format.specs.Histories.{Call, commits, rollsBack, Point, Moment, reads, pointNow, started, outcomeOf, pointsAfter, momentAfter, after, atEnd, Throughout, end, call, Permitted}
-use Rattle.format.specs.Demands.{ReturnsTo, Unchanged, RollbackPromise, CommitPromise, Promised, Distinct, nothing, fresh, Kept, Demand3}
+use Rattle.format.specs.RollingBack.{rollback}
+use Rattle.format.specs.Histories.{Call, commits, rollsBack, Point, Moment, reads, ReadTheSame, pointNow, started, outcomeOf, pointsAfter, momentAfter, after, atEnd, Throughout, end, made, Permitted}
+use Rattle.format.specs.Demands.{ReturnsTo, Unchanged, Promised, Distinct, nothing, fresh, Kept, Demand3}
 use Rattle.format.proofs.Lists.{all-map}
-use Rattle.format.proofs.Checks.{Sound, RollbackOk, rollback-ok}
+use Rattle.format.proofs.Checks.{Sound, rollback-ok}
 use Rattle.format.proofs.Agree.{Agree, agree-refl, agree-trans, sound-agree, reads-agree}
 use Rattle.format.proofs.Buffers.{outcome-accepted, outcome-passes, outcome-refused, length-setHeader, bytes-setHeader, indexOffset-set, agree-set}
 use Rattle.format.proofs.Committed.{Committed, commit-accepted, demand-2-committing}
@@ -65,21 +63,21 @@ module _ (m : Moment) (i : Inv m) where
   offset-inside p k = omega (arith, sound-agree (k .image) x (k .agree) (p .offset) (k .sound) .opens .index .head, length-x)
 
   -- ---- (a)
-  can-return : (time : ℕ) (p : Point) → StillThere x p → ReturnsTo m time p
-  unfolding rollback after outcomeOf momentAfter reads read
+  can-return : (time : ℕ) (p : Point) → StillThere x p → ReturnsTo m (p .offset) time p
+  unfolding rollback after outcomeOf momentAfter reads ReadTheSame read
   can-return time p k =
       let s : Sound x (p .offset) = sound-agree (k .image) x (k .agree) (p .offset) (k .sound) in
       let low : headerLength ≤ m .used = omega (arith, s .opens .header .long, length-x) in
       let small : p .offset < 256 ^ 8 = omega (arith, offset-inside p k, i .inside, i .long) in
       let new : List ℕ = setHeader (m .buffer) (p .offset) time in
-      let v = rollback-ok (m .buffer) (m .used) (p .offset) .1 (record { long = i .long; inside = i .inside; opens = s .opens }) in
+      let v = rollback-ok (m .buffer) (m .used) (p .offset) .1 (record { bufferOk = record { long = i .long; inside = i .inside }; opens = s .opens }) in
       let e : rollback (m .buffer) (m .used) (p .offset) time ≡ record { result = accepted (placed (m .used) (p .offset)); buffer = new } =
       outcome-passes (m .buffer) _ (placed (m .used) (p .offset)) new v in
       let y : List ℕ = take (m .used) new in
       let g : Agree (k .image) y = agree-trans (k .image) x y (k .agree) (agree-set (m .buffer) (m .used) (p .offset) time (i .inside)) in
       record {
         accepts = ap (λ (w : Outcome). w .result) e;
-        disc = λ a.
+        same = λ a.
             ap (λ (w : Outcome). reads (momentAfter m (rollsBack (p .offset) time) (w .result) (w .buffer)) a) e
             ∙ ap (λ n. readAt y n a) (indexOffset-set (m .buffer) (m .used) (p .offset) time low (i .inside) small)
             ∙ sym (reads-agree (k .image) y g (p .offset) (k .sound) a) ∙ k .disc a;
@@ -113,12 +111,12 @@ unchanged m c r e =
 promised : (m : Moment) → Inv m → (c : Call) → Promised m c
 unfolding Promised outcomeOf reads
 promised m i (rollsBack offset time) =
-    record { returns = all-map (λ p k e. can-return m i time p k) (i .points); unchanged = λ r e. unchanged m (rollsBack offset time) r e }
+    record { returns = all-map (λ p k e. subst (λ o. ReturnsTo m o time p) e (can-return m i time p k)) (i .points); unchanged = λ r e. unchanged m (rollsBack offset time) r e }
 promised m i (commits addresses size sectors time) =
     record {
-      disc = λ p e a.
-          ap (λ (n : Moment). reads n a) (after-accepted m (commits addresses size sectors time) p e)
-          ∙ demand-2-committing (m .buffer) (i .bytes) (m .used) addresses size sectors time p e a;
+      disc = λ p e.
+          rw (after-accepted m (commits addresses size sectors time) p e)
+          (demand-2-committing (m .buffer) (i .bytes) (m .used) addresses size sectors time p e .disc);
       unchanged = λ r e. unchanged m (commits addresses size sectors time) r e;
     }
 
@@ -175,9 +173,9 @@ inv-after m i (rollsBack offset time) b = go (rollback (m .buffer) (m .used) off
 kept : (m : Moment) (calls : List Call) → Inv m → Throughout Permitted m calls → Kept m calls
 unfolding atEnd
 kept m _ i end = record { promises = end; distinct = i .distinct }
-kept m _ i (call {c = c} {cs = cs} h hs) =
+kept m _ i (made {c = c} {cs = cs} h hs) =
     let r = kept (after m c) cs (inv-after m i c h) hs in
-    record { promises = call (promised m i c) (r .promises); distinct = r .distinct }
+    record { promises = made (promised m i c) (r .promises); distinct = r .distinct }
 
 inv-started : (buffer : List ℕ) (p : Placed) → Created p buffer → Inv (started buffer p)
 unfolding started

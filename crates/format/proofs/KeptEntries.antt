@@ -1,15 +1,15 @@
 -- The old entries as a new index has them: the data blocks stay, the table's entry is replaced in its place, no 'CKSM' entry is left.
-use mathlib.Core.Bool.{Bool, true, false}
-use mathlib.Core.List.{List, [], _∷_, _++_, map}
+use mathlib.Core.Bool.{true, false}
+use mathlib.Core.List.{List, [], _∷_, map}
 use mathlib.Core.Logic.{_≢_, _⊎_, inl, inr}
-use mathlib.Core.Path.{_≡_, refl, sym, ap, _∙_, subst}
+use mathlib.Core.Path.{_≡_, refl, sym, ap, _∙_}
 use Prim.Native.Nat.{ℕ}
 use native.Mathlib.Omega.{arith}
 use Rattle.fields.specs.Bytes.{fromLe}
 use Rattle.format.specs.declared.Entry.{Entry}
 use Rattle.format.specs.Lists.{All, done, more}
-use Rattle.format.specs.Layouts.{DBLK, DDT*, CKSM, tag, isType, isUserData}
-use Rattle.format.specs.Opening.{offsetsOf}
+use Rattle.format.specs.Layouts.{DBLK, DDT*, CKSM, tag}
+use Rattle.format.specs.Opening.{isType, isUserData, offsetsOf}
 use Rattle.format.specs.Committing.{keptEntry, keptEntries}
 use Rattle.format.proofs.Tests.{on-or-off, choose-true, choose-false}
 use Rattle.format.proofs.Named.{type-on, type-off, user-data-on, user-data-true, user-data-false, offsets-yes, offsets-no}
@@ -103,7 +103,7 @@ kept-table table (e ∷ es) = go (kept-table table es) (on-or-off (isType CKSM e
         ap (offsetsOf DDT*) (kept-drop table e es c) ∙ ih ∙ ap (map (λ (o : ℕ). table)) (sym (offsets-no DDT* e es n))
     go ih (inr c) (inl d) =
         let u = user-data-on DDT* e d in
-        let nk : isUserData DDT* (moved table e) ≡ true = user-data-true DDT* (moved table e) (record { type = u .type; user = u .user }) in
+        let nk : isUserData DDT* (moved table e) ≡ true = user-data-true DDT* (moved table e) (record { type = u .type; userData = u .userData }) in
         ap (offsetsOf DDT*) (kept-keep table e es c ∙ ap (λ (q : Entry). q ∷ keptEntries table es) (kept-table-entry table e d))
         ∙ offsets-yes DDT* (moved table e) (keptEntries table es) nk ∙ ap (λ (l : List ℕ). table ∷ l) ih
         ∙ ap (map (λ (o : ℕ). table)) (sym (offsets-yes DDT* e es d))

@@ -6,6 +6,7 @@ pub mod Named
 pub mod Agree
 pub mod Written
 pub mod KeptEntries
+pub mod Addresses
 pub mod Storing
 pub mod Bytes
 pub mod Appended

@@ -1,16 +1,11 @@
 -- Laws of the lists that the definitions speak of.
-use mathlib.Core.Bool.{Bool, true, false}
 use mathlib.Core.List.{List, [], _∷_, _++_, map}
-use mathlib.Core.Logic.{_⊎_, inl, inr}
-use mathlib.Core.Option.{Option, none, some}
-use mathlib.Core.Path.{_≡_, refl, sym, ap, _∙_}
-use Prim.Native.Nat.{ℕ, zero, suc, _+_, _*_, _≤_, _<_}
+use mathlib.Core.Path.{_≡_, refl, sym, _∙_}
+use Prim.Native.Nat.{ℕ, zero, suc, _*_, _<_}
 use native.Mathlib.Nat.{zero-mul, suc-mul, not-suc-le-zero, le-of-suc-le-suc}
 use native.Mathlib.Omega.{arith}
-use lib.ListN.{length, take, drop, getD, replicate, length-append, length-take, length-drop}
-use Rattle.format.specs.Tests.{same, choose}
-use Rattle.format.specs.Lists.{All, done, more, flat, pieces, firstWith, given}
-use Rattle.format.proofs.Tests.{on-or-off, choose-true, choose-false}
+use lib.ListN.{length, take, drop, getD, replicate, length-append}
+use Rattle.format.specs.Lists.{All, done, more, flat}
 
 -- ---- every member
 pub all-append : {A : Type 0} {P : A → Type 0} {a b : List A} → All P a → All P b → All P (a ++ b)
@@ -67,30 +62,3 @@ pub all-flat : {P : ℕ → Type 0} {ls : List (List ℕ)} → All (All P) ls �
 unfolding flat
 all-flat done = done
 all-flat (more h hs) = all-append h (all-flat hs)
-
-pub pieces-sized : (k size : ℕ) (l : List ℕ) → length l ≡ k * size → All (Sized size) (pieces k size l)
-unfolding pieces
-pieces-sized zero size l h = done
-pieces-sized (suc k) size l h =
-    let e : length (take size l) ≡ size = simp length-take (omega arith) in
-    more e (pieces-sized k size (drop size l) (simp length-drop (omega arith)))
-
-pub pieces-all : {P : ℕ → Type 0} (k size : ℕ) (l : List ℕ) → All P l → All (All P) (pieces k size l)
-unfolding pieces
-pieces-all zero size l h = done
-pieces-all (suc k) size l h = more (all-take l h size) (pieces-all k size (drop size l) (all-drop l h size))
-
--- ---- a search: what it finds passes its test
-pub firstWith-found : (f : ℕ → Bool) (k i a : ℕ) → firstWith f k i ≡ some a → (f a ≡ true) × (i ≤ a) × (a < i + k)
-unfolding firstWith
-firstWith-found f zero i a e = let z : _≡_ {A = ℕ} 0 1 = cc in absurd (omega arith)
-firstWith-found f (suc k) i a e = go (firstWith-found f k (suc i) a) (on-or-off (f i))
-  where
-    go : (firstWith f k (suc i) ≡ some a → (f a ≡ true) × (suc i ≤ a) × (a < suc i + k)) → (f i ≡ true) ⊎ (f i ≡ false) → (f a ≡ true) × (i ≤ a) × (a < i + suc k)
-    go ih (inl t) =
-        let q : some i ≡ some a = sym (choose-true (f i) (some i) (firstWith f k (suc i)) t) ∙ e in
-        let ia : i ≡ a = cc in
-        (rw ia at t, omega arith, omega arith)
-    go ih (inr t) =
-        let r = ih (sym (choose-false (f i) (some i) (firstWith f k (suc i)) t) ∙ e) in
-        (r .0, omega (arith, r .1), omega (arith, r .2))

@@ -1,15 +1,15 @@
 -- What an index names: the offsets of its entries for one kind of block, of user data.
-use mathlib.Core.Bool.{Bool, true, false}
+use mathlib.Core.Bool.{true, false}
 use mathlib.Core.List.{List, [], _∷_, _++_}
 use mathlib.Core.Logic.{_≢_, _⊎_, inl, inr, _↔_}
 use mathlib.Core.Path.{_≡_, refl, sym, ap, _∙_, subst}
 use Prim.Native.Nat.{ℕ}
 use native.Mathlib.Omega.{arith}
 use Rattle.format.specs.declared.Entry.{Entry}
-use Rattle.format.specs.Tests.{same, _or_}
+use Rattle.format.specs.Tests.{same}
 use Rattle.format.specs.Lists.{All, done, more, Any, here, there, Only, found, later}
-use Rattle.format.specs.Layouts.{tag, isType, isUserData}
-use Rattle.format.specs.Opening.{offsetsOf}
+use Rattle.format.specs.Layouts.{tag}
+use Rattle.format.specs.Opening.{isType, isUserData, offsetsOf}
 use Rattle.format.specs.Reading.{has}
 use Rattle.format.specs.Facts.{UserData}
 use Rattle.format.proofs.Tests.{on-or-off, never, same-on, same-off, same-true, same-false, or-on, or-true-left, or-true-right, and-on, and-true, and-false-left, choose-true, choose-false}
@@ -34,11 +34,11 @@ module _ (letters : List ℕ) (e : Entry) where
 
   pub user-data-on : isUserData letters e ≡ true → UserData letters e
   unfolding isUserData
-  user-data-on h = let r = and-on _ _ h in record { type = type-on (r .0); user = same-on _ _ (r .1) }
+  user-data-on h = let r = and-on _ _ h in record { type = type-on (r .0); userData = same-on _ _ (r .1) }
 
   pub user-data-true : UserData letters e → isUserData letters e ≡ true
   unfolding isUserData
-  user-data-true k = and-true _ _ (type-true (k .type)) (same-true _ _ (k .user))
+  user-data-true k = and-true _ _ (type-true (k .type)) (same-true _ _ (k .userData))
 
   pub user-data-false : e .blockType ≢ tag letters → isUserData letters e ≡ false
   unfolding isUserData

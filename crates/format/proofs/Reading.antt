@@ -1,13 +1,9 @@
 -- Demand 2 for reading: a read answers bytes exactly if the address names an intact item, and those bytes are the item's.
-use mathlib.Core.Bool.{true, false}
 use mathlib.Core.List.{List, [], _∷_}
-use mathlib.Core.Logic.{_≢_, _↔_}
 use mathlib.Core.Path.{_≡_, refl, sym, ap, _∙_}
-use Prim.Native.Nat.{ℕ, _+_, _*_}
-use Rattle.fields.specs.Bytes.{part, field}
-use Rattle.format.specs.declared.Pointer.{Pointer}
+use Prim.Native.Nat.{ℕ}
 use Rattle.format.specs.Refusals.{accepted}
-use Rattle.format.specs.Layouts.{DBLK, DDT*, indexOffset, entries, decode, tableCount, tableShift, sectorSize}
+use Rattle.format.specs.Layouts.{DBLK, DDT*, indexOffset, entries, decode, tableShift}
 use Rattle.format.specs.Opening.{offsetsOf, first, tableAt, Opened, openedAt, opened}
 use Rattle.format.specs.Reading.{tableEntry, notWritten, pointerAt, placeOf, itemBytes, readVerdict, readAt, read}
 use Rattle.format.specs.Committing.{itemOf}
@@ -33,7 +29,7 @@ module _ (img : List ℕ) (a : ℕ) (sector : List ℕ) where
         header = k .header;
         index = k .index;
         entriesOk = k .entriesOk;
-        tableEntry = n .entry;
+        tableNamedBy = n .entry;
         only = n .only;
         table = tableAt img o;
         tablePlace = n .place;
@@ -56,7 +52,7 @@ module _ (img : List ℕ) (a : ℕ) (sector : List ℕ) where
     t = openedAt img (n .table)
 
     table-only : offsetsOf DDT* (entries img o) ≡ n .table ∷ []
-    table-only = only-named DDT* (entries img o) (n .table) .1 (record { entry = n .tableEntry; only = n .only; place = n .tablePlace })
+    table-only = only-named DDT* (entries img o) (n .table) .1 (record { entry = n .tableNamedBy; only = n .only; place = n .tablePlace })
 
     table-at : tableAt img o ≡ n .table
     unfolding tableAt first

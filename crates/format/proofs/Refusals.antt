@@ -1,14 +1,14 @@
 -- Chains of checks: what it takes to pass, and what the first refusal is.
 use mathlib.Core.Bool.{Bool, true, false}
 use mathlib.Core.Logic.{_≢_}
-use mathlib.Core.Path.{_≡_, refl, sym, ap, _∙_}
+use mathlib.Core.Path.{_≡_, refl, ap, _∙_}
 use Prim.Native.Nat.{ℕ, zero, suc, _+_, _<_}
 use native.Mathlib.Nat.{add-zero, not-suc-le-zero, le-of-suc-le-suc}
 use native.Mathlib.Omega.{arith}
 use Rattle.format.specs.declared.Refusal.{Refusal}
 use Rattle.format.specs.declared.Verdict.{Verdict}
 use Rattle.format.specs.declared.Verdict.the-variants.{Passes, Refuses}
-use Rattle.format.specs.Refusals.{row, _then_, firstRefusal, Answer, refused, accepted, answer}
+use Rattle.format.specs.Refusals.{row, _then_, firstRefusal, refused, accepted, answer}
 
 -- ---- passing
 pub row-passes : (b : Bool) (r : Refusal) → b ≡ false → row b r ≡ Passes

@@ -1,25 +1,26 @@
 -- Where the sectors of a commit end up: each handed-in sector gets a pointer to an equal one, on the old disc or among the stored ones.
-use mathlib.Core.Bool.{Bool, true, false, not}
+use mathlib.Core.Bool.{Bool, true, false}
 use mathlib.Core.List.{List, [], _∷_, _++_, append-assoc, append-nil}
 use mathlib.Core.Logic.{_⊎_, inl, inr}
 use mathlib.Core.Option.{Option, none, some}
 use mathlib.Core.Path.{_≡_, refl, sym, ap, _∙_, subst}
-use Prim.Native.Nat.{ℕ, zero, suc, _+_, _^_, _≤_, _<_}
-use native.Mathlib.Nat.{add-zero, lt-of-not-le, le-trans, not-suc-le-zero, le-of-suc-le-suc, le-max-left, le-max-right, zero-add}
+use Prim.Native.Nat.{ℕ, zero, suc, _+_, _*_, _^_, _≤_, _<_}
+use native.Mathlib.Nat.{add-zero, zero-mul, suc-mul, lt-of-not-le, le-trans, not-suc-le-zero, le-of-suc-le-suc, le-max-left, le-max-right}
 use native.Mathlib.Omega.{arith}
-use lib.ListN.{length, getD, length-append, List·getD-append}
+use lib.ListN.{length, take, drop, getD, length-append, length-take, length-drop, List·getD-append}
 use lib.Pow.{pow-mono}
-use lib.Seq.{getD-append-seam}
-use Rattle.fields.specs.Bytes.{equal}
+use lib.Seq.{drop-drop, getD-append-seam}
+use Rattle.fields.specs.Bytes.{part, equal}
 use Rattle.fields.proofs.Equal.{equal-true}
 use Rattle.format.specs.declared.Pointer.{Pointer}
 use Rattle.format.specs.Tests.{same, below}
-use Rattle.format.specs.Lists.{All, done, more, firstWith, given}
+use Rattle.format.specs.Lists.{All, done, more}
+use Rattle.format.specs.Refusals.{Answer, accepted}
 use Rattle.format.specs.Opening.{Opened}
 use Rattle.format.specs.Reading.{notWritten, pointerAt, itemBytes}
-use Rattle.format.specs.Committing.{holdsSector, onDisc, amongStored, Step, itemOf, stepFor, storeOne, Stored, storeAll, oldPointer, orElse, newPointer, newPointers, itemNumber, largestItem, shiftFrom}
+use Rattle.format.specs.Committing.{pieces, given, firstWith, holdsSector, onDisc, amongStored, Step, itemOf, stepFor, storeOne, Stored, storeAll, oldPointer, orElse, newPointer, newPointers, itemOrZero, largestItem, shiftFrom}
 use Rattle.format.proofs.Tests.{on-or-off, not-on, below-on, below-off, and-on, choose-true, choose-false}
-use Rattle.format.proofs.Lists.{all-append, all-head, all-tail, firstWith-found}
+use Rattle.format.proofs.Lists.{Sized, all-append, all-take, all-drop, all-head, all-tail}
 
 -- ---- the smallest shift
 pub shift-fits : (k s n : ℕ) → n < 2 ^ (s + k) → n < 2 ^ shiftFrom k s n
@@ -44,6 +45,21 @@ shift-least (suc k) s n m h q = go (shift-least k (suc s) n m) (on-or-off (below
     go ih (inr e) = rw (choose-false _ s (shiftFrom k (suc s) n) e) (ih (past (below-off _ _ e)) q)
 
 -- ---- the searches
+-- what a search finds passes its test
+pub firstWith-found : (f : ℕ → Bool) (k i a : ℕ) → firstWith f k i ≡ some a → (f a ≡ true) × (i ≤ a) × (a < i + k)
+unfolding firstWith
+firstWith-found f zero i a e = let z : _≡_ {A = ℕ} 0 1 = cc in absurd (omega arith)
+firstWith-found f (suc k) i a e = go (firstWith-found f k (suc i) a) (on-or-off (f i))
+  where
+    go : (firstWith f k (suc i) ≡ some a → (f a ≡ true) × (suc i ≤ a) × (a < suc i + k)) → (f i ≡ true) ⊎ (f i ≡ false) → (f a ≡ true) × (i ≤ a) × (a < i + suc k)
+    go ih (inl t) =
+        let q : some i ≡ some a = sym (choose-true (f i) (some i) (firstWith f k (suc i)) t) ∙ e in
+        let ia : i ≡ a = cc in
+        (rw ia at t, omega arith, omega arith)
+    go ih (inr t) =
+        let r = ih (sym (choose-false (f i) (some i) (firstWith f k (suc i)) t) ∙ e) in
+        (r .0, omega (arith, r .1), omega (arith, r .2))
+
 pub record OnDisc (img : List ℕ) (t : Opened) (sector : List ℕ) (a : ℕ) : Type 0 where
   pub inside : a < t .count
   pub written : notWritten img t a ≡ false
@@ -61,6 +77,33 @@ unfolding amongStored
 amongStored-found stored sector j e =
     let r = firstWith-found (λ j. equal (getD stored j []) sector) (length stored) 0 j e in
     (omega (arith, r .2), equal-true _ _ (r .0))
+
+-- ---- the handed-in sectors
+pub pieces-sized : (k size : ℕ) (l : List ℕ) → length l ≡ k * size → All (Sized size) (pieces k size l)
+unfolding pieces
+pieces-sized zero size l h = done
+pieces-sized (suc k) size l h =
+    let e : length (take size l) ≡ size = simp length-take (omega arith) in
+    more e (pieces-sized k size (drop size l) (simp length-drop (omega arith)))
+
+pub pieces-all : {P : ℕ → Type 0} (k size : ℕ) (l : List ℕ) → All P l → All (All P) (pieces k size l)
+unfolding pieces
+pieces-all zero size l h = done
+pieces-all (suc k) size l h = more (all-take l h size) (pieces-all k size (drop size l) (all-drop l h size))
+
+-- piece i
+pub getD-pieces : (k size : ℕ) (l : List ℕ) (i : ℕ) → i < k → getD (pieces k size l) i [] ≡ part l (i * size) size
+unfolding pieces part
+getD-pieces zero size l i h = absurd (not-suc-le-zero h)
+getD-pieces (suc k) size l zero h = rw zero-mul
+getD-pieces (suc k) size l (suc i) h =
+    let e : size + i * size ≡ suc i * size = omega (arith, suc-mul i size) in
+    getD-pieces k size (drop size l) i (le-of-suc-le-suc h) ∙ ap (take size) (drop-drop (i * size) size l ∙ ap (λ n. drop n l) e)
+
+pub length-pieces : (k size : ℕ) (l : List ℕ) → length (pieces k size l) ≡ k
+unfolding pieces
+length-pieces zero size l = refl
+length-pieces (suc k) size l = ap suc (length-pieces k size (drop size l))
 
 -- ---- where a handed-in sector's bytes are, once `items` are stored in a block at `block`
 pub data Source (img : List ℕ) (t : Opened) (block : ℕ) (items : List (List ℕ)) (sector : List ℕ) : Pointer → Type 0 where
@@ -126,6 +169,11 @@ module _ (img : List ℕ) (t : Opened) (block : ℕ) (P : List ℕ → Type 0) w
             sources = next {a = d} {b = s .pointer} (rw (r .grown) (source-grow (r .extra) (k .source))) (r .sources);
           }
 
+-- ---- what an address reads as after a commit, by what was handed in for it and by what it read as before
+unfoldable pub handedOr : Option (List ℕ) → Answer (List ℕ) → Answer (List ℕ)
+handedOr (some sector) before = accepted sector
+handedOr none before = before
+
 -- ---- the new pointers: of address a, beside what was handed in for it
 pub data NewPointer (img : List ℕ) (t : Opened) (block : ℕ) (items : List (List ℕ)) (a : ℕ) : Option Pointer → Option (List ℕ) → Type 0 where
   fresh : {p : Pointer} {sector : List ℕ} → Source img t block items sector p → NewPointer img t block items a (some p) (some sector)
@@ -159,16 +207,16 @@ module _ (img : List ℕ) (t : Opened) (addresses : List ℕ) (ps : List Pointer
       getD-newPointers k (suc a) j (le-of-suc-le-suc h) ∙ ap (newPointer img t addresses ps) e
 
 -- ---- the largest item number
-pub item-largest : (l : List (Option Pointer)) (j : ℕ) → j < length l → itemNumber (getD l j none) ≤ largestItem l
+pub item-largest : (l : List (Option Pointer)) (j : ℕ) → j < length l → itemOrZero (getD l j none) ≤ largestItem l
 unfolding largestItem
 item-largest [] j h = absurd (not-suc-le-zero h)
-item-largest (p ∷ l) zero h = le-max-left (itemNumber p) (largestItem l)
-item-largest (p ∷ l) (suc j) h = le-trans (item-largest l j (le-of-suc-le-suc h)) (le-max-right (itemNumber p) (largestItem l))
+item-largest (p ∷ l) zero h = le-max-left (itemOrZero p) (largestItem l)
+item-largest (p ∷ l) (suc j) h = le-trans (item-largest l j (le-of-suc-le-suc h)) (le-max-right (itemOrZero p) (largestItem l))
 
-pub largest-bound : (b : ℕ) (l : List (Option Pointer)) → 0 < b → ((j : ℕ) → j < length l → itemNumber (getD l j none) < b) → largestItem l < b
+pub largest-bound : (b : ℕ) (l : List (Option Pointer)) → 0 < b → ((j : ℕ) → j < length l → itemOrZero (getD l j none) < b) → largestItem l < b
 unfolding largestItem
 largest-bound b [] h f = h
 largest-bound b (p ∷ l) h f =
-    let x : itemNumber p < b = f 0 (omega arith) in
+    let x : itemOrZero p < b = f 0 (omega arith) in
     let y : largestItem l < b = largest-bound b l h (λ j k. f (suc j) (omega arith)) in
     omega arith

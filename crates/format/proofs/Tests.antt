@@ -5,9 +5,9 @@ use mathlib.Core.Logic.{_≢_, _⊎_, inl, inr}
 use mathlib.Core.Path.{_≡_, refl, sym, ap, _∙_, subst}
 use Prim.Native.Nat.{ℕ, _≤_, _<_}
 use lib.Dec.{T, eqb}
-use borrow.Author.Tests.{ltb-true, ltb-false, leb-true, leb-false, eqb-true, eqb-false, not-true, not-false, lt-ltb, le-ltb, le-leb, lt-leb, eq-eqb, ne-eqb}
+use borrow.Author.Tests.{ltb-true, ltb-false, leb-false, eqb-true, eqb-false, not-false, le-ltb, le-leb, lt-leb, eq-eqb, ne-eqb}
 use Rattle.format.specs.Tests.{same, differs, below, atLeast, _or_, _and_, choose}
-use Rattle.format.specs.Layouts.{lacks}
+use Rattle.format.specs.Opening.{lacks}
 use Rattle.format.specs.Facts.{Identified}
 
 pub on-or-off : (b : Bool) → (b ≡ true) ⊎ (b ≡ false)
@@ -35,10 +35,6 @@ module _ (a b : ℕ) where
   pub below-off : below a b ≡ false → b ≤ a
   unfolding below
   below-off h = ltb-false a b h
-
-  pub below-true : a < b → below a b ≡ true
-  unfolding below
-  below-true h = lt-ltb a b h
 
   pub below-false : b ≤ a → below a b ≡ false
   unfolding below

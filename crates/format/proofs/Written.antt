@@ -1,21 +1,21 @@
 -- A written block, table and index, read back: the facts of their checks hold.
-use mathlib.Core.List.{List, [], _∷_, _++_, map}
+use mathlib.Core.List.{List, [], _∷_, _++_, map, append-nil}
 use mathlib.Core.Logic.{_≢_}
-use mathlib.Core.Path.{_≡_, refl, sym, ap, _∙_}
+use mathlib.Core.Path.{_≡_, refl, sym, ap, _∙_, subst}
 use Prim.Native.Nat.{ℕ, zero, suc, _+_, _*_, _^_, _≤_, _<_}
 use native.Mathlib.Nat.{add-zero, mul-div-cancel, mul-mod-left, not-suc-le-zero, le-of-suc-le-suc}
 use native.Mathlib.Omega.{arith}
-use lib.Dec.{lit<, lit≤}
-use lib.ListN.{length, getD, length-map}
-use lib.Seq.{take-length}
+use lib.Dec.{lit<}
+use lib.ListN.{length, getD, length-append, length-map}
 use Rattle.crc64.specs.Crc.{crcOf}
 use Rattle.crc64.proofs.Bound.{crcOf-lt}
-use Rattle.fields.specs.Bytes.{part, toLe, field}
-use Rattle.fields.specs.Layout.{layout}
-use Rattle.fields.proofs.Holds.{Holds, holds-part, holds-all, holds-left, holds-right, holds-field, holds-first}
+use Rattle.fields.specs.Bytes.{part, field}
+use Rattle.fields.proofs.Holds.{Holds, holds-all, holds-left, holds-right}
+use Rattle.fields.proofs.Records.{length-layout, holds-num, holds-raw}
 use Rattle.format.specs.declared.Entry.{Entry}
 use Rattle.format.specs.Lists.{All, done, more, flat}
 use Rattle.format.specs.Layouts.{IDX2, DBLK, DDT*, tag, headerLength, entryCount, entryAt, entriesFrom, entries, entryBytes, indexHeader, indexBytes, sectorSize, blockLength, blockPayload, blockHeader, blockBytes, tableShift, tableCount, tableLength, tablePayload, tableHeader, tableBytes}
+use Rattle.format.specs.Writing.{largestSize}
 use Rattle.format.specs.Facts.{Identified, IndexOk, TableOk, ItemOk}
 use Rattle.format.proofs.Lists.{Sized, length-flat}
 
@@ -33,87 +33,84 @@ holds-piece y n _ (more {a = l} {l = ls} e es) p h (suc j) k =
 
 -- ---- table
 pub length-tableBytes : (s c : ℕ) (payload : List ℕ) → length (tableBytes s c payload) ≡ 49 + length payload
-unfolding tableBytes tableHeader layout toLe
-length-tableBytes s c payload = omega arith
+unfolding tableBytes tableHeader
+length-tableBytes s c payload = simp (length-append, length-layout) (omega arith)
 
 module _ (y : List ℕ) (t s c : ℕ) (payload : List ℕ) (h : Holds y t (tableBytes s c payload)) (small : s ≤ 32) (whole : length payload ≡ 8 * c)
     (long : length payload < 256 ^ 8) where
   table-len : length (tableBytes s c payload) ≡ 49 + length payload
   table-len = length-tableBytes s c payload
 
-  -- a field of the header, which refl computes
-  table-field : (i k v : ℕ) → i + k ≤ 49 → part (tableBytes s c payload) i k ≡ toLe k v → v < 256 ^ k → field y (t + i) k ≡ v
-  table-field i k v l e b = holds-field y t (tableBytes s c payload) h i k v (omega (arith, table-len)) e b
-
   pub table-identified : Identified y t DDT*
-  unfolding Identified tableBytes tableHeader layout toLe part tag
-  table-identified = holds-first y t (tableBytes s c payload) h 4 DDT* (omega (arith, table-len)) refl
+  unfolding Identified tableBytes tableHeader tag
+  table-identified = holds-raw y t DDT* _ _ h
 
   pub table-shift : tableShift y t ≡ s
-  unfolding tableBytes tableHeader layout toLe part
-  table-shift = table-field 8 1 s (lit≤ tt) refl (omega arith)
+  unfolding tableBytes tableHeader
+  table-shift = holds-num y t _ _ h 3 1 s (lit< tt) refl (omega arith)
 
   pub table-count : tableCount y t ≡ c
-  unfolding tableBytes tableHeader layout toLe part
-  table-count = table-field 9 8 c (lit≤ tt) refl (omega arith)
+  unfolding tableBytes tableHeader
+  table-count = holds-num y t _ _ h 4 8 c (lit< tt) refl (omega arith)
 
   table-length : tableLength y t ≡ length payload
-  unfolding tableBytes tableHeader layout toLe part
-  table-length = table-field 25 8 (length payload) (lit≤ tt) refl long
+  unfolding tableBytes tableHeader
+  table-length = holds-num y t _ _ h 6 8 (length payload) (lit< tt) refl long
 
   pub table-entries : Holds y (t + 49) payload
-  unfolding tableBytes tableHeader layout toLe
-  table-entries = holds-right y t (tableHeader s c payload) payload h
+  unfolding tableBytes tableHeader
+  table-entries =
+      let e : t + length (tableHeader s c payload) ≡ t + 49 = simp length-layout in
+      subst (λ n. Holds y n payload) e (holds-right y t (tableHeader s c payload) payload h)
 
   pub table-written : TableOk y t
-  unfolding tableBytes tableHeader layout toLe part
+  unfolding tableBytes tableHeader
   table-written =
       let f : t + length (tableBytes s c payload) ≤ length y = h .fits in
       let en : tableLength y t ≡ length payload = table-length in
       let ep : crcOf (tablePayload y t) ≡ crcOf payload = ap crcOf (ap (part y (t + 49)) en ∙ holds-all y (t + 49) payload table-entries) in
       record {
         head = omega (arith, table-len);
-        compression = table-field 6 2 0 (lit≤ tt) refl (lit< tt);
-        type = table-field 4 2 1 (lit≤ tt) refl (lit< tt);
+        compression = holds-num y t _ _ h 2 2 0 (lit< tt) refl (lit< tt);
+        type = holds-num y t _ _ h 1 2 1 (lit< tt) refl (lit< tt);
         shift = rw table-shift small;
         whole = en ∙ whole ∙ ap (λ n. 8 * n) (sym table-count);
-        unpacked = table-field 17 8 (length payload) (lit≤ tt) refl long ∙ sym en;
+        unpacked = holds-num y t _ _ h 5 8 (length payload) (lit< tt) refl long ∙ sym en;
         fits = rw en (omega (arith, table-len));
-        sum1 = ep ∙ sym (table-field 33 8 (crcOf payload) (lit≤ tt) refl (crcOf-lt payload));
-        sum2 = ep ∙ sym (table-field 41 8 (crcOf payload) (lit≤ tt) refl (crcOf-lt payload));
+        cmpSum = ep ∙ sym (holds-num y t _ _ h 7 8 (crcOf payload) (lit< tt) refl (crcOf-lt payload));
+        sum = ep ∙ sym (holds-num y t _ _ h 8 8 (crcOf payload) (lit< tt) refl (crcOf-lt payload));
       }
 
 -- ---- block
 pub length-blockBytes : (size : ℕ) (payload : List ℕ) → length (blockBytes size payload) ≡ 36 + length payload
-unfolding blockBytes blockHeader layout toLe
-length-blockBytes size payload = omega arith
+unfolding blockBytes blockHeader
+length-blockBytes size payload = simp (length-append, length-layout) (omega arith)
 
-module _ (y : List ℕ) (b size k : ℕ) (payload : List ℕ) (h : Holds y b (blockBytes size payload)) (pos : size ≢ 0) (small : size ≤ 65536)
+module _ (y : List ℕ) (b size k : ℕ) (payload : List ℕ) (h : Holds y b (blockBytes size payload)) (pos : size ≢ 0) (small : size ≤ largestSize)
     (whole : length payload ≡ k * size) (long : length payload < 256 ^ 4) where
   block-len : length (blockBytes size payload) ≡ 36 + length payload
   block-len = length-blockBytes size payload
 
-  block-field : (i n v : ℕ) → i + n ≤ 36 → part (blockBytes size payload) i n ≡ toLe n v → v < 256 ^ n → field y (b + i) n ≡ v
-  block-field i n v l e c = holds-field y b (blockBytes size payload) h i n v (omega (arith, block-len)) e c
-
   pub block-identified : Identified y b DBLK
-  unfolding Identified blockBytes blockHeader layout toLe part tag
-  block-identified = holds-first y b (blockBytes size payload) h 4 DBLK (omega (arith, block-len)) refl
+  unfolding Identified blockBytes blockHeader tag
+  block-identified = holds-raw y b DBLK _ _ h
 
   pub block-size : sectorSize y b ≡ size
-  unfolding blockBytes blockHeader layout toLe part
-  block-size = block-field 8 4 size (lit≤ tt) refl (omega arith)
+  unfolding blockBytes blockHeader
+  block-size = holds-num y b _ _ h 3 4 size (lit< tt) refl (omega arith)
 
   block-length : blockLength y b ≡ length payload
-  unfolding blockBytes blockHeader layout toLe part
-  block-length = block-field 16 4 (length payload) (lit≤ tt) refl long
+  unfolding blockBytes blockHeader
+  block-length = holds-num y b _ _ h 5 4 (length payload) (lit< tt) refl long
 
   pub block-items : Holds y (b + 36) payload
-  unfolding blockBytes blockHeader layout toLe
-  block-items = holds-right y b (blockHeader size payload) payload h
+  unfolding blockBytes blockHeader
+  block-items =
+      let e : b + length (blockHeader size payload) ≡ b + 36 = simp length-layout in
+      subst (λ n. Holds y n payload) e (holds-right y b (blockHeader size payload) payload h)
 
   pub item-written : (i : ℕ) → i < k → ItemOk y b i
-  unfolding blockBytes blockHeader layout toLe part
+  unfolding blockBytes blockHeader
   item-written i j =
       let f : b + length (blockBytes size payload) ≤ length y = h .fits in
       let en : blockLength y b ≡ length payload = block-length in
@@ -121,19 +118,18 @@ module _ (y : List ℕ) (b size k : ℕ) (payload : List ℕ) (h : Holds y b (bl
       let ep : crcOf (blockPayload y b) ≡ crcOf payload = ap crcOf (ap (part y (b + 36)) en ∙ holds-all y (b + 36) payload block-items) in
       let pos′ : 0 < size = omega arith in
       record {
-        block =
-            record {
-              head = omega (arith, block-len);
-              compression = block-field 6 2 0 (lit≤ tt) refl (lit< tt);
-              type = block-field 4 2 1 (lit≤ tt) refl (lit< tt);
-              size = λ z. pos (sym es ∙ z);
-              unpacked = block-field 12 4 (length payload) (lit≤ tt) refl long ∙ sym en;
-              whole = rw (en, es, whole) (mul-mod-left k size);
-              fits = rw en (omega (arith, block-len));
-            };
+        block = record {
+          head = omega (arith, block-len);
+          compression = holds-num y b _ _ h 2 2 0 (lit< tt) refl (lit< tt);
+          type = holds-num y b _ _ h 1 2 1 (lit< tt) refl (lit< tt);
+          size = λ z. pos (sym es ∙ z);
+          unpacked = holds-num y b _ _ h 4 4 (length payload) (lit< tt) refl long ∙ sym en;
+          whole = rw (en, es, whole) (mul-mod-left k size);
+          fits = rw en (omega (arith, block-len));
+        };
         item = rw (en, es, whole) (rw (mul-div-cancel k pos′) j);
-        sum1 = ep ∙ sym (block-field 20 8 (crcOf payload) (lit≤ tt) refl (crcOf-lt payload));
-        sum2 = ep ∙ sym (block-field 28 8 (crcOf payload) (lit≤ tt) refl (crcOf-lt payload));
+        cmpSum = ep ∙ sym (holds-num y b _ _ h 6 8 (crcOf payload) (lit< tt) refl (crcOf-lt payload));
+        sum = ep ∙ sym (holds-num y b _ _ h 7 8 (crcOf payload) (lit< tt) refl (crcOf-lt payload));
       }
 
 -- ---- index
@@ -142,32 +138,37 @@ pub record EntryFits (e : Entry) : Type 0 where
   pub dataType : e .dataType < 256 ^ 4
   pub offset : e .offset .0 < 256 ^ 8
 
+length-entryBytes : (e : Entry) → length (entryBytes e) ≡ 16
+unfolding entryBytes
+length-entryBytes e = simp length-layout
+
 entryBytes-sized : (es : List Entry) → All (Sized 16) (map entryBytes es)
-unfolding entryBytes layout toLe
 entryBytes-sized [] = done
-entryBytes-sized (e ∷ es) = more refl (entryBytes-sized es)
+entryBytes-sized (e ∷ es) = more (length-entryBytes e) (entryBytes-sized es)
 
 length-payload : (es : List Entry) → length (flat (map entryBytes es)) ≡ 16 * length es
 length-payload es = let e = length-flat 16 (map entryBytes es) (entryBytes-sized es) in let l = length-map es entryBytes in omega arith
 
 pub length-indexBytes : (es : List Entry) → length (indexBytes es) ≡ 20 + 16 * length es
-unfolding indexBytes indexHeader layout toLe
-length-indexBytes es = omega (arith, length-payload es)
+unfolding indexBytes indexHeader
+length-indexBytes es = simp (length-append, length-layout) (omega (arith, length-payload es))
 
 entry-written : (y : List ℕ) (p : ℕ) (e : Entry) → EntryFits e → Holds y p (entryBytes e) → entryAt y p ≡ e
-unfolding entryAt entryBytes layout toLe part
+unfolding entryAt entryBytes
 entry-written y p e k h =
-    let e0 : field y (p + 0) 4 ≡ e .blockType = holds-field y p (entryBytes e) h 0 4 (e .blockType) (lit≤ tt) refl (k .blockType) in
-    let e4 : field y (p + 4) 4 ≡ e .dataType = holds-field y p (entryBytes e) h 4 4 (e .dataType) (lit≤ tt) refl (k .dataType) in
-    let e8 : field y (p + 8) 8 ≡ e .offset .0 = holds-field y p (entryBytes e) h 8 8 (e .offset .0) (lit≤ tt) refl (k .offset) in
+    let h′ : Holds y p (entryBytes e ++ []) = rw append-nil h in
+    let e0 : field y (p + 0) 4 ≡ e .blockType = holds-num y p _ [] h′ 0 4 (e .blockType) (lit< tt) refl (k .blockType) in
+    let e4 : field y (p + 4) 4 ≡ e .dataType = holds-num y p _ [] h′ 1 4 (e .dataType) (lit< tt) refl (k .dataType) in
+    let e8 : field y (p + 8) 8 ≡ e .offset .0 = holds-num y p _ [] h′ 2 8 (e .offset .0) (lit< tt) refl (k .offset) in
     λ i. record { blockType = (ap (λ m. field y m 4) (sym (add-zero p)) ∙ e0) i; dataType = e4 i; offset = record { 0 = e8 i } }
 
 entries-written : (y : List ℕ) (p : ℕ) (es : List Entry) → All EntryFits es → Holds y p (flat (map entryBytes es)) → entriesFrom y (length es) p ≡ es
-unfolding entriesFrom flat entryBytes layout toLe
+unfolding entriesFrom flat
 entries-written y p _ done h = refl
 entries-written y p _ (more {a = e} {l = es} k ks) h =
-    let h1 : Holds y p (entryBytes e) = holds-left y p (entryBytes e) (flat (map entryBytes es)) h in
-    let h2 : Holds y (p + 16) (flat (map entryBytes es)) = holds-right y p (entryBytes e) (flat (map entryBytes es)) h in
+    let rest : List ℕ = flat (map entryBytes es) in
+    let h1 : Holds y p (entryBytes e) = holds-left y p (entryBytes e) rest h in
+    let h2 : Holds y (p + 16) rest = subst (λ n. Holds y (p + n) rest) (length-entryBytes e) (holds-right y p (entryBytes e) rest h) in
     λ i. entry-written y p e k h1 i ∷ entries-written y (p + 16) es ks h2 i
 
 module _ (y : List ℕ) (o : ℕ) (es : List Entry) (h : Holds y o (indexBytes es)) (low : headerLength ≤ o) (fit : All EntryFits es) (few : length es < 256 ^ 8) where
@@ -178,19 +179,21 @@ module _ (y : List ℕ) (o : ℕ) (es : List Entry) (h : Holds y o (indexBytes e
   index-len = length-indexBytes es
 
   index-count : entryCount y o ≡ length es
-  unfolding indexBytes indexHeader layout toLe part entryCount
-  index-count = holds-field y o (indexBytes es) h 4 8 (length es) (omega (arith, index-len)) refl few
+  unfolding indexBytes indexHeader entryCount
+  index-count = holds-num y o _ _ h 1 8 (length es) (lit< tt) refl few
 
   index-payload : Holds y (o + 20) payload
-  unfolding indexBytes indexHeader layout toLe
-  index-payload = holds-right y o (indexHeader (length es) payload) payload h
+  unfolding indexBytes indexHeader
+  index-payload =
+      let e : o + length (indexHeader (length es) payload) ≡ o + 20 = simp length-layout in
+      subst (λ n. Holds y n payload) e (holds-right y o (indexHeader (length es) payload) payload h)
 
   pub index-entries : entries y o ≡ es
   unfolding entries
   index-entries = ap (λ n. entriesFrom y n (o + 20)) index-count ∙ entries-written y (o + 20) es fit index-payload
 
   pub index-written : IndexOk y o
-  unfolding Identified indexBytes indexHeader layout toLe part tag
+  unfolding Identified indexBytes indexHeader tag
   index-written =
       let f : o + length (indexBytes es) ≤ length y = h .fits in
       let en : entryCount y o ≡ length es = index-count in
@@ -198,8 +201,8 @@ module _ (y : List ℕ) (o : ℕ) (es : List Entry) (h : Holds y o (indexBytes e
       record {
         low = low;
         head = omega (arith, index-len);
-        identifier = holds-first y o (indexBytes es) h 4 IDX2 (omega (arith, index-len)) refl;
+        identifier = holds-raw y o IDX2 _ _ h;
         fits = rw en (omega (arith, index-len));
         sum = ap crcOf (ap (λ n. part y (o + 20) (16 * n)) en ∙ ap (part y (o + 20)) (sym lp) ∙ holds-all y (o + 20) payload index-payload)
-            ∙ sym (holds-field y o (indexBytes es) h 12 8 (crcOf payload) (omega (arith, index-len)) refl (crcOf-lt payload));
+            ∙ sym (holds-num y o _ _ h 2 8 (crcOf payload) (lit< tt) refl (crcOf-lt payload));
       }

@@ -1,45 +1,86 @@
--- "*Commit* takes buffer, `used`, an address list, a sector size, the sectors' bytes one after another, and a time."
+-- "*Commit* takes buffer, `used`, an address list, a sector size, the sectors' bytes one after another, and a time." The old disc is the
+-- image `img`, opened as `t`; a commit opens it at o, its header's index offset. "An empty list is allowed."
 use mathlib.Core.Bool.{Bool, true, false, not}
 use mathlib.Core.List.{List, [], _∷_, _++_, map}
 use mathlib.Core.Option.{Option, none, some}
 use Prim.Native.Nat.{ℕ, zero, suc, _+_, _*_, _^_, max}
-use lib.ListN.{length, take, getD}
+use lib.ListN.{length, take, drop, getD}
 use Rattle.fields.specs.Bytes.{overwrite, toLe, equal}
 use Rattle.format.specs.declared.Entry.{Entry}
 use Rattle.format.specs.declared.Pointer.{Pointer}
 use Rattle.format.specs.declared.Verdict.{Verdict}
 use Rattle.format.specs.declared.Verdict.the-variants.{Passes, Refuses}
 use Rattle.format.specs.Tests.{same, differs, below, atLeast, _or_, _and_, choose}
-use Rattle.format.specs.Lists.{flat, pieces, firstWith, given}
+use Rattle.format.specs.Lists.{flat}
 use Rattle.format.specs.Refusals.{refusal, row, _then_, firstRefusal}
-use Rattle.format.specs.Layouts.{DBLK, DDT*, CKSM, tag, indexOffset, entries, isType, isUserData, indexBytes, blockBytes, tableBytes, tableEntryLength, encode}
-use Rattle.format.specs.Opening.{Opened, opened, openVerdict}
+use Rattle.format.specs.Layouts.{DBLK, DDT*, CKSM, tag, indexOffset, entries, indexBytes, blockBytes, tableBytes, tableEntryLength, encode}
+use Rattle.format.specs.Opening.{isType, isUserData, Opened, opened, openVerdict}
 use Rattle.format.specs.Reading.{notWritten, pointerAt, itemBytes, sectorVerdict}
-use Rattle.format.specs.Writing.{longestBuffer, Outcome, outcome, placed, setHeader}
+use Rattle.format.specs.Writing.{largestSize, mostAddresses, bufferVerdict, Outcome, outcome, placed, setHeader}
 
--- ---- "Equal sectors are stored once": t is the old disc, as it stood
--- address a of the old disc holds these bytes, "length included"
+-- ---- "Order: 31, 32, 30, 33, 34, opening's numbers, 20, then sectors by rising address: the first that reads as a refusal other
+-- than 21 gives that number; last 35."
+unfoldable pub rising : List ℕ → Bool
+rising [] = true
+rising (a ∷ []) = true
+rising (a ∷ b ∷ addresses) = below a b and rising (b ∷ addresses)
+
+unfoldable pub argumentsVerdict : List ℕ → ℕ → List ℕ → ℕ → List ℕ → Verdict
+argumentsVerdict buffer used addresses size sectors =
+    bufferVerdict buffer used
+    then row (same size 0 or below largestSize size or below mostAddresses (length addresses)) (refusal 30)
+    then row (differs (length sectors) (length addresses * size)) (refusal 33)
+    then row (not (rising addresses)) (refusal 34)
+
+-- an address of the list is not below the count
+unfoldable pub anyOutside : ℕ → List ℕ → Bool
+anyOutside count [] = false
+anyOutside count (a ∷ addresses) = atLeast a count or anyOutside count addresses
+
+-- a verdict, but for the number 21
+unfoldable pub otherThan21 : Verdict → Verdict
+otherThan21 Passes = Passes
+otherThan21 (Refuses r) = choose (same (r .number) 21) Passes (Refuses r)
+
+-- the sectors of the whole disc, also those that the commit replaces
+unfoldable pub sectorsVerdict : List ℕ → List Entry → Opened → Verdict
+sectorsVerdict img es t = firstRefusal (λ a. otherThan21 (sectorVerdict img es t a)) (t .count) 0
+
+unfoldable pub discVerdict : List ℕ → ℕ → List ℕ → Verdict
+discVerdict img o addresses =
+    openVerdict img o
+    then row (anyOutside (opened img o .count) addresses) (refusal 20)
+    then sectorsVerdict img (entries img o) (opened img o)
+
+-- ---- "Equal sectors are stored once: for each handed-in sector, the old disc is searched by rising address, then the stored sectors of
+-- this commit in order; the search stops at the first sector that holds the same bytes, length included, and its pointer is used.
+-- Exactly if there is none, the sector is stored as the next item."
+-- the first of the k numbers from i on that a test says yes to
+unfoldable pub firstWith : (ℕ → Bool) → ℕ → ℕ → Option ℕ
+firstWith f zero i = none
+firstWith f (suc k) i = choose (f i) (some i) (firstWith f k (suc i))
+
+-- address a of the old disc holds these bytes
 unfoldable pub holdsSector : List ℕ → Opened → List ℕ → ℕ → Bool
 holdsSector img t sector a = not (notWritten img t a) and equal (itemBytes img (pointerAt img t a)) sector
 
--- "the old disc is searched by rising address": the first address that holds them
+-- the first address of the old disc that holds them
 unfoldable pub onDisc : List ℕ → Opened → List ℕ → Option ℕ
 onDisc img t sector = firstWith (holdsSector img t sector) (t .count) 0
 
--- "then the stored sectors of this commit in order": the first of those stored that is equal, by its number
+-- the first of the sectors stored so far that is equal, by its number
 unfoldable pub amongStored : List (List ℕ) → List ℕ → Option ℕ
 amongStored stored sector = firstWith (λ j. equal (getD stored j []) sector) (length stored) 0
+
+abbrev pub itemOf : ℕ → ℕ → Pointer
+itemOf block item = record { block = record { 0 = block }; item = record { 0 = item } }
 
 -- what becomes of one handed-in sector: the sectors stored after it, and its pointer
 pub record Step : Type 0 where
   pub stored : List (List ℕ)
   pub pointer : Pointer
 
-abbrev pub itemOf : ℕ → ℕ → Pointer
-itemOf block item = record { block = record { 0 = block }; item = record { 0 = item } }
-
--- "the search stops at the first sector that holds the same bytes .., and its pointer is used. Exactly if there is none, the
--- sector is stored as the next item" of the new block
+-- by what the two searches find; `block` is where the new data block will be
 unfoldable pub stepFor : List ℕ → Opened → ℕ → List (List ℕ) → List ℕ → Option ℕ → Option ℕ → Step
 stepFor img t block stored sector (some a) j = record { stored = stored; pointer = pointerAt img t a }
 stepFor img t block stored sector none (some j) = record { stored = stored; pointer = itemOf block j }
@@ -60,9 +101,24 @@ storeAll img t block stored (d ∷ ds) =
     let rest = storeAll img t block (one .stored) ds in
     record { items = rest .items; pointers = one .pointer ∷ rest .pointers }
 
+-- the handed-in sectors: the first k pieces of a list, each of one size
+unfoldable pub pieces : ℕ → ℕ → List ℕ → List (List ℕ)
+pieces zero size l = []
+pieces (suc k) size l = take size l ∷ pieces k size (drop size l)
+
+-- a commit's: the new data block will stand at the end of the image
+unfoldable pub storedFor : List ℕ → ℕ → List ℕ → ℕ → List ℕ → Stored
+storedFor img o addresses size sectors = storeAll img (opened img o) (length img) [] (pieces (length addresses) size sectors)
+
 -- ---- "a table of the same count": the new pointers by address, none where a sector is not written
 unfoldable pub oldPointer : List ℕ → Opened → ℕ → Option Pointer
 oldPointer img t a = choose (notWritten img t a) none (some (pointerAt img t a))
+
+-- what stands beside address a, where addresses and things come in two lists of one order
+unfoldable pub given : {A : Type 0} → List ℕ → List A → ℕ → Option A
+given [] ys a = none
+given (b ∷ bs) [] a = none
+given (b ∷ bs) (y ∷ ys) a = choose (same b a) (some y) (given bs ys a)
 
 unfoldable pub orElse : {A : Type 0} → Option A → Option A → Option A
 orElse (some x) y = some x
@@ -76,14 +132,18 @@ unfoldable pub newPointers : List ℕ → Opened → List ℕ → List Pointer �
 newPointers img t addresses ps zero a = []
 newPointers img t addresses ps (suc k) a = newPointer img t addresses ps a ∷ newPointers img t addresses ps k (suc a)
 
+-- those of the whole disc
+unfoldable pub pointersFor : List ℕ → ℕ → List ℕ → List Pointer → List (Option Pointer)
+pointersFor img o addresses ps = newPointers img (opened img o) addresses ps (opened img o .count) 0
+
 -- "The table's shift is the smallest shift that every item number fits under (each one in the new table is below 2^shift)"
-unfoldable pub itemNumber : Option Pointer → ℕ
-itemNumber none = 0
-itemNumber (some p) = p .item .0
+unfoldable pub itemOrZero : Option Pointer → ℕ
+itemOrZero none = 0
+itemOrZero (some p) = p .item .0
 
 unfoldable pub largestItem : List (Option Pointer) → ℕ
 largestItem [] = 0
-largestItem (p ∷ ps) = max (itemNumber p) (largestItem ps)
+largestItem (p ∷ ps) = max (itemOrZero p) (largestItem ps)
 
 -- the first of the k shifts from s on under which n fits
 unfoldable pub shiftFrom : ℕ → ℕ → ℕ → ℕ
@@ -113,7 +173,7 @@ unfoldable pub keptEntries : ℕ → List Entry → List Entry
 keptEntries table [] = []
 keptEntries table (e ∷ es) = choose (isType CKSM e) (keptEntries table es) (keptEntry table e ∷ keptEntries table es)
 
--- "one data block if anything is stored"
+-- "one data block if anything is stored", and its entry
 unfoldable pub newBlock : ℕ → List (List ℕ) → List ℕ
 newBlock size [] = []
 newBlock size (i ∷ is) = blockBytes size (flat (i ∷ is))
@@ -128,6 +188,15 @@ pub record Appended : Type 0 where
   pub table : List ℕ
   pub index : List ℕ
 
+unfoldable pub tableStart : ℕ → List ℕ → ℕ
+tableStart used block = used + length block
+
+unfoldable pub indexStart : ℕ → Appended → ℕ
+indexStart used new = tableStart used (new .block) + length (new .table)
+
+unfoldable pub usedAfter : ℕ → Appended → ℕ
+usedAfter used new = indexStart used new + length (new .index)
+
 -- for stored items and new pointers, to an image of `used` bytes whose index has the entries es
 unfoldable pub appendedFor : ℕ → ℕ → List Entry → List (List ℕ) → List (Option Pointer) → Appended
 appendedFor used size es items ps =
@@ -135,67 +204,17 @@ appendedFor used size es items ps =
     record {
       block = block;
       table = newTable ps;
-      index = indexBytes (keptEntries (used + length block) es ++ newBlockEntry used items);
+      index = indexBytes (keptEntries (tableStart used block) es ++ newBlockEntry used items);
     }
 
-unfoldable pub storedFor : List ℕ → ℕ → List ℕ → ℕ → List ℕ → Stored
-storedFor img o addresses size sectors = storeAll img (opened img o) (length img) [] (pieces (length addresses) size sectors)
-
-unfoldable pub pointersFor : List ℕ → ℕ → List ℕ → List Pointer → List (Option Pointer)
-pointersFor img o addresses ps = newPointers img (opened img o) addresses ps (opened img o .count) 0
-
+-- a commit's
 unfoldable pub appended : List ℕ → ℕ → List ℕ → ℕ → List ℕ → Appended
 appended img o addresses size sectors =
     let st = storedFor img o addresses size sectors in
     appendedFor (length img) size (entries img o) (st .items) (pointersFor img o addresses (st .pointers))
 
-unfoldable pub tableStart : ℕ → Appended → ℕ
-tableStart used new = used + length (new .block)
-
-unfoldable pub indexStart : ℕ → Appended → ℕ
-indexStart used new = tableStart used new + length (new .table)
-
-unfoldable pub usedAfter : ℕ → Appended → ℕ
-usedAfter used new = indexStart used new + length (new .index)
-
--- ---- "Order: 31, 32, 30, 33, 34, opening's numbers, 20, then sectors by rising address: the first that reads as a refusal other
--- than 21 gives that number; last 35."
--- 34: "addresses not strictly rising"
-unfoldable pub rising : List ℕ → Bool
-rising [] = true
-rising (a ∷ []) = true
-rising (a ∷ b ∷ addresses) = below a b and rising (b ∷ addresses)
-
--- "30: sector size 0 or over 65,536; over 65,536 addresses"; "33: sectors' bytes are not count x size"
-unfoldable pub argumentsVerdict : List ℕ → ℕ → List ℕ → ℕ → List ℕ → Verdict
-argumentsVerdict buffer used addresses size sectors =
-    row (below longestBuffer (length buffer)) (refusal 31)
-    then row (below (length buffer) used) (refusal 32)
-    then row (same size 0 or below 65536 size or below 65536 (length addresses)) (refusal 30)
-    then row (differs (length sectors) (length addresses * size)) (refusal 33)
-    then row (not (rising addresses)) (refusal 34)
-
--- 20: an address is not below the count
-unfoldable pub anyOutside : ℕ → List ℕ → Bool
-anyOutside count [] = false
-anyOutside count (a ∷ addresses) = atLeast a count or anyOutside count addresses
-
--- a refusal other than 21
-unfoldable pub otherThan21 : Verdict → Verdict
-otherThan21 Passes = Passes
-otherThan21 (Refuses r) = choose (same (r .number) 21) Passes (Refuses r)
-
-unfoldable pub sectorsVerdict : List ℕ → List Entry → Opened → Verdict
-sectorsVerdict img es t = firstRefusal (λ a. otherThan21 (sectorVerdict img es t a)) (t .count) 0
-
-unfoldable pub discVerdict : List ℕ → ℕ → List ℕ → Verdict
-discVerdict img o addresses =
-    openVerdict img o
-    then row (anyOutside (opened img o .count) addresses) (refusal 20)
-    then sectorsVerdict img (entries img o) (opened img o)
-
 -- "Then indexOffset and lastWrittenTime are set. No other byte changes below the old `used` or from the new one on. The result is the
--- new `used` and the new index's offset". 35: "the new `used` would exceed the buffer"
+-- new `used` and the new index's offset". 35 is the last check
 unfoldable pub append : List ℕ → ℕ → Verdict → Appended → ℕ → Outcome
 append buffer used verdict new time =
     outcome buffer (verdict then row (below (length buffer) (usedAfter used new)) (refusal 35))

@@ -8,7 +8,7 @@ use Rattle.format.specs.declared.Verdict.{Verdict}
 use Rattle.format.specs.Tests.{same, differs, below, _or_}
 use Rattle.format.specs.Refusals.{refusal, row, _then_}
 use Rattle.format.specs.Layouts.{DDT*, tag, headerLength, applicationLength, headerBytes, indexHeaderLength, entryLength, indexBytes, tableHeaderLength, tableEntryLength, tableBytes}
-use Rattle.format.specs.Writing.{longestBuffer, Outcome, outcome, placed}
+use Rattle.format.specs.Writing.{mostSectors, longestBuffer, Outcome, outcome, placed}
 
 -- "a table of E zero entries with shift 0 at 72 .., then an index with that one entry (dataType 1): 157 + 8E bytes"
 unfoldable pub createdIndexAt : ℕ → ℕ
@@ -25,11 +25,11 @@ createdBytes count application major minor mediaType creationTime lastWrittenTim
     headerBytes application major minor mediaType (createdIndexAt count) creationTime lastWrittenTime
     ++ (tableBytes 0 count (replicate (tableEntryLength * count) 0) ++ indexBytes createdEntries)
 
--- "Order: 31, 30 (E), 33 (application), 35." "30: E is 0 or over 1,048,576"
+-- "Order: 31, 30 (E), 33 (application), 35."
 unfoldable pub createVerdict : List ℕ → ℕ → List ℕ → Verdict
 createVerdict buffer count application =
     row (below longestBuffer (length buffer)) (refusal 31)
-    then row (same count 0 or below 1048576 count) (refusal 30)
+    then row (same count 0 or below mostSectors count) (refusal 30)
     then row (differs (length application) applicationLength) (refusal 33)
     then row (below (length buffer) (createdUsed count)) (refusal 35)
 

@@ -1,42 +1,42 @@
 -- The demands, as the claims that proofs/ proves of these definitions.
 use mathlib.Core.List.{List, [], _∷_}
 use mathlib.Core.Logic.{_≢_, _↔_}
-use mathlib.Core.Option.{Option, none, some}
 use mathlib.Core.Path.{_≡_}
 use Prim.Native.Nat.{ℕ, _+_, _*_, _/_, _%_, _^_, _<_}
-use lib.ListN.{length, take}
+use lib.ListN.{length, take, getD}
 use Rattle.fields.specs.Bytes.{part, field}
 use Rattle.format.specs.declared.Entry.{Entry}
 use Rattle.format.specs.declared.Placed.{Placed}
 use Rattle.format.specs.declared.Refusal.{Refusal}
-use Rattle.format.specs.Lists.{All, Any, Only, IsBytes, pieces, given}
+use Rattle.format.specs.Lists.{All, Any, Only, IsBytes}
 use Rattle.format.specs.Refusals.{Answer, refused, accepted}
-use Rattle.format.specs.Layouts.{DBLK, DDT*, indexOffset, entries, blockHeaderLength, sectorSize, tableHeaderLength, tableShift, tableCount, tableEntryLength}
+use Rattle.format.specs.Layouts.{DBLK, DDT*, CKSM, tag, indexOffset, entries, blockHeaderLength, sectorSize, tableHeaderLength, tableShift, tableCount, tableEntryLength}
 use Rattle.format.specs.Reading.{read}
 use Rattle.format.specs.Writing.{placed}
 use Rattle.format.specs.Creating.{create}
 use Rattle.format.specs.Committing.{commit}
 use Rattle.format.specs.RollingBack.{rollback}
-use Rattle.format.specs.Histories.{Call, commits, rollsBack, Point, Moment, reads, started, after, atEnd, Throughout, Permitted}
+use Rattle.format.specs.Histories.{Call, commits, rollsBack, Point, Moment, reads, ReadTheSame, started, after, atEnd, Throughout, Permitted}
 use Rattle.format.specs.Facts.{HeaderOk, IndexOk, EntryOk, UserData, TableOk, ItemOk}
 
--- ---- Demand 2, reading. "In an image that opens, a sector is given exactly if its table entry names an item of an indexed, intact,
--- unpacked data block, and then it is that item's bytes."
--- address a of the image names an item, whose bytes are the sector's
+-- ---- Demand 2, reading: in an image that opens, a sector is given exactly if its table entry names an item of an indexed, intact,
+-- unpacked data block, and then it is that item's bytes.
+-- Address a of the image names an item, whose bytes are the sector's. No check is mentioned here: only places, fields, checksums and
+-- index entries.
 pub record NamesItem (img : List ℕ) (a : ℕ) (sector : List ℕ) : Type 0 where
   -- the image opens, at its header's index offset, with the one table that its index names
   pub header : HeaderOk img
   pub index : IndexOk img (indexOffset img)
   pub entriesOk : All (EntryOk img) (entries img (indexOffset img))
-  pub tableEntry : Entry
-  pub only : Only (UserData DDT*) tableEntry (entries img (indexOffset img))
+  pub tableNamedBy : Entry
+  pub only : Only (UserData DDT*) tableNamedBy (entries img (indexOffset img))
   pub table : ℕ
-  pub tablePlace : tableEntry .offset .0 ≡ table
+  pub tablePlace : tableNamedBy .offset .0 ≡ table
   pub tableOk : TableOk img table
   -- the address has a table entry, which is not 0
   pub inside : a < tableCount img table
   pub entry : ℕ
-  pub entryThere : field img (table + tableHeaderLength + tableEntryLength * a) 8 ≡ entry
+  pub entryThere : field img (table + tableHeaderLength + tableEntryLength * a) tableEntryLength ≡ entry
   pub written : entry ≢ 0
   -- it names an item of an indexed, intact, unpacked data block
   pub block : ℕ
@@ -51,26 +51,33 @@ pub record NamesItem (img : List ℕ) (a : ℕ) (sector : List ℕ) : Type 0 whe
 abbrev pub Demand2Reading : Type 0
 Demand2Reading = (img : List ℕ) (a : ℕ) (sector : List ℕ) → (read img a ≡ accepted sector) ↔ NamesItem img a sector
 
--- ---- Demand 2, committing. "An accepted commit makes the named sectors read as handed in and every other sector read as before."
--- what an address reads as, by what was handed in for it and by what it read as before
-unfoldable pub handedOr : Option (List ℕ) → Answer (List ℕ) → Answer (List ℕ)
-handedOr (some sector) before = accepted sector
-handedOr none before = before
+-- ---- Demand 2, committing: an accepted commit makes the named sectors read as handed in and every other sector read as before.
+-- A disc that read as `before`, after such a commit reads as `later`
+pub record ReadsCommitted (before later : ℕ → Answer (List ℕ)) (addresses : List ℕ) (size : ℕ) (sectors : List ℕ) : Type 0 where
+  pub named : (i : ℕ) → i < length addresses → later (getD addresses i 0) ≡ accepted (part sectors (i * size) size)
+  pub others : (a : ℕ) → All (λ (b : ℕ). b ≢ a) addresses → later a ≡ before a
 
+-- and its index names no 'CKSM' block (01: "004 calls it stale")
+abbrev pub NoStaleChecksum : List ℕ → ℕ → Type 0
+NoStaleChecksum img o = All (λ (e : Entry). e .blockType ≢ tag CKSM) (entries img o)
+
+pub record CommitKept (buffer : List ℕ) (used : ℕ) (addresses : List ℕ) (size : ℕ) (sectors : List ℕ) (p : Placed) (after : List ℕ) : Type 0 where
+  pub disc : ReadsCommitted (read (take used buffer)) (read (take (p .used) after)) addresses size sectors
+  pub index : NoStaleChecksum (take (p .used) after) (p .index .0)
+
+-- the buffer is one of bytes, as every lent buffer is
 abbrev pub Demand2Committing : Type 0
 Demand2Committing =
     (buffer : List ℕ) → IsBytes buffer → (used : ℕ) (addresses : List ℕ) (size : ℕ) (sectors : List ℕ) (time : ℕ) (p : Placed)
     → commit buffer used addresses size sectors time .result ≡ accepted p
-    → (a : ℕ)
-    → read (take (p .used) (commit buffer used addresses size sectors time .buffer)) a
-    ≡ handedOr (given addresses (pieces (length addresses) size sectors) a) (read (take used buffer) a)
+    → CommitKept buffer used addresses size sectors p (commit buffer used addresses size sectors time .buffer)
 
--- ---- Demand 3, one claim over the whole list
--- (a) a rollback to a point's offset: it is accepted, it answers `used` and the offset, and right after it every address reads the same
--- bytes, or the same refusal, as at the point
-pub record ReturnsTo (m : Moment) (time : ℕ) (p : Point) : Type 0 where
-  pub accepts : rollback (m .buffer) (m .used) (p .offset) time .result ≡ accepted (placed (m .used) (p .offset))
-  pub disc : (a : ℕ) → reads (after m (rollsBack (p .offset) time)) a ≡ p .disc a
+-- ---- Demand 3: one claim over the whole list.
+-- (a) A rollback, made at m, to the offset of a point: it is accepted, it answers `used` and the offset, and right after it every address
+-- reads the same bytes, or the same refusal, as at the point
+pub record ReturnsTo (m : Moment) (offset time : ℕ) (p : Point) : Type 0 where
+  pub accepts : rollback (m .buffer) (m .used) offset time .result ≡ accepted (placed (m .used) offset)
+  pub same : ReadTheSame (reads (after m (rollsBack offset time))) (p .disc)
 
 -- (d) "A refused call passes buffer and `used` on unchanged."
 pub record Unchanged (m n : Moment) : Type 0 where
@@ -78,13 +85,13 @@ pub record Unchanged (m n : Moment) : Type 0 where
   pub used : n .used ≡ m .used
 
 pub record RollbackPromise (m : Moment) (offset time : ℕ) : Type 0 where
-  pub returns : All (λ (p : Point). p .offset ≡ offset → ReturnsTo m time p) (m .points)
+  pub returns : All (λ (p : Point). p .offset ≡ offset → ReturnsTo m offset time p) (m .points)
   pub unchanged : (r : Refusal) → rollback (m .buffer) (m .used) offset time .result ≡ refused r → Unchanged m (after m (rollsBack offset time))
 
--- (c) at an accepted commit the named addresses read as handed in and every other as just before it
+-- (c) At an accepted commit the named addresses read as handed in and every other as just before it
 pub record CommitPromise (m : Moment) (addresses : List ℕ) (size : ℕ) (sectors : List ℕ) (time : ℕ) : Type 0 where
-  pub disc : (p : Placed) → commit (m .buffer) (m .used) addresses size sectors time .result ≡ accepted p → (a : ℕ)
-      → reads (after m (commits addresses size sectors time)) a ≡ handedOr (given addresses (pieces (length addresses) size sectors) a) (reads m a)
+  pub disc : (p : Placed) → commit (m .buffer) (m .used) addresses size sectors time .result ≡ accepted p
+      → ReadsCommitted (reads m) (reads (after m (commits addresses size sectors time))) addresses size sectors
   pub unchanged : (r : Refusal) → commit (m .buffer) (m .used) addresses size sectors time .result ≡ refused r
       → Unchanged m (after m (commits addresses size sectors time))
 
@@ -101,6 +108,7 @@ pub record Kept (start : Moment) (calls : List Call) : Type 0 where
   pub promises : Throughout Promised start calls
   pub distinct : Distinct (atEnd start calls .points)
 
+-- buffer and application are bytes, as all that is lent is
 abbrev pub Demand3 : Type 0
 Demand3 =
     (buffer : List ℕ) → IsBytes buffer → (count : ℕ) (application : List ℕ) → IsBytes application

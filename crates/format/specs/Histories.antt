@@ -21,7 +21,7 @@ pub record Point : Type 0 where
   pub offset : ℕ
   pub disc : ℕ → Answer (List ℕ)
 
--- a moment of a history, with the points so far, the newest first
+-- a moment (01's own term) of a history, with the points so far, the newest first
 pub record Moment : Type 0 where
   pub buffer : List ℕ
   pub used : ℕ
@@ -29,14 +29,22 @@ pub record Moment : Type 0 where
 
 -- "a read of the first `used` bytes, with the buffer and `used` of its moment"
 unfoldable pub reads : Moment → ℕ → Answer (List ℕ)
-reads m a = read (take (m .used) (m .buffer)) a
+reads m = read (take (m .used) (m .buffer))
 
+-- "Two moments read the same if, for every address that a read can be handed, a read .. gives the same bytes, length included, or the
+-- same refusal."
+unfoldable pub ReadTheSame : (ℕ → Answer (List ℕ)) → (ℕ → Answer (List ℕ)) → Type 0
+ReadTheSame one other = (a : ℕ) → one a ≡ other a
+
+-- the point that a creation or a commit makes, which answered p and left this buffer
 unfoldable pub pointNow : List ℕ → Placed → Point
 pointNow buffer p = record { offset = p .index .0; disc = read (take (p .used) buffer) }
 
+-- the moment after an accepted creation
 unfoldable pub started : List ℕ → Placed → Moment
 started buffer p = record { buffer = buffer; used = p .used; points = pointNow buffer p ∷ [] }
 
+-- a call at a moment
 unfoldable pub outcomeOf : Moment → Call → Outcome
 outcomeOf m (commits addresses size sectors time) = commit (m .buffer) (m .used) addresses size sectors time
 outcomeOf m (rollsBack offset time) = rollback (m .buffer) (m .used) offset time
@@ -46,6 +54,7 @@ unfoldable pub pointsAfter : List Point → Call → List ℕ → Placed → Lis
 pointsAfter ps (commits addresses size sectors time) buffer p = pointNow buffer p ∷ ps
 pointsAfter ps (rollsBack offset time) buffer p = ps
 
+-- the moment after a call, by its answer and the buffer that it left
 unfoldable pub momentAfter : Moment → Call → Answer Placed → List ℕ → Moment
 momentAfter m c (refused r) buffer = record { buffer = buffer; used = m .used; points = m .points }
 momentAfter m c (accepted p) buffer = record { buffer = buffer; used = p .used; points = pointsAfter (m .points) c buffer p }
@@ -53,6 +62,7 @@ momentAfter m c (accepted p) buffer = record { buffer = buffer; used = p .used; 
 unfoldable pub after : Moment → Call → Moment
 after m c = momentAfter m c (outcomeOf m c .result) (outcomeOf m c .buffer)
 
+-- the moment after a whole list of calls
 unfoldable pub atEnd : Moment → List Call → Moment
 atEnd m [] = m
 atEnd m (c ∷ cs) = atEnd (after m c) cs
@@ -60,7 +70,7 @@ atEnd m (c ∷ cs) = atEnd (after m c) cs
 -- every call of a list is so, at the moment when it is made
 pub data Throughout (P : Moment → Call → Type 0) : Moment → List Call → Type 0 where
   end : {m : Moment} → Throughout P m []
-  call : {m : Moment} {c : Call} {cs : List Call} → P m c → Throughout P (after m c) cs → Throughout P m (c ∷ cs)
+  made : {m : Moment} {c : Call} {cs : List Call} → P m c → Throughout P (after m c) cs → Throughout P m (c ∷ cs)
 
 -- what a history asks of a call. "An accepted rollback goes to an offset that the creation or an accepted commit before it returned; a
 -- refused one may be handed any offset." A commit is handed bytes.

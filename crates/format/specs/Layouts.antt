@@ -1,17 +1,14 @@
 -- Layouts: the identifiers, each record's fields and the record as it is written, and what a table entry means.
 -- "All little-endian and packed; 'at' counts from the start of the record. The image is the first `used` bytes of a lent buffer."
--- A record's place comes first of all: `field img (b + 8) 4` is the 4-byte field at 8 of the record at b.
-use mathlib.Core.Bool.{Bool}
+-- `field img (b + 8) 4` is the 4-byte field at 8 of the record that stands at b.
 use mathlib.Core.List.{List, [], _∷_, _++_, map}
-use mathlib.Core.Path.{_≡_}
 use Prim.Native.Nat.{ℕ, zero, suc, _+_, _*_, _/_, _%_, _^_}
 use lib.ListN.{length}
 use Rattle.crc64.specs.Crc.{crcOf}
-use Rattle.fields.specs.Bytes.{part, field, fromLe, toLe}
-use Rattle.fields.specs.Layout.{Field, num, raw, layout}
+use Rattle.fields.specs.Bytes.{part, field, fromLe}
+use Rattle.fields.specs.Layout.{num, raw, layout}
 use Rattle.format.specs.declared.Entry.{Entry}
 use Rattle.format.specs.declared.Pointer.{Pointer}
-use Rattle.format.specs.Tests.{same, differs, _and_}
 use Rattle.format.specs.Lists.{flat}
 
 -- ---- identifiers, by the codes of their letters
@@ -36,10 +33,6 @@ CKSM = 67 ∷ 75 ∷ 83 ∷ 77 ∷ []
 -- the number that an identifier's letters make
 unfoldable pub tag : List ℕ → ℕ
 tag letters = fromLe letters
-
--- the identifier at a place is not this one
-unfoldable pub lacks : List ℕ → ℕ → List ℕ → Bool
-lacks img at letters = differs (field img at (length letters)) (tag letters)
 
 -- ---- Header, 72: identifier at 0 (8); application at 8 (32); image major 40, minor 41; application major 42, minor 43;
 -- mediaType 44 (4); indexOffset 48 (8); creationTime 56 (8); lastWrittenTime 64 (8)
@@ -93,17 +86,9 @@ entriesFrom img (suc k) p = entryAt img p ∷ entriesFrom img k (p + entryLength
 unfoldable pub entries : List ℕ → ℕ → List Entry
 entries img o = entriesFrom img (entryCount img o) (o + indexHeaderLength)
 
--- "The index checksum covers its entries"
+-- "The index checksum covers its entries, the others their payload."
 abbrev pub entriesPart : List ℕ → ℕ → List ℕ
 entriesPart img o = part img (o + indexHeaderLength) (entryLength * entryCount img o)
-
--- an entry for this kind of block
-unfoldable pub isType : List ℕ → Entry → Bool
-isType letters e = same (e .blockType) (tag letters)
-
--- an entry for this kind of block, of user data (dataType 1)
-unfoldable pub isUserData : List ℕ → Entry → Bool
-isUserData letters e = isType letters e and same (e .dataType) 1
 
 unfoldable pub entryBytes : Entry → List ℕ
 entryBytes e = layout (num 4 (e .blockType) ∷ num 4 (e .dataType) ∷ num 8 (e .offset .0) ∷ [])
@@ -199,9 +184,10 @@ tableBytes shift count payload = tableHeader shift count payload ++ payload
 abbrev pub tableEntryLength : ℕ
 tableEntryLength = 8
 
--- "byte offset = entry / 2^shift, whole part, and item number = the remainder"
+-- An entry of 0 means not written (Reading). Otherwise "byte offset = entry / 2^shift, whole part, and item number = the remainder"
 unfoldable pub decode : ℕ → ℕ → Pointer
 decode shift entry = record { block = record { 0 = entry / 2 ^ shift }; item = record { 0 = entry % 2 ^ shift } }
 
+-- the entry of a pointer whose item number is below 2^shift
 unfoldable pub encode : ℕ → Pointer → ℕ
 encode shift p = p .block .0 * 2 ^ shift + p .item .0

@@ -4,11 +4,11 @@ pub mod Refusals
 pub mod Layouts
 pub mod Opening
 pub mod Reading
+pub mod Facts
 pub mod Writing
 pub mod Creating
 pub mod Committing
 pub mod RollingBack
 pub mod Histories
-pub mod Facts
-pub mod Demands
 pub mod WorkedDisc
+pub mod Demands

@@ -9,9 +9,13 @@ use Rattle.fields.specs.Bytes.{field}
 use Rattle.format.specs.declared.Entry.{Entry}
 use Rattle.format.specs.declared.Verdict.{Verdict}
 use Rattle.format.specs.declared.Verdict.the-variants.{Passes, Refuses}
-use Rattle.format.specs.Tests.{differs, below, _or_, _and_, choose}
+use Rattle.format.specs.Tests.{same, differs, below, _or_, _and_, choose}
 use Rattle.format.specs.Refusals.{refusal, row, _then_, Answer, answer}
-use Rattle.format.specs.Layouts.{AARUFRMT, DICMFRMT, IDX2, DDT*, lacks, headerLength, imageMajorAt, indexOffset, indexHeaderLength, entryCount, indexCrc64, entryLength, entryAt, entries, entriesPart, isUserData, tableHeaderLength, tableDataType, tableCompression, tableShift, tableCount, tableCmpLength, tableLength, tableCmpCrc64, tableCrc64, tablePayload}
+use Rattle.format.specs.Layouts.{AARUFRMT, DICMFRMT, IDX2, DDT*, tag, headerLength, imageMajorAt, indexOffset, indexHeaderLength, entryCount, indexCrc64, entryLength, entryAt, entries, entriesPart, tableHeaderLength, tableEntryLength, tableDataType, tableCompression, tableShift, tableCount, tableCmpLength, tableLength, tableCmpCrc64, tableCrc64, tablePayload}
+
+-- the identifier at a place is not this one
+unfoldable pub lacks : List ℕ → ℕ → List ℕ → Bool
+lacks img at letters = differs (field img at (length letters)) (tag letters)
 
 -- 1. "`used` below 72: 1. Identifier neither 'AARUFRMT' nor 'DICMFRMT': 2. Image major not 2: 3 (minor is not looked at)."
 unfoldable pub headerVerdict : List ℕ → Verdict
@@ -36,11 +40,21 @@ entryVerdict img p =
     row (below (e .offset .0) headerLength or below (length img) (e .offset .0 + 4)) (refusal 7)
     then row (differs (field img (e .offset .0) 4) (e .blockType)) (refusal 8)
 
+-- the k entries from place p on
 unfoldable pub entriesVerdict : List ℕ → ℕ → ℕ → Verdict
 entriesVerdict img zero p = Passes
 entriesVerdict img (suc k) p = entryVerdict img p then entriesVerdict img k (p + entryLength)
 
 -- 4. "Entries with blockType 'DDT*' and dataType 1: none is 9, more than one is 10."
+-- an entry for this kind of block
+unfoldable pub isType : List ℕ → Entry → Bool
+isType letters e = same (e .blockType) (tag letters)
+
+-- an entry for this kind of block, of user data (dataType 1)
+unfoldable pub isUserData : List ℕ → Entry → Bool
+isUserData letters e = isType letters e and same (e .dataType) 1
+
+-- the offsets of the entries for this kind of block, of user data, in order
 unfoldable pub offsetsOf : List ℕ → List Entry → List ℕ
 offsetsOf letters [] = []
 offsetsOf letters (e ∷ es) = choose (isUserData letters e) (e .offset .0 ∷ offsetsOf letters es) (offsetsOf letters es)
@@ -50,11 +64,12 @@ oneVerdict [] = Refuses (refusal 9)
 oneVerdict (t ∷ []) = Passes
 oneVerdict (t ∷ u ∷ ts) = Refuses (refusal 10)
 
--- the table's place, where the index names one table
+-- the first of a list, 0 where it is empty
 unfoldable pub first : List ℕ → ℕ
 first [] = 0
 first (t ∷ ts) = t
 
+-- the table's place, where the index names one table
 unfoldable pub tableAt : List ℕ → ℕ → ℕ
 tableAt img o = first (offsetsOf DDT* (entries img o))
 
@@ -63,7 +78,7 @@ tableAt img o = first (offsetsOf DDT* (entries img o))
 unfoldable pub tableMalformed : List ℕ → ℕ → Bool
 tableMalformed img t =
     differs (tableDataType img t) 1 or below 32 (tableShift img t)
-    or differs (tableLength img t) (8 * tableCount img t) or differs (tableCmpLength img t) (tableLength img t)
+    or differs (tableLength img t) (tableEntryLength * tableCount img t) or differs (tableCmpLength img t) (tableLength img t)
 
 -- either of two stored checksums is not this one
 unfoldable pub sumsDiffer : ℕ → ℕ → ℕ → Bool
@@ -96,6 +111,7 @@ pub record Opened : Type 0 where
 unfoldable pub openedAt : List ℕ → ℕ → Opened
 openedAt img t = record { table = t; count = tableCount img t; shift = tableShift img t }
 
+-- with o for the index's offset
 unfoldable pub opened : List ℕ → ℕ → Opened
 opened img o = openedAt img (tableAt img o)
 

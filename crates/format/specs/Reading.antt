@@ -1,5 +1,6 @@
--- Reading a sector. "A read takes bytes, whose length is its `used`, and an address, opens, then checks".
-use mathlib.Core.Bool.{Bool, true, false, not}
+-- Reading a sector. "A read takes bytes, whose length is its `used`, and an address, opens, then checks" what follows. "Sectors of one
+-- disc may differ in size." "Reading any lent slice has no length limit."
+use mathlib.Core.Bool.{Bool, false, not}
 use mathlib.Core.List.{List, [], _∷_}
 use Prim.Native.Nat.{ℕ, _+_, _*_, _/_, _%_}
 use lib.ListN.{length}
@@ -16,15 +17,17 @@ use Rattle.format.specs.Opening.{Opened, opened, openVerdict, offsetsOf,
 
 -- the table entry of address a
 unfoldable pub tableEntry : List ℕ → Opened → ℕ → ℕ
-tableEntry img t a = field img (t .table + tableHeaderLength + tableEntryLength * a) 8
+tableEntry img t a = field img (t .table + tableHeaderLength + tableEntryLength * a) tableEntryLength
 
--- "Entry 0x0 means not written."
+-- not written (01's own term): "Entry 0x0 means not written."
 unfoldable pub notWritten : List ℕ → Opened → ℕ → Bool
 notWritten img t a = same (tableEntry img t a) 0
 
+-- what the table entry of address a encodes
 unfoldable pub pointerAt : List ℕ → Opened → ℕ → Pointer
 pointerAt img t a = decode (t .shift) (tableEntry img t a)
 
+-- x is in the list
 unfoldable pub has : ℕ → List ℕ → Bool
 has x [] = false
 has x (y ∷ ys) = same y x or has x ys
@@ -74,9 +77,11 @@ itemBytes img p = part img (placeOf img p .start .0) (placeOf img p .size)
 unfoldable pub readVerdict : List ℕ → ℕ → ℕ → Verdict
 readVerdict img o a = openVerdict img o then sectorVerdict img (entries img o) (opened img o) a
 
+-- a read with o for the index's offset
 unfoldable pub readAt : List ℕ → ℕ → ℕ → Answer (List ℕ)
 readAt img o a = answer (readVerdict img o a) (itemBytes img (pointerAt img (opened img o) a))
 
+-- a read
 unfoldable pub read : List ℕ → ℕ → Answer (List ℕ)
 read img a = readAt img (indexOffset img) a
 

@@ -1,14 +1,14 @@
 -- "A small disc, worked out": P1 to P12 as one table of tests. proofs/WorkedDisc proves that all hold.
-use mathlib.Core.Bool.{Bool, true, false, _&&_}
+use mathlib.Core.Bool.{Bool, true, false}
 use mathlib.Core.List.{List, [], _∷_, _++_, map}
 use Prim.Native.Nat.{ℕ}
-use lib.Dec.{eqb}
 use lib.ListN.{take, replicate}
 use Rattle.crc64.specs.Crc.{crcOf}
 use Rattle.fields.specs.Bytes.{field, toLe, overwrite, equal}
 use Rattle.format.specs.declared.Place.{Place}
+use Rattle.format.specs.Tests.{same, _and_}
 use Rattle.format.specs.Refusals.{Answer, refused, accepted}
-use Rattle.format.specs.Layouts.{DBLK, tag, indexOffset, decode}
+use Rattle.format.specs.Layouts.{DBLK, tag, indexOffsetAt, indexOffset, decode}
 use Rattle.format.specs.Opening.{opening, opened}
 use Rattle.format.specs.Reading.{tableEntry, read, locate}
 use Rattle.format.specs.Writing.{Outcome}
@@ -16,18 +16,18 @@ use Rattle.format.specs.Creating.{create}
 use Rattle.format.specs.Committing.{shiftFor, commit}
 use Rattle.format.specs.RollingBack.{rollback}
 
-unfoldable pub all : List Bool → Bool
-all [] = true
-all (b ∷ bs) = b && all bs
+unfoldable pub allHold : List Bool → Bool
+allHold [] = true
+allHold (b ∷ bs) = b and allHold bs
 
 -- accepted, with this `used` and this index offset
 unfoldable pub leaves : ℕ → ℕ → Outcome → Bool
-leaves used index w = elim (w .result) [ refused r ↦ false | accepted p ↦ eqb (p .used) used && eqb (p .index .0) index ]
+leaves used index w = elim (w .result) [ refused r ↦ false | accepted p ↦ same (p .used) used and same (p .index .0) index ]
 
 -- refused with this number
-unfoldable pub refuses : {A : Type 0} → ℕ → Answer A → Bool
-refuses n (refused r) = eqb (r .number) n
-refuses n (accepted a) = false
+unfoldable pub refusedWith : {A : Type 0} → ℕ → Answer A → Bool
+refusedWith n (refused r) = same (r .number) n
+refusedWith n (accepted a) = false
 
 -- accepted with these bytes
 unfoldable pub gives : List ℕ → Answer (List ℕ) → Bool
@@ -35,16 +35,16 @@ gives bytes (refused r) = false
 gives bytes (accepted l) = equal l bytes
 
 -- accepted with this place and size
-unfoldable pub lies : ℕ → ℕ → Answer Place → Bool
-lies start size (refused r) = false
-lies start size (accepted p) = eqb (p .start .0) start && eqb (p .size) size
+unfoldable pub liesAt : ℕ → ℕ → Answer Place → Bool
+liesAt start size (refused r) = false
+liesAt start size (accepted p) = same (p .start .0) start and same (p .size) size
 
 -- the image's table has this place, this shift and these three entries
 unfoldable pub hasTable : List ℕ → ℕ → ℕ → List ℕ → Bool
 hasTable img place shift es =
     let t = opened img (indexOffset img) in
-    eqb (t .table) place && eqb (t .shift) shift && eqb (t .count) 3
-    && equal (tableEntry img t 0 ∷ tableEntry img t 1 ∷ tableEntry img t 2 ∷ []) es
+    same (t .table) place and same (t .shift) shift and same (t .count) 3
+    and equal (tableEntry img t 0 ∷ tableEntry img t 1 ∷ tableEntry img t 2 ∷ []) es
 
 abbrev AAAA : List ℕ
 AAAA = 65 ∷ 65 ∷ 65 ∷ 65 ∷ []
@@ -72,16 +72,16 @@ workedDisc =
     let i6 = take 600 (p6 .buffer) in
     let p7 = commit b1 181 [] 4 [] 11 in
     let i7 = take 290 (p7 .buffer) in
-    -- P1: "Create, E = 3: table 72, index 145, used 181."
-    leaves 181 145 p1 ∷ hasTable i1 72 0 (0 ∷ 0 ∷ 0 ∷ []) ∷ refuses 21 (read i1 0) ∷ refuses 20 (read i1 3)
+    -- P1: "Create, E = 3: table 72, index 145, used 181." And what two addresses read as
+    leaves 181 145 p1 ∷ hasTable i1 72 0 (0 ∷ 0 ∷ 0 ∷ []) ∷ refusedWith 21 (read i1 0) ∷ refusedWith 20 (read i1 3)
     -- P2: "Commit addresses 0, 2, size 4, "AAAABBBB": block 181, table 225, index 298, used 350, shift 1, entries 362, 0, 363."
-    ∷ leaves 350 298 p2 ∷ hasTable i2 225 1 (362 ∷ 0 ∷ 363 ∷ []) ∷ eqb (field i2 181 4) (tag DBLK)
-    ∷ gives AAAA (read i2 0) ∷ refuses 21 (read i2 1) ∷ gives BBBB (read i2 2)
+    ∷ leaves 350 298 p2 ∷ hasTable i2 225 1 (362 ∷ 0 ∷ 363 ∷ []) ∷ same (field i2 181 4) (tag DBLK)
+    ∷ gives AAAA (read i2 0) ∷ refusedWith 21 (read i2 1) ∷ gives BBBB (read i2 2)
     -- P3: "Then commit address 1 "AAAA": no block, table 350, index 423, used 475, entries 362, 362, 363." And the listing's lines
     ∷ leaves 475 423 p3 ∷ hasTable i3 350 1 (362 ∷ 362 ∷ 363 ∷ [])
-    ∷ lies 217 4 (locate i3 0) ∷ lies 217 4 (locate i3 1) ∷ lies 221 4 (locate i3 2)
+    ∷ liesAt 217 4 (locate i3 0) ∷ liesAt 217 4 (locate i3 1) ∷ liesAt 221 4 (locate i3 2)
     -- P4: "Roll back to 298: address 1 is 21; used stays 475." P5: "Back to 423: address 1 reads "AAAA"."
-    ∷ leaves 475 298 p4 ∷ refuses 21 (read i4 1) ∷ leaves 475 423 p5 ∷ gives AAAA (read i5 1)
+    ∷ leaves 475 298 p4 ∷ refusedWith 21 (read i4 1) ∷ leaves 475 423 p5 ∷ gives AAAA (read i5 1)
     -- P6: "After P4, commit 1 "BBBB": entry 363, used 600."
     ∷ leaves 600 548 p6 ∷ hasTable i6 475 1 (362 ∷ 363 ∷ 363 ∷ [])
     -- P7: "Empty commit after P1: table 181, index 254, used 290."
@@ -89,10 +89,10 @@ workedDisc =
     -- P8: "Largest item 0, 1, 2, 3, 4: shift 0, 1, 2, 2, 3."
     ∷ equal (map shiftFor (0 ∷ 1 ∷ 2 ∷ 3 ∷ 4 ∷ [])) (0 ∷ 1 ∷ 2 ∷ 2 ∷ 3 ∷ [])
     -- P9: "In P1's bytes indexOffset 4,294,967,295 gives 4 (a 32-bit sum gives 19); 162 and 71 give 4; 161 gives 5."
-    ∷ refuses 4 (opening (overwrite i1 48 (toLe 8 4294967295))) ∷ refuses 4 (opening (overwrite i1 48 (toLe 8 162)))
-    ∷ refuses 4 (opening (overwrite i1 48 (toLe 8 71))) ∷ refuses 5 (opening (overwrite i1 48 (toLe 8 161)))
+    ∷ refusedWith 4 (opening (overwrite i1 indexOffsetAt (toLe 8 4294967295))) ∷ refusedWith 4 (opening (overwrite i1 indexOffsetAt (toLe 8 162)))
+    ∷ refusedWith 4 (opening (overwrite i1 indexOffsetAt (toLe 8 71))) ∷ refusedWith 5 (opening (overwrite i1 indexOffsetAt (toLe 8 161)))
     -- P10: "In P2's block both lengths 4,294,967,292: 23 for address 0 (a 32-bit sum gives 213)."
-    ∷ refuses 23 (read (overwrite i2 193 (toLe 4 4294967292 ++ toLe 4 4294967292)) 0)
+    ∷ refusedWith 23 (read (overwrite i2 193 (toLe 4 4294967292 ++ toLe 4 4294967292)) 0)
     -- P11: "Checksum of no bytes is 0." P12: "0x8003 with shift 5 is offset 1024, item 3."
-    ∷ eqb (crcOf []) 0 ∷ eqb (decode 5 0x8003 .block .0) 1024 ∷ eqb (decode 5 0x8003 .item .0) 3
+    ∷ same (crcOf []) 0 ∷ same (decode 5 0x8003 .block .0) 1024 ∷ same (decode 5 0x8003 .item .0) 3
     ∷ []

@@ -1,16 +1,37 @@
 -- Creating, committing, rolling back: what the three have in common.
 use mathlib.Core.List.{List}
 use Prim.Native.Nat.{ℕ}
+use lib.ListN.{length}
 use Rattle.fields.specs.Bytes.{overwrite, toLe}
 use Rattle.format.specs.declared.Placed.{Placed}
 use Rattle.format.specs.declared.Verdict.{Verdict}
 use Rattle.format.specs.declared.Verdict.the-variants.{Passes, Refuses}
-use Rattle.format.specs.Refusals.{Answer, refused, accepted}
+use Rattle.format.specs.Tests.{below}
+use Rattle.format.specs.Refusals.{refusal, row, _then_, Answer, refused, accepted}
 use Rattle.format.specs.Layouts.{indexOffsetAt, lastWrittenAt}
 
--- "31: buffer longer than 4,294,967,296 bytes"
+-- 01's table of the numbers that these calls give besides opening's and reading's:
+--   30  E is 0 or over 1,048,576; sector size 0 or over 65,536; over 65,536 addresses
+--   31  buffer longer than 4,294,967,296 bytes (creating, committing, rolling back only)
+--   32  `used` exceeds the buffer
+--   33  application is not 32 bytes; sectors' bytes are not count x size
+--   34  addresses not strictly rising
+--   35  the new `used` would exceed the buffer
+abbrev pub mostSectors : ℕ
+mostSectors = 1048576
+
+abbrev pub largestSize : ℕ
+largestSize = 65536
+
+abbrev pub mostAddresses : ℕ
+mostAddresses = 65536
+
 abbrev pub longestBuffer : ℕ
 longestBuffer = 4294967296
+
+-- 31 and 32, with which committing and rolling back begin
+unfoldable pub bufferVerdict : List ℕ → ℕ → Verdict
+bufferVerdict buffer used = row (below longestBuffer (length buffer)) (refusal 31) then row (below (length buffer) used) (refusal 32)
 
 -- what a call that writes answers, and every byte of the buffer afterwards
 pub record Outcome : Type 0 where

@@ -1,6 +1,5 @@
 use Prim.Native.Nat.{_≤_, _-_}
 use native.Mathlib.Omega.{arith}
-use lib.ListN.{length}
 use Rattle.cases.proofs.sample.Statement.{statement}
 use Rattle.cases.proofs.sample.Tie as tie
 
