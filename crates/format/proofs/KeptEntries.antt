@@ -60,7 +60,7 @@ kept-all P table _ f (more {a = e} {l = es} k ks) = go (kept-all P table es f ks
   where
     go : All (λ (e : Entry). P e × (e .blockType ≢ tag CKSM)) (keptEntries table es) → (isType CKSM e ≡ true) ⊎ (isType CKSM e ≡ false)
         → (isUserData DDT* e ≡ true) ⊎ (isUserData DDT* e ≡ false) → All (λ (e : Entry). P e × (e .blockType ≢ tag CKSM)) (keptEntries table (e ∷ es))
-    go ih (inl c) d = rw (kept-drop table e es c) ih
+    go ih (inl c) d = rw (choose-true (isType CKSM e) (keptEntries table es) (keptEntry table e ∷ keptEntries table es) c) ih
     go ih (inr c) (inl d) = rw (kept-keep table e es c, kept-table-entry table e d) (more (f e k d, type-off CKSM e c) ih)
     go ih (inr c) (inr d) = rw (kept-keep table e es c, kept-other table e d) (more (k, type-off CKSM e c) ih)
 

@@ -72,11 +72,10 @@ workedDisc =
     let i6 = take 600 (p6 .buffer) in
     let p7 = commit b1 181 [] 4 [] 11 in
     let i7 = take 290 (p7 .buffer) in
-    -- P1: "Create, E = 3: table 72, index 145, used 181." And what two addresses read as
-    leaves 181 145 p1 ∷ hasTable i1 72 0 (0 ∷ 0 ∷ 0 ∷ []) ∷ refusedWith 21 (read i1 0) ∷ refusedWith 20 (read i1 3)
+    -- P1: "Create, E = 3: table 72, index 145, used 181."
+    leaves 181 145 p1 ∷ hasTable i1 72 0 (0 ∷ 0 ∷ 0 ∷ [])
     -- P2: "Commit addresses 0, 2, size 4, "AAAABBBB": block 181, table 225, index 298, used 350, shift 1, entries 362, 0, 363."
     ∷ leaves 350 298 p2 ∷ hasTable i2 225 1 (362 ∷ 0 ∷ 363 ∷ []) ∷ same (field i2 181 4) (tag DBLK)
-    ∷ gives AAAA (read i2 0) ∷ refusedWith 21 (read i2 1) ∷ gives BBBB (read i2 2)
     -- P3: "Then commit address 1 "AAAA": no block, table 350, index 423, used 475, entries 362, 362, 363." And the listing's lines
     ∷ leaves 475 423 p3 ∷ hasTable i3 350 1 (362 ∷ 362 ∷ 363 ∷ [])
     ∷ liesAt 217 4 (locate i3 0) ∷ liesAt 217 4 (locate i3 1) ∷ liesAt 221 4 (locate i3 2)

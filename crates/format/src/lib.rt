@@ -1,5 +1,5 @@
-// The types that the definitions of specs/ and the code share. A byte offset, an item number and a sector address are
-// three separate things, and none is passed for another.
+// Internal: the types that travel between the crates, in code and in the definitions of specs/. A byte offset, an item number
+// and a sector address are three separate things, and none is passed for another.
 
 // A place in an image.
 pub struct ByteOffset(pub u64);
@@ -21,7 +21,7 @@ pub enum Verdict {
     Refuses(Refusal),
 }
 
-// An entry of an index.
+// An entry of an index. Its fields of four bytes are u64, as every number that is read from an image.
 pub struct Entry {
     pub blockType: u64,
     pub dataType: u64,
