@@ -23,11 +23,6 @@ abbrev pub total : List Field → ℕ
 total [] = 0
 total (f ∷ fs) = width f + total fs
 
-pub length-layout : (fs : List Field) → length (layout fs) ≡ total fs
-unfolding layout
-length-layout [] = refl
-length-layout (f ∷ fs) = simp (length-append, length-fieldBytes, length-layout fs)
-
 -- field j of a record that stands at a place
 holds-nth : (s : List ℕ) (at : ℕ) (fs : List Field) (rest : List ℕ) → Holds s at (layout fs ++ rest) → (j : ℕ) → j < length fs
     → Holds s (at + total (take j fs)) (fieldBytes (getD fs j (raw [])))
@@ -50,3 +45,8 @@ unfolding field
 holds-raw s at bytes fs rest h =
     let n : Holds s at bytes = rw add-zero at (holds-nth s at (raw bytes ∷ fs) rest h 0 (omega arith)) in
     ap fromLe (holds-all s at bytes n)
+
+pub length-layout : (fs : List Field) → length (layout fs) ≡ total fs
+unfolding layout
+length-layout [] = refl
+length-layout (f ∷ fs) = simp (length-append, length-fieldBytes, length-layout fs)

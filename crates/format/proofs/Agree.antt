@@ -17,7 +17,7 @@ use Rattle.format.specs.declared.Pointer.{Pointer}
 use Rattle.format.specs.Lists.{All}
 use Rattle.format.specs.Refusals.{refusal, refused, accepted}
 use Rattle.format.specs.Tests.{below, same}
-use Rattle.format.specs.Layouts.{DBLK, DDT*, headerLength, imageMajorAt, indexOffsetAt, entryCount, entryAt, entriesFrom, entries, blockLength, sectorSize, blockPayload, tableLength, tablePayload, decode}
+use Rattle.format.specs.Layouts.{DBLK, DDT*, headerLength, imageMajorAt, indexOffsetAt, entryCount, entryAt, entriesFrom, entries, blockLength, sectorSize, blockPayload, tableLength, tablePayload, decode, tableHeaderLength, blockHeaderLength, indexHeaderLength, entryLength, tableEntryLength}
 use Rattle.format.specs.Opening.{offsetsOf, first, tableAt, Opened, openedAt, opened}
 use Rattle.format.specs.Reading.{tableEntry, notWritten, pointerAt, has, sectorVerdict, placeOf, itemBytes, readVerdict, readAt}
 use Rattle.format.specs.Facts.{Identified, HeaderOk, IndexOk, EntryOk, TableOk, ItemOk}
@@ -71,36 +71,36 @@ module _ (x y : List ℕ) (g : Agree x y) where
   unfolding entryCount Identified
   index-agree o k =
       let low : headerLength ≤ o = k .low in
-      let head : o + 20 ≤ length x = k .head in
+      let head : o + indexHeaderLength ≤ length x = k .head in
       let e0 : field x o 4 ≡ field y o 4 = field-rest o 4 low (omega arith) in
       let e4 : field x (o + 4) 8 ≡ field y (o + 4) 8 = field-rest (o + 4) 8 (omega arith) (omega arith) in
       let e12 : field x (o + 12) 8 ≡ field y (o + 12) 8 = field-rest (o + 12) 8 (omega arith) (omega arith) in
-      let ep : part x (o + 20) (16 * field x (o + 4) 8) ≡ part y (o + 20) (16 * field x (o + 4) 8) = part-rest (o + 20) _ (omega arith) (k .fits) in
+      let ep : part x (o + indexHeaderLength) (entryLength * field x (o + 4) 8) ≡ part y (o + indexHeaderLength) (entryLength * field x (o + 4) 8) = part-rest (o + indexHeaderLength) _ (omega arith) (k .fits) in
       record {
         low = low;
         head = le-trans head (g .longer);
         identifier = sym e0 ∙ k .identifier;
         fits = le-trans (rw e4 at (k .fits)) (g .longer);
-        sum = ap (λ n. crcOf (part y (o + 20) (16 * n))) (sym e4) ∙ ap crcOf (sym ep) ∙ k .sum ∙ e12;
+        sum = ap (λ n. crcOf (part y (o + indexHeaderLength) (entryLength * n))) (sym e4) ∙ ap crcOf (sym ep) ∙ k .sum ∙ e12;
       }
 
-  entriesFrom-agree : (k p : ℕ) → headerLength ≤ p → p + 16 * k ≤ length x → entriesFrom x k p ≡ entriesFrom y k p
+  entriesFrom-agree : (k p : ℕ) → headerLength ≤ p → p + entryLength * k ≤ length x → entriesFrom x k p ≡ entriesFrom y k p
   unfolding entriesFrom entryAt
   entriesFrom-agree zero p h l = refl
   entriesFrom-agree (suc k) p h l =
       let e0 : field x p 4 ≡ field y p 4 = field-rest p 4 h (omega arith) in
       let e4 : field x (p + 4) 4 ≡ field y (p + 4) 4 = field-rest (p + 4) 4 (omega arith) (omega arith) in
       let e8 : field x (p + 8) 8 ≡ field y (p + 8) 8 = field-rest (p + 8) 8 (omega arith) (omega arith) in
-      let ih : entriesFrom x k (p + 16) ≡ entriesFrom y k (p + 16) = entriesFrom-agree k (p + 16) (omega arith) (omega arith) in
+      let ih : entriesFrom x k (p + entryLength) ≡ entriesFrom y k (p + entryLength) = entriesFrom-agree k (p + entryLength) (omega arith) (omega arith) in
       λ i. record { blockType = e0 i; dataType = e4 i; offset = record { 0 = e8 i } } ∷ ih i
 
   entries-agree : (o : ℕ) → IndexOk x o → entries x o ≡ entries y o
   unfolding entries entryCount
   entries-agree o k =
       let low : headerLength ≤ o = k .low in
-      let head : o + 20 ≤ length x = k .head in
+      let head : o + indexHeaderLength ≤ length x = k .head in
       let e4 : field x (o + 4) 8 ≡ field y (o + 4) 8 = field-rest (o + 4) 8 (omega arith) (omega arith) in
-      entriesFrom-agree (field x (o + 4) 8) (o + 20) (omega arith) (k .fits) ∙ ap (λ n. entriesFrom y n (o + 20)) e4
+      entriesFrom-agree (field x (o + 4) 8) (o + indexHeaderLength) (omega arith) (k .fits) ∙ ap (λ n. entriesFrom y n (o + indexHeaderLength)) e4
 
   pub entry-agree : (e : Entry) → EntryOk x e → EntryOk y e
   entry-agree e k =
@@ -112,16 +112,16 @@ module _ (x y : List ℕ) (g : Agree x y) where
 
   table-agree : (t : ℕ) → headerLength ≤ t → TableOk x t → TableOk y t
   table-agree t h k =
-      let head : t + 49 ≤ length x = k .head in
-      let f : (i n : ℕ) → i + n ≤ 49 → field x (t + i) n ≡ field y (t + i) n = λ i n b. field-rest (t + i) n (omega arith) (omega arith) in
+      let head : t + tableHeaderLength ≤ length x = k .head in
+      let f : (i n : ℕ) → i + n ≤ tableHeaderLength → field x (t + i) n ≡ field y (t + i) n = λ i n b. field-rest (t + i) n (omega arith) (omega arith) in
       let e25 : tableLength x t ≡ tableLength y t = f 25 8 (lit≤ tt) in
-      let ep : tablePayload x t ≡ tablePayload y t = part-rest (t + 49) (tableLength x t) (omega arith) (k .fits) ∙ ap (part y (t + 49)) e25 in
+      let ep : tablePayload x t ≡ tablePayload y t = part-rest (t + tableHeaderLength) (tableLength x t) (omega arith) (k .fits) ∙ ap (part y (t + tableHeaderLength)) e25 in
       record {
         head = le-trans head (g .longer);
         compression = sym (f 6 2 (lit≤ tt)) ∙ k .compression;
         type = sym (f 4 2 (lit≤ tt)) ∙ k .type;
         shift = rw (f 8 1 (lit≤ tt)) at (k .shift);
-        whole = sym e25 ∙ k .whole ∙ ap (λ n. 8 * n) (f 9 8 (lit≤ tt));
+        whole = sym e25 ∙ k .whole ∙ ap (λ n. tableEntryLength * n) (f 9 8 (lit≤ tt));
         unpacked = sym (f 17 8 (lit≤ tt)) ∙ k .unpacked ∙ e25;
         fits = le-trans (rw e25 at (k .fits)) (g .longer);
         cmpSum = ap crcOf (sym ep) ∙ k .cmpSum ∙ f 33 8 (lit≤ tt);
@@ -130,11 +130,11 @@ module _ (x y : List ℕ) (g : Agree x y) where
 
   pub item-agree : (b i : ℕ) → headerLength ≤ b → ItemOk x b i → ItemOk y b i
   item-agree b i h k =
-      let head : b + 36 ≤ length x = k .block .head in
-      let f : (j n : ℕ) → j + n ≤ 36 → field x (b + j) n ≡ field y (b + j) n = λ j n c. field-rest (b + j) n (omega arith) (omega arith) in
+      let head : b + blockHeaderLength ≤ length x = k .block .head in
+      let f : (j n : ℕ) → j + n ≤ blockHeaderLength → field x (b + j) n ≡ field y (b + j) n = λ j n c. field-rest (b + j) n (omega arith) (omega arith) in
       let e8 : sectorSize x b ≡ sectorSize y b = f 8 4 (lit≤ tt) in
       let e16 : blockLength x b ≡ blockLength y b = f 16 4 (lit≤ tt) in
-      let ep : blockPayload x b ≡ blockPayload y b = part-rest (b + 36) (blockLength x b) (omega arith) (k .block .fits) ∙ ap (part y (b + 36)) e16 in
+      let ep : blockPayload x b ≡ blockPayload y b = part-rest (b + blockHeaderLength) (blockLength x b) (omega arith) (k .block .fits) ∙ ap (part y (b + blockHeaderLength)) e16 in
       record {
         block =
             record {
@@ -157,11 +157,11 @@ module _ (x y : List ℕ) (g : Agree x y) where
   bytes-agree p h k =
       let b : ℕ = p .block .0 in
       let s : ℕ = sectorSize x b in
-      let head : b + 36 ≤ length x = k .block .head in
-      let fits : b + 36 + blockLength x b ≤ length x = k .block .fits in
+      let head : b + blockHeaderLength ≤ length x = k .block .head in
+      let fits : b + blockHeaderLength + blockLength x b ≤ length x = k .block .fits in
       let inside : p .item .0 * s + s ≤ blockLength x b = rw suc-mul at (le-trans (mul-le-mul-right s (k .item)) (div-mul-le-self (blockLength x b) s)) in
       let e : s ≡ sectorSize y b = field-rest (b + 8) 4 (omega arith) (omega arith) in
-      part-rest (b + 36 + p .item .0 * s) s (omega arith) (omega arith) ∙ ap (λ n. part y (b + 36 + p .item .0 * n) n) e
+      part-rest (b + blockHeaderLength + p .item .0 * s) s (omega arith) (omega arith) ∙ ap (λ n. part y (b + blockHeaderLength + p .item .0 * n) n) e
 
 -- ---- the opened image
 abbrev pub Low : ℕ → Type 0
@@ -197,7 +197,7 @@ module _ (x y : List ℕ) (g : Agree x y) (o : ℕ) (k : OpenOk x o) where
   unfolding opened openedAt
   opened-agree =
       let t : ℕ = tableAt x o in
-      let head : t + 49 ≤ length x = k .table .head in
+      let head : t + tableHeaderLength ≤ length x = k .table .head in
       let low : headerLength ≤ t = table-low in
       let e9 : field x (t + 9) 8 ≡ field y (t + 9) 8 = field-rest x y g (t + 9) 8 (omega arith) (omega arith) in
       let e8 : field x (t + 8) 1 ≡ field y (t + 8) 1 = field-rest x y g (t + 8) 1 (omega arith) (omega arith) in
@@ -207,11 +207,11 @@ module _ (x y : List ℕ) (g : Agree x y) (o : ℕ) (k : OpenOk x o) where
   unfolding opened openedAt tableEntry
   entry-same a h =
       let t : ℕ = tableAt x o in
-      let fits : t + 49 + field x (t + 25) 8 ≤ length x = k .table .fits in
+      let fits : t + tableHeaderLength + field x (t + 25) 8 ≤ length x = k .table .fits in
       let whole : field x (t + 25) 8 ≡ 8 * field x (t + 9) 8 = k .table .whole in
       let low : headerLength ≤ t = table-low in
       let h′ : a < field x (t + 9) 8 = h in
-      field-rest x y g (t + 49 + 8 * a) 8 (omega arith) (omega arith)
+      field-rest x y g (t + tableHeaderLength + tableEntryLength * a) 8 (omega arith) (omega arith)
 
   notWritten-agree : (a : ℕ) → a < opened x o .count → notWritten x (opened x o) a ≡ notWritten y (opened x o) a
   unfolding notWritten

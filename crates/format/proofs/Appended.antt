@@ -18,7 +18,7 @@ use Rattle.format.specs.declared.Entry.{Entry}
 use Rattle.format.specs.declared.Pointer.{Pointer}
 use Rattle.format.specs.Lists.{All, done, more, IsBytes, flat}
 use Rattle.format.specs.Refusals.{refusal, Answer, refused, accepted}
-use Rattle.format.specs.Layouts.{DBLK, DDT*, CKSM, tag, headerLength, entries, indexBytes, sectorSize, blockLength, tableBytes, decode, encode}
+use Rattle.format.specs.Layouts.{DBLK, DDT*, CKSM, tag, headerLength, entries, indexBytes, sectorSize, blockLength, tableBytes, decode, encode, tableHeaderLength, blockHeaderLength, tableEntryLength}
 use Rattle.format.specs.Opening.{offsetsOf, first, tableAt, Opened, openedAt, opened}
 use Rattle.format.specs.Reading.{tableEntry, notWritten, pointerAt, has, placeOf, itemBytes, readAt}
 use Rattle.format.specs.Writing.{largestSize, longestBuffer}
@@ -56,7 +56,7 @@ encode-pos s p h e =
 -- ---- the new block: item j of it
 record NewItem (y : List ℕ) (b : ℕ) (items : List (List ℕ)) (j : ℕ) : Type 0 where
   identified : Identified y b DBLK
-  fits : b + 36 ≤ length y
+  fits : b + blockHeaderLength ≤ length y
   item : ItemOk y b j
   bytes : itemBytes y (itemOf b j) ≡ getD items j []
   named : has b (offsetsOf DBLK (newBlockEntry b items)) ≡ true
@@ -76,7 +76,7 @@ new-item y b size (s ∷ ss) sz h pos small long j k = made
     whole : length payload ≡ length items * size
     whole = length-flat size items sz
 
-    f : b + (36 + length payload) ≤ length y
+    f : b + (blockHeaderLength + length payload) ≤ length y
     f = subst (λ n. b + n ≤ length y) (length-blockBytes size payload) (h .fits)
 
     short : length payload < 256 ^ 4
@@ -85,8 +85,8 @@ new-item y b size (s ∷ ss) sz h pos small long j k = made
     es : sectorSize y b ≡ size
     es = block-size y b size (length items) payload h pos small whole short
 
-    hi : Holds y (b + 36 + j * size) (getD items j [])
-    hi = holds-piece y size items sz (b + 36) (block-items y b size (length items) payload h pos small whole short) j k
+    hi : Holds y (b + blockHeaderLength + j * size) (getD items j [])
+    hi = holds-piece y size items sz (b + blockHeaderLength) (block-items y b size (length items) payload h pos small whole short) j k
 
     ln : length (getD items j []) ≡ size
     ln = all-get [] sz j k
@@ -100,7 +100,7 @@ new-item y b size (s ∷ ss) sz h pos small long j k = made
           identified = block-identified y b size (length items) payload h pos small whole short;
           fits = omega (arith, f);
           item = item-written y b size (length items) payload h pos small whole short j k;
-          bytes = ap (λ n. part y (b + 36 + j * n) n) es ∙ ap (part y (b + 36 + j * size)) (sym ln) ∙ holds-all y (b + 36 + j * size) (getD items j []) hi;
+          bytes = ap (λ n. part y (b + blockHeaderLength + j * n) n) es ∙ ap (part y (b + blockHeaderLength + j * size)) (sym ln) ∙ holds-all y (b + blockHeaderLength + j * size) (getD items j []) hi;
           named = ap (has b) (offsets-yes DBLK e [] (user-data-true DBLK e (record { type = refl; userData = refl }))) ∙ has-head b b _ refl;
         }
 
@@ -204,7 +204,7 @@ module _ (x : List ℕ) (o : ℕ) (addresses : List ℕ) (size : ℕ) (sectors :
         let p : Pointer = pointerAt x (opened x o) a in
         let b : ℕ = p .block .0 in
         let low : headerLength ≤ b = block-low x o (s .opens) b (k .named) in
-        let fits : b + 36 + blockLength x b ≤ length x = k .item .block .fits in
+        let fits : b + blockHeaderLength + blockLength x b ≤ length x = k .item .block .fits in
         let i : p .item .0 < blockLength x b / sectorSize x b = k .item .item in
         let d : blockLength x b / sectorSize x b ≤ blockLength x b = div-le-self _ _ in
         let l : length x ≤ length y = g .longer in
@@ -220,7 +220,7 @@ module _ (x : List ℕ) (o : ℕ) (addresses : List ℕ) (size : ℕ) (sectors :
     new-points : (i : ℕ) (sector : List ℕ) → i < length items → getD items i [] ≡ sector → Points y newEntries sector (itemOf (length x) i)
     new-points i sector j q =
         let n : NewItem y (length x) items i = new-item y (length x) size items items-sized hb pos small long i j in
-        let fits : length x + 36 + blockLength y (length x) ≤ length y = n .item .block .fits in
+        let fits : length x + blockHeaderLength + blockLength y (length x) ≤ length y = n .item .block .fits in
         let b : i < blockLength y (length x) / sectorSize y (length x) = n .item .item in
         let v : blockLength y (length x) / sectorSize y (length x) ≤ blockLength y (length x) = div-le-self _ _ in
         record {
@@ -282,22 +282,22 @@ module _ (x : List ℕ) (o : ℕ) (addresses : List ℕ) (size : ℕ) (sectors :
     unfolding shiftFor
     shift-holds = shift-fits 64 0 (largestItem pointers) (lt-of-lt-of-le largest-below (lit≤ tt))
 
-    entries-sized : (l : List (Option Pointer)) → All (Sized 8) (map (tableEntryBytes shift) l)
+    entries-sized : (l : List (Option Pointer)) → All (Sized tableEntryLength) (map (tableEntryBytes shift) l)
     unfolding tableEntryBytes
     entries-sized [] = done
     entries-sized (none ∷ l) = more (length-toLe 8 0) (entries-sized l)
     entries-sized (some p ∷ l) = more (length-toLe 8 (encode shift p)) (entries-sized l)
 
-    payload-whole : length payload ≡ 8 * length pointers
+    payload-whole : length payload ≡ tableEntryLength * length pointers
     payload-whole =
-        let a = length-flat 8 (map (tableEntryBytes shift) pointers) (entries-sized pointers) in
+        let a = length-flat tableEntryLength (map (tableEntryBytes shift) pointers) (entries-sized pointers) in
         let b = length-map pointers (tableEntryBytes shift) in
         omega arith
 
     payload-short : length payload < 256 ^ 8
     payload-short = omega (arith, ht .fits, length-tableBytes shift (length pointers) payload)
 
-    table-fits : tableStart + 49 ≤ length y
+    table-fits : tableStart + tableHeaderLength ≤ length y
     table-fits = omega (arith, ht .fits, length-tableBytes shift (length pointers) payload)
 
     -- ---- the index
@@ -401,17 +401,17 @@ module _ (x : List ℕ) (o : ℕ) (addresses : List ℕ) (size : ℕ) (sectors :
     abbrev newPtr : ℕ → Option Pointer
     newPtr a = newPointer x (opened x o) addresses ps a
 
-    pointer-holds : (a : ℕ) → a < opened x o .count → Holds y (tableStart + 49 + 8 * a) (tableEntryBytes shift (newPtr a))
+    pointer-holds : (a : ℕ) → a < opened x o .count → Holds y (tableStart + tableHeaderLength + tableEntryLength * a) (tableEntryBytes shift (newPtr a))
     pointer-holds a k =
-        let hp : Holds y (tableStart + 49) payload = table-entries y tableStart shift (length pointers) payload ht shift-small payload-whole payload-short in
+        let hp : Holds y (tableStart + tableHeaderLength) payload = table-entries y tableStart shift (length pointers) payload ht shift-small payload-whole payload-short in
         let lm : length (map (tableEntryBytes shift) pointers) ≡ length pointers = length-map pointers (tableEntryBytes shift) in
         let lp : length pointers ≡ opened x o .count = length-pointers in
-        let hj : Holds y (tableStart + 49 + a * 8) (getD (map (tableEntryBytes shift) pointers) a []) =
-        holds-piece y 8 (map (tableEntryBytes shift) pointers) (entries-sized pointers) (tableStart + 49) hp a (omega arith) in
+        let hj : Holds y (tableStart + tableHeaderLength + a * tableEntryLength) (getD (map (tableEntryBytes shift) pointers) a []) =
+        holds-piece y tableEntryLength (map (tableEntryBytes shift) pointers) (entries-sized pointers) (tableStart + tableHeaderLength) hp a (omega arith) in
         let e : getD (map (tableEntryBytes shift) pointers) a [] ≡ tableEntryBytes shift (newPtr a) =
         getD-map (tableEntryBytes shift) pointers a none [] (omega arith) ∙ ap (tableEntryBytes shift) (pointer-at a k) in
-        let c : tableStart + 49 + a * 8 ≡ tableStart + 49 + 8 * a = omega arith in
-        subst (λ n. Holds y n (tableEntryBytes shift (newPtr a))) c (subst (Holds y (tableStart + 49 + a * 8)) e hj)
+        let c : tableStart + tableHeaderLength + a * tableEntryLength ≡ tableStart + tableHeaderLength + tableEntryLength * a = omega arith in
+        subst (λ n. Holds y n (tableEntryBytes shift (newPtr a))) c (subst (Holds y (tableStart + tableHeaderLength + a * tableEntryLength)) e hj)
 
     item-fits : (a : ℕ) → a < opened x o .count → itemOrZero (newPtr a) < 2 ^ shift
     item-fits a k =
@@ -428,7 +428,7 @@ module _ (x : List ℕ) (o : ℕ) (addresses : List ℕ) (size : ℕ) (sectors :
     unfolding tableEntry pointerAt tableEntryBytes itemOrZero
     reads-inside a k = go (newPtr a) (expected a) (gets a k) (pointer-holds a k) (item-fits a k)
       where
-        go : (u : Option Pointer) (v : Answer (List ℕ)) → Gets y newEntries u v → Holds y (tableStart + 49 + 8 * a) (tableEntryBytes shift u) → itemOrZero u < 2 ^ shift → Reads a v
+        go : (u : Option Pointer) (v : Answer (List ℕ)) → Gets y newEntries u v → Holds y (tableStart + tableHeaderLength + tableEntryLength * a) (tableEntryBytes shift u) → itemOrZero u < 2 ^ shift → Reads a v
         go _ _ nothing hl il = inl (entry-zero y newOpened a (holds-number y _ 8 0 hl (lit< tt)), refl)
         go _ _ (stands {p = p} {sector = d} q) hl il =
             let n : tableEntry y newOpened a ≡ encode shift p = holds-number y _ 8 (encode shift p) hl (encode-lt shift p shift-small (q .block) il) in

@@ -1,21 +1,25 @@
 -- Lists of bytes: their fields fit, and what is written is bytes again.
+use mathlib.Core.Bool.{Bool, true}
 use mathlib.Core.List.{List, [], _∷_, _++_, map}
 use mathlib.Core.Option.{Option, none, some}
+use mathlib.Core.Path.{_≡_, refl}
 use Prim.Native.Nat.{ℕ, zero, suc, _+_, _*_, _/_, _≤_, _<_}
 use native.Mathlib.Nat.{mod-lt, zero-lt-suc}
 use lib.Dec.{lit<}
 use lib.ListN.{length, getD}
 use Rattle.fields.specs.Bytes.{toLe, overwrite}
-use Rattle.fields.specs.Layout.{layout}
+use Rattle.fields.specs.Layout.{Field, num, raw, layout}
 use Rattle.fields.proofs.Numbers.{field-lt}
 use Rattle.fields.proofs.Overwrite.{overwrite-split}
 use Rattle.format.specs.declared.Entry.{Entry}
 use Rattle.format.specs.declared.Pointer.{Pointer}
+use Rattle.format.specs.Tests.{below, _and_}
 use Rattle.format.specs.Lists.{All, done, more, IsBytes, flat}
-use Rattle.format.specs.Layouts.{headerBytes, entryAt, entriesFrom, entryBytes, indexHeader, indexBytes, blockHeader, blockBytes, tableHeader, tableBytes, encode}
+use Rattle.format.specs.Layouts.{AARUFRMT, IDX2, DBLK, DDT*, entryLength, tableEntryLength, headerBytes, entryAt, entriesFrom, entryBytes, indexHeader, indexBytes, blockHeader, blockBytes, tableHeader, tableBytes, encode}
 use Rattle.format.specs.Opening.{opened}
 use Rattle.format.specs.Creating.{createdEntries, createdBytes}
 use Rattle.format.specs.Committing.{pieces, largestItem, shiftFor, tableEntryBytes, newTable, newBlock, appendedFor, storedFor, appended}
+use Rattle.format.proofs.Tests.{below-on, and-on}
 use Rattle.format.proofs.Lists.{all-append, all-take, all-drop, all-replicate, all-flat}
 use Rattle.format.proofs.Written.{EntryFits}
 use Rattle.format.proofs.Storing.{pieces-all, stored-ok}
@@ -32,7 +36,7 @@ entries-fit x h zero p = done
 entries-fit x h (suc k) p =
     more
     (record { blockType = field-lt x p 4 (bytes-get h); dataType = field-lt x (p + 4) 4 (bytes-get h); offset = field-lt x (p + 8) 8 (bytes-get h) })
-    (entries-fit x h k (p + 16))
+    (entries-fit x h k (p + entryLength))
 
 -- ---- what is written over bytes
 pub bytes-overwrite : (l : List ℕ) (at : ℕ) (new : List ℕ) → at + length new ≤ length l → IsBytes l → IsBytes new → IsBytes (overwrite l at new)
@@ -43,53 +47,52 @@ unfolding toLe
 bytes-toLe zero v = done
 bytes-toLe (suc k) v = more (mod-lt v (zero-lt-suc 255)) (bytes-toLe k (v / 256))
 
--- ---- letters
-four : (a b c d : ℕ) → a < 256 → b < 256 → c < 256 → d < 256 → IsBytes (a ∷ b ∷ c ∷ d ∷ [])
-four a b c d p q r s = more p (more q (more r (more s done)))
+-- ---- records: their numbers are bytes by themselves
+allBytes : List ℕ → Bool
+allBytes [] = true
+allBytes (b ∷ bs) = below b 256 and allBytes bs
 
--- ---- records
+is-bytes : (l : List ℕ) → allBytes l ≡ true → IsBytes l
+unfolding allBytes
+is-bytes [] h = done
+is-bytes (b ∷ bs) h = let r = and-on _ _ h in more (below-on _ _ (r .0)) (is-bytes bs (r .1))
+
+abbrev RawBytes : List Field → Type 0
+RawBytes [] = Unit {0}
+RawBytes (num k v ∷ fs) = RawBytes fs
+RawBytes (raw bytes ∷ fs) = IsBytes bytes × RawBytes fs
+
+bytes-layout : (fs : List Field) → RawBytes fs → IsBytes (layout fs)
+unfolding layout
+bytes-layout [] h = done
+bytes-layout (num k v ∷ fs) h = all-append (bytes-toLe k v) (bytes-layout fs h)
+bytes-layout (raw bytes ∷ fs) h = all-append (h .0) (bytes-layout fs (h .1))
+
 module _ (payload : List ℕ) (h : IsBytes payload) where
-  pub bytes-table : (shift count : ℕ) → IsBytes (tableBytes shift count payload)
-  unfolding tableBytes tableHeader layout
-  bytes-table shift count =
-      all-append
-      (all-append (four 68 68 84 42 (lit< tt) (lit< tt) (lit< tt) (lit< tt))
-      (all-append (bytes-toLe 2 1) (all-append (bytes-toLe 2 0) (all-append (bytes-toLe 1 _) (all-append (bytes-toLe 8 _) (all-append (bytes-toLe 8 _)
-      (all-append (bytes-toLe 8 _) (all-append (bytes-toLe 8 _) (all-append (bytes-toLe 8 _) done)))))))))
-      h
+  bytes-table : (shift count : ℕ) → IsBytes (tableBytes shift count payload)
+  unfolding tableBytes tableHeader allBytes below _and_
+  bytes-table shift count = all-append (bytes-layout _ (is-bytes DDT* refl, tt)) h
 
   bytes-block : (size : ℕ) → IsBytes (blockBytes size payload)
-  unfolding blockBytes blockHeader layout
-  bytes-block size =
-      all-append
-      (all-append (four 68 66 76 75 (lit< tt) (lit< tt) (lit< tt) (lit< tt))
-      (all-append (bytes-toLe 2 1) (all-append (bytes-toLe 2 0) (all-append (bytes-toLe 4 _) (all-append (bytes-toLe 4 _) (all-append (bytes-toLe 4 _)
-      (all-append (bytes-toLe 8 _) (all-append (bytes-toLe 8 _) done))))))))
-      h
+  unfolding blockBytes blockHeader allBytes below _and_
+  bytes-block size = all-append (bytes-layout _ (is-bytes DBLK refl, tt)) h
 
 bytes-entries : (es : List Entry) → All IsBytes (map entryBytes es)
-unfolding entryBytes layout
+unfolding entryBytes
 bytes-entries [] = done
-bytes-entries (e ∷ es) =
-    more (all-append (bytes-toLe 4 (e .blockType)) (all-append (bytes-toLe 4 (e .dataType)) (all-append (bytes-toLe 8 (e .offset .0)) done))) (bytes-entries es)
+bytes-entries (e ∷ es) = more (bytes-layout _ tt) (bytes-entries es)
 
-pub bytes-index : (es : List Entry) → IsBytes (indexBytes es)
-unfolding indexBytes indexHeader layout
-bytes-index es =
-    all-append (all-append (four 73 68 88 50 (lit< tt) (lit< tt) (lit< tt) (lit< tt)) (all-append (bytes-toLe 8 _) (all-append (bytes-toLe 8 _) done)))
-    (all-flat (bytes-entries es))
+bytes-index : (es : List Entry) → IsBytes (indexBytes es)
+unfolding indexBytes indexHeader allBytes below _and_
+bytes-index es = all-append (bytes-layout _ (is-bytes IDX2 refl, tt)) (all-flat (bytes-entries es))
 
 -- ---- a new image
 pub bytes-created : (count : ℕ) (application : List ℕ) → IsBytes application → (major minor mediaType creationTime lastWrittenTime : ℕ)
     → IsBytes (createdBytes count application major minor mediaType creationTime lastWrittenTime)
-unfolding createdBytes headerBytes layout
+unfolding createdBytes headerBytes allBytes below _and_
 bytes-created count application h major minor mediaType creationTime lastWrittenTime =
-    all-append
-    (all-append (all-append (four 65 65 82 85 (lit< tt) (lit< tt) (lit< tt) (lit< tt)) (four 70 82 77 84 (lit< tt) (lit< tt) (lit< tt) (lit< tt)))
-    (all-append h
-    (all-append (bytes-toLe 1 2) (all-append (bytes-toLe 1 0) (all-append (bytes-toLe 1 major) (all-append (bytes-toLe 1 minor) (all-append (bytes-toLe 4 mediaType)
-    (all-append (bytes-toLe 8 _) (all-append (bytes-toLe 8 creationTime) (all-append (bytes-toLe 8 lastWrittenTime) done))))))))))
-    (all-append (bytes-table _ (all-replicate (8 * count) 0 (lit< tt)) 0 count) (bytes-index createdEntries))
+    all-append (bytes-layout _ (is-bytes AARUFRMT refl, (h, tt)))
+    (all-append (bytes-table _ (all-replicate (tableEntryLength * count) 0 (lit< tt)) 0 count) (bytes-index createdEntries))
 
 -- ---- what a commit appends
 bytes-pointers : (shift : ℕ) (ps : List (Option Pointer)) → All IsBytes (map (tableEntryBytes shift) ps)

@@ -15,7 +15,7 @@ use Rattle.format.specs.declared.Entry.{Entry}
 use Rattle.format.specs.declared.Placed.{Placed}
 use Rattle.format.specs.Lists.{All, done, more, IsBytes}
 use Rattle.format.specs.Refusals.{accepted}
-use Rattle.format.specs.Layouts.{AARUFRMT, DDT*, tag, headerLength, applicationLength, imageMajorAt, indexOffsetAt, indexOffset, headerBytes, entries, indexBytes, tableCount, tableBytes}
+use Rattle.format.specs.Layouts.{AARUFRMT, DDT*, tag, headerLength, applicationLength, imageMajorAt, indexOffsetAt, indexOffset, headerBytes, entries, indexBytes, tableCount, tableBytes, tableHeaderLength, tableEntryLength}
 use Rattle.format.specs.Opening.{offsetsOf, first, tableAt, openedAt, opened}
 use Rattle.format.specs.Reading.{tableEntry, notWritten}
 use Rattle.format.specs.Writing.{mostSectors, longestBuffer}
@@ -42,13 +42,13 @@ module _ (count : ℕ) (application : List ℕ) (major minor mediaType creationT
   header = headerBytes application major minor mediaType (createdIndexAt count) creationTime lastWrittenTime
 
   abbrev zeros : List ℕ
-  zeros = replicate (8 * count) 0
+  zeros = replicate (tableEntryLength * count) 0
 
   abbrev table : List ℕ
   table = tableBytes 0 count zeros
 
-  length-zeros : length zeros ≡ 8 * count
-  length-zeros = length-replicate {A = ℕ} (8 * count) 0
+  length-zeros : length zeros ≡ tableEntryLength * count
+  length-zeros = length-replicate {A = ℕ} (tableEntryLength * count) 0
 
   length-header : length header ≡ headerLength
   unfolding headerBytes
@@ -81,7 +81,7 @@ module _ (count : ℕ) (application : List ℕ) (major minor mediaType creationT
     h-index : Holds y o (indexBytes createdEntries)
     unfolding createdIndexAt
     h-index =
-        let e : headerLength + length table ≡ headerLength + 49 + 8 * count = omega (arith, length-tableBytes 0 count zeros, length-zeros) in
+        let e : headerLength + length table ≡ headerLength + tableHeaderLength + tableEntryLength * count = omega (arith, length-tableBytes 0 count zeros, length-zeros) in
         subst (λ n. Holds y n (indexBytes createdEntries)) e (holds-right y headerLength table (indexBytes createdEntries) h-rest)
 
     y-long : createdUsed count ≤ length y
@@ -158,11 +158,11 @@ module _ (count : ℕ) (application : List ℕ) (major minor mediaType creationT
     nothing-written : (a : ℕ) → a < count → notWritten y (opened y o) a ≡ true
     unfolding notWritten opened openedAt tableEntry field part
     nothing-written a k =
-        let hp : Holds y (headerLength + 49) zeros = table-entries y headerLength 0 count zeros h-table zero-le length-zeros short in
-        let e : part y (headerLength + 49 + 8 * a) 8 ≡ part zeros (8 * a) 8 = holds-part y (headerLength + 49) zeros hp (8 * a) 8 (omega (arith, length-zeros)) in
+        let hp : Holds y (headerLength + tableHeaderLength) zeros = table-entries y headerLength 0 count zeros h-table zero-le length-zeros short in
+        let e : part y (headerLength + tableHeaderLength + tableEntryLength * a) 8 ≡ part zeros (tableEntryLength * a) 8 = holds-part y (headerLength + tableHeaderLength) zeros hp (tableEntryLength * a) 8 (omega (arith, length-zeros)) in
         same-true _ _
-        (ap (λ (t : ℕ). fromLe (part y (t + 49 + 8 * a) 8)) tableAt-new ∙ ap fromLe e
-        ∙ fromLe-zeros _ (all-take _ (all-drop _ (all-replicate (8 * count) 0 refl) (8 * a)) 8))
+        (ap (λ (t : ℕ). fromLe (part y (t + tableHeaderLength + tableEntryLength * a) 8)) tableAt-new ∙ ap fromLe e
+        ∙ fromLe-zeros _ (all-take _ (all-drop _ (all-replicate (tableEntryLength * count) 0 refl) (tableEntryLength * a)) 8))
 
     pub created-sound : Sound y o
     created-sound = record { opens = opens; sectors = λ a k. inl (nothing-written a (rw count-new at k)) }

@@ -14,7 +14,7 @@ use Rattle.fields.proofs.Holds.{Holds, holds-all, holds-left, holds-right}
 use Rattle.fields.proofs.Records.{length-layout, holds-num, holds-raw}
 use Rattle.format.specs.declared.Entry.{Entry}
 use Rattle.format.specs.Lists.{All, done, more, flat}
-use Rattle.format.specs.Layouts.{IDX2, DBLK, DDT*, tag, headerLength, entryCount, entryAt, entriesFrom, entries, entryBytes, indexHeader, indexBytes, sectorSize, blockLength, blockPayload, blockHeader, blockBytes, tableShift, tableCount, tableLength, tablePayload, tableHeader, tableBytes}
+use Rattle.format.specs.Layouts.{IDX2, DBLK, DDT*, tag, headerLength, entryCount, entryAt, entriesFrom, entries, entryBytes, indexHeader, indexBytes, sectorSize, blockLength, blockPayload, blockHeader, blockBytes, tableShift, tableCount, tableLength, tablePayload, tableHeader, tableBytes, tableHeaderLength, blockHeaderLength, indexHeaderLength, entryLength, tableEntryLength}
 use Rattle.format.specs.Writing.{largestSize}
 use Rattle.format.specs.Facts.{Identified, IndexOk, TableOk, ItemOk}
 use Rattle.format.proofs.Lists.{Sized, length-flat}
@@ -32,13 +32,13 @@ holds-piece y n _ (more {a = l} {l = ls} e es) p h (suc j) k =
     rw z (holds-piece y n ls es (p + length l) (holds-right y p l (flat ls) h) j (le-of-suc-le-suc k))
 
 -- ---- table
-pub length-tableBytes : (s c : ℕ) (payload : List ℕ) → length (tableBytes s c payload) ≡ 49 + length payload
+pub length-tableBytes : (s c : ℕ) (payload : List ℕ) → length (tableBytes s c payload) ≡ tableHeaderLength + length payload
 unfolding tableBytes tableHeader
 length-tableBytes s c payload = simp (length-append, length-layout) (omega arith)
 
-module _ (y : List ℕ) (t s c : ℕ) (payload : List ℕ) (h : Holds y t (tableBytes s c payload)) (small : s ≤ 32) (whole : length payload ≡ 8 * c)
+module _ (y : List ℕ) (t s c : ℕ) (payload : List ℕ) (h : Holds y t (tableBytes s c payload)) (small : s ≤ 32) (whole : length payload ≡ tableEntryLength * c)
     (long : length payload < 256 ^ 8) where
-  table-len : length (tableBytes s c payload) ≡ 49 + length payload
+  table-len : length (tableBytes s c payload) ≡ tableHeaderLength + length payload
   table-len = length-tableBytes s c payload
 
   pub table-identified : Identified y t DDT*
@@ -57,10 +57,10 @@ module _ (y : List ℕ) (t s c : ℕ) (payload : List ℕ) (h : Holds y t (table
   unfolding tableBytes tableHeader
   table-length = holds-num y t _ _ h 6 8 (length payload) (lit< tt) refl long
 
-  pub table-entries : Holds y (t + 49) payload
+  pub table-entries : Holds y (t + tableHeaderLength) payload
   unfolding tableBytes tableHeader
   table-entries =
-      let e : t + length (tableHeader s c payload) ≡ t + 49 = simp length-layout in
+      let e : t + length (tableHeader s c payload) ≡ t + tableHeaderLength = simp length-layout in
       subst (λ n. Holds y n payload) e (holds-right y t (tableHeader s c payload) payload h)
 
   pub table-written : TableOk y t
@@ -68,13 +68,13 @@ module _ (y : List ℕ) (t s c : ℕ) (payload : List ℕ) (h : Holds y t (table
   table-written =
       let f : t + length (tableBytes s c payload) ≤ length y = h .fits in
       let en : tableLength y t ≡ length payload = table-length in
-      let ep : crcOf (tablePayload y t) ≡ crcOf payload = ap crcOf (ap (part y (t + 49)) en ∙ holds-all y (t + 49) payload table-entries) in
+      let ep : crcOf (tablePayload y t) ≡ crcOf payload = ap crcOf (ap (part y (t + tableHeaderLength)) en ∙ holds-all y (t + tableHeaderLength) payload table-entries) in
       record {
         head = omega (arith, table-len);
         compression = holds-num y t _ _ h 2 2 0 (lit< tt) refl (lit< tt);
         type = holds-num y t _ _ h 1 2 1 (lit< tt) refl (lit< tt);
         shift = rw table-shift small;
-        whole = en ∙ whole ∙ ap (λ n. 8 * n) (sym table-count);
+        whole = en ∙ whole ∙ ap (λ n. tableEntryLength * n) (sym table-count);
         unpacked = holds-num y t _ _ h 5 8 (length payload) (lit< tt) refl long ∙ sym en;
         fits = rw en (omega (arith, table-len));
         cmpSum = ep ∙ sym (holds-num y t _ _ h 7 8 (crcOf payload) (lit< tt) refl (crcOf-lt payload));
@@ -82,13 +82,13 @@ module _ (y : List ℕ) (t s c : ℕ) (payload : List ℕ) (h : Holds y t (table
       }
 
 -- ---- block
-pub length-blockBytes : (size : ℕ) (payload : List ℕ) → length (blockBytes size payload) ≡ 36 + length payload
+pub length-blockBytes : (size : ℕ) (payload : List ℕ) → length (blockBytes size payload) ≡ blockHeaderLength + length payload
 unfolding blockBytes blockHeader
 length-blockBytes size payload = simp (length-append, length-layout) (omega arith)
 
 module _ (y : List ℕ) (b size k : ℕ) (payload : List ℕ) (h : Holds y b (blockBytes size payload)) (pos : size ≢ 0) (small : size ≤ largestSize)
     (whole : length payload ≡ k * size) (long : length payload < 256 ^ 4) where
-  block-len : length (blockBytes size payload) ≡ 36 + length payload
+  block-len : length (blockBytes size payload) ≡ blockHeaderLength + length payload
   block-len = length-blockBytes size payload
 
   pub block-identified : Identified y b DBLK
@@ -103,10 +103,10 @@ module _ (y : List ℕ) (b size k : ℕ) (payload : List ℕ) (h : Holds y b (bl
   unfolding blockBytes blockHeader
   block-length = holds-num y b _ _ h 5 4 (length payload) (lit< tt) refl long
 
-  pub block-items : Holds y (b + 36) payload
+  pub block-items : Holds y (b + blockHeaderLength) payload
   unfolding blockBytes blockHeader
   block-items =
-      let e : b + length (blockHeader size payload) ≡ b + 36 = simp length-layout in
+      let e : b + length (blockHeader size payload) ≡ b + blockHeaderLength = simp length-layout in
       subst (λ n. Holds y n payload) e (holds-right y b (blockHeader size payload) payload h)
 
   pub item-written : (i : ℕ) → i < k → ItemOk y b i
@@ -115,7 +115,7 @@ module _ (y : List ℕ) (b size k : ℕ) (payload : List ℕ) (h : Holds y b (bl
       let f : b + length (blockBytes size payload) ≤ length y = h .fits in
       let en : blockLength y b ≡ length payload = block-length in
       let es : sectorSize y b ≡ size = block-size in
-      let ep : crcOf (blockPayload y b) ≡ crcOf payload = ap crcOf (ap (part y (b + 36)) en ∙ holds-all y (b + 36) payload block-items) in
+      let ep : crcOf (blockPayload y b) ≡ crcOf payload = ap crcOf (ap (part y (b + blockHeaderLength)) en ∙ holds-all y (b + blockHeaderLength) payload block-items) in
       let pos′ : 0 < size = omega arith in
       record {
         block = record {
@@ -138,18 +138,18 @@ pub record EntryFits (e : Entry) : Type 0 where
   pub dataType : e .dataType < 256 ^ 4
   pub offset : e .offset .0 < 256 ^ 8
 
-length-entryBytes : (e : Entry) → length (entryBytes e) ≡ 16
+length-entryBytes : (e : Entry) → length (entryBytes e) ≡ entryLength
 unfolding entryBytes
 length-entryBytes e = simp length-layout
 
-entryBytes-sized : (es : List Entry) → All (Sized 16) (map entryBytes es)
+entryBytes-sized : (es : List Entry) → All (Sized entryLength) (map entryBytes es)
 entryBytes-sized [] = done
 entryBytes-sized (e ∷ es) = more (length-entryBytes e) (entryBytes-sized es)
 
-length-payload : (es : List Entry) → length (flat (map entryBytes es)) ≡ 16 * length es
-length-payload es = let e = length-flat 16 (map entryBytes es) (entryBytes-sized es) in let l = length-map es entryBytes in omega arith
+length-payload : (es : List Entry) → length (flat (map entryBytes es)) ≡ entryLength * length es
+length-payload es = let e = length-flat entryLength (map entryBytes es) (entryBytes-sized es) in let l = length-map es entryBytes in omega arith
 
-pub length-indexBytes : (es : List Entry) → length (indexBytes es) ≡ 20 + 16 * length es
+pub length-indexBytes : (es : List Entry) → length (indexBytes es) ≡ indexHeaderLength + entryLength * length es
 unfolding indexBytes indexHeader
 length-indexBytes es = simp (length-append, length-layout) (omega (arith, length-payload es))
 
@@ -168,41 +168,41 @@ entries-written y p _ done h = refl
 entries-written y p _ (more {a = e} {l = es} k ks) h =
     let rest : List ℕ = flat (map entryBytes es) in
     let h1 : Holds y p (entryBytes e) = holds-left y p (entryBytes e) rest h in
-    let h2 : Holds y (p + 16) rest = subst (λ n. Holds y (p + n) rest) (length-entryBytes e) (holds-right y p (entryBytes e) rest h) in
-    λ i. entry-written y p e k h1 i ∷ entries-written y (p + 16) es ks h2 i
+    let h2 : Holds y (p + entryLength) rest = subst (λ n. Holds y (p + n) rest) (length-entryBytes e) (holds-right y p (entryBytes e) rest h) in
+    λ i. entry-written y p e k h1 i ∷ entries-written y (p + entryLength) es ks h2 i
 
 module _ (y : List ℕ) (o : ℕ) (es : List Entry) (h : Holds y o (indexBytes es)) (low : headerLength ≤ o) (fit : All EntryFits es) (few : length es < 256 ^ 8) where
   abbrev payload : List ℕ
   payload = flat (map entryBytes es)
 
-  index-len : length (indexBytes es) ≡ 20 + 16 * length es
+  index-len : length (indexBytes es) ≡ indexHeaderLength + entryLength * length es
   index-len = length-indexBytes es
 
   index-count : entryCount y o ≡ length es
   unfolding indexBytes indexHeader entryCount
   index-count = holds-num y o _ _ h 1 8 (length es) (lit< tt) refl few
 
-  index-payload : Holds y (o + 20) payload
+  index-payload : Holds y (o + indexHeaderLength) payload
   unfolding indexBytes indexHeader
   index-payload =
-      let e : o + length (indexHeader (length es) payload) ≡ o + 20 = simp length-layout in
+      let e : o + length (indexHeader (length es) payload) ≡ o + indexHeaderLength = simp length-layout in
       subst (λ n. Holds y n payload) e (holds-right y o (indexHeader (length es) payload) payload h)
 
   pub index-entries : entries y o ≡ es
   unfolding entries
-  index-entries = ap (λ n. entriesFrom y n (o + 20)) index-count ∙ entries-written y (o + 20) es fit index-payload
+  index-entries = ap (λ n. entriesFrom y n (o + indexHeaderLength)) index-count ∙ entries-written y (o + indexHeaderLength) es fit index-payload
 
   pub index-written : IndexOk y o
   unfolding Identified indexBytes indexHeader tag
   index-written =
       let f : o + length (indexBytes es) ≤ length y = h .fits in
       let en : entryCount y o ≡ length es = index-count in
-      let lp : length payload ≡ 16 * length es = length-payload es in
+      let lp : length payload ≡ entryLength * length es = length-payload es in
       record {
         low = low;
         head = omega (arith, index-len);
         identifier = holds-raw y o IDX2 _ _ h;
         fits = rw en (omega (arith, index-len));
-        sum = ap crcOf (ap (λ n. part y (o + 20) (16 * n)) en ∙ ap (part y (o + 20)) (sym lp) ∙ holds-all y (o + 20) payload index-payload)
+        sum = ap crcOf (ap (λ n. part y (o + indexHeaderLength) (entryLength * n)) en ∙ ap (part y (o + indexHeaderLength)) (sym lp) ∙ holds-all y (o + indexHeaderLength) payload index-payload)
             ∙ sym (holds-num y o _ _ h 2 8 (crcOf payload) (lit< tt) refl (crcOf-lt payload));
       }
