@@ -1,3 +1,4 @@
+-- `cases::bytes_line` is safe and ends. Assumes nothing.
 use Prim.Native.Nat.{_≤_, _-_}
 use native.Mathlib.Omega.{arith}
 use Rattle.cases.proofs.bytes_line.Statement.{statement}

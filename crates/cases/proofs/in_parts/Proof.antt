@@ -1,3 +1,4 @@
+-- `cases::in_parts` meets its contract: each part ends inside the bytes and is not empty. Assumes nothing.
 use Prim.Native.Nat.{_≤_, _-_}
 use native.Mathlib.Omega.{arith}
 use lib.ListN.{length}
