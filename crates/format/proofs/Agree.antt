@@ -15,16 +15,15 @@ use Rattle.fields.proofs.Overwrite.{part-alike}
 use Rattle.format.specs.declared.Entry.{Entry}
 use Rattle.format.specs.declared.Pointer.{Pointer}
 use Rattle.format.specs.Lists.{All}
-use Rattle.format.specs.Refusals.{refusal, refused, accepted}
+use Rattle.format.specs.Refusals.{accepted}
 use Rattle.format.specs.Tests.{below, same}
 use Rattle.format.specs.Layouts.{DBLK, DDT*, headerLength, imageMajorAt, indexOffsetAt, entryCount, entryAt, entriesFrom, entries, blockLength, sectorSize, blockPayload, tableLength, tablePayload, decode, tableHeaderLength, blockHeaderLength, indexHeaderLength, entryLength, tableEntryLength}
 use Rattle.format.specs.Opening.{offsetsOf, first, tableAt, Opened, openedAt, opened}
-use Rattle.format.specs.Reading.{tableEntry, notWritten, pointerAt, has, sectorVerdict, placeOf, itemBytes, readVerdict, readAt}
+use Rattle.format.specs.Reading.{tableEntry, notWritten, pointerAt, has, placeOf, itemBytes, readAt}
 use Rattle.format.specs.Facts.{Identified, HeaderOk, IndexOk, EntryOk, TableOk, ItemOk}
 use Rattle.format.proofs.Tests.{on-or-off, below-on, below-off}
-use Rattle.format.proofs.Refusals.{then-rest, answer-passes, answer-refuses}
 use Rattle.format.proofs.Lists.{all-map, all-head}
-use Rattle.format.proofs.Checks.{OpenOk, open-ok, PointerOk, SectorOk, sector-ok, sector-20, sector-21, AddressOk, Sound}
+use Rattle.format.proofs.Checks.{read-20, read-21, read-bytes, OpenOk, PointerOk, SectorOk, AddressOk, Sound}
 use Rattle.format.proofs.Named.{offsets-all, has-all}
 
 -- y keeps x's bytes below the index offset and past the header
@@ -245,24 +244,6 @@ module _ (x y : List ℕ) (g : Agree x y) (o : ℕ) (s : Sound x o) where
           go : AddressOk x o a → (notWritten y (opened x o) a ≡ true) ⊎ SectorOk y (entries x o) (opened x o) a
           go (inl e) = inl (sym (notWritten-agree x y g o (s .opens) a h) ∙ e)
           go (inr k) = inr (sector-agree a k)
-
--- ---- what a read answers of an image that opens
-module _ (img : List ℕ) (o : ℕ) (k : OpenOk img o) (a : ℕ) where
-  verdict-opened : readVerdict img o a ≡ sectorVerdict img (entries img o) (opened img o) a
-  unfolding readVerdict
-  verdict-opened = then-rest _ _ (open-ok img o .1 k)
-
-  pub read-20 : opened img o .count ≤ a → readAt img o a ≡ refused (refusal 20)
-  unfolding readAt
-  read-20 h = answer-refuses _ _ _ (verdict-opened ∙ sector-20 img (entries img o) (opened img o) a h)
-
-  pub read-21 : a < opened img o .count → notWritten img (opened img o) a ≡ true → readAt img o a ≡ refused (refusal 21)
-  unfolding readAt
-  read-21 h e = answer-refuses _ _ _ (verdict-opened ∙ sector-21 img (entries img o) (opened img o) a h e)
-
-  pub read-bytes : SectorOk img (entries img o) (opened img o) a → readAt img o a ≡ accepted (itemBytes img (pointerAt img (opened img o) a))
-  unfolding readAt
-  read-bytes h = answer-passes _ _ (verdict-opened ∙ sector-ok img (entries img o) (opened img o) a .1 h)
 
 -- ---- every address reads as it did
 pub reads-agree : (x y : List ℕ) → Agree x y → (o : ℕ) → Sound x o → (a : ℕ) → readAt x o a ≡ readAt y o a

@@ -26,9 +26,9 @@ use Rattle.format.specs.Committing.{pieces, given, itemOf, oldPointer, n
 use Rattle.format.specs.Facts.{Identified, EntryOk, ItemOk}
 use Rattle.format.proofs.Tests.{never, same-true, same-false, choose-true, choose-false}
 use Rattle.format.proofs.Lists.{Sized, all-append, all-map, all-get, length-flat, getD-map}
-use Rattle.format.proofs.Checks.{OpenOk, PointerOk, SectorOk, AddressOk, Sound}
+use Rattle.format.proofs.Checks.{OpenOk, PointerOk, SectorOk, AddressOk, Sound, read-20, read-21, read-bytes}
 use Rattle.format.proofs.Named.{user-data-on, user-data-true, user-data-false, offsets-yes, offsets-no, offsets-append, has-head, has-left, has-right}
-use Rattle.format.proofs.Agree.{Agree, header-agree, entry-agree, item-agree, bytes-agree, block-low, read-20, read-21, read-bytes}
+use Rattle.format.proofs.Agree.{Agree, header-agree, entry-agree, item-agree, bytes-agree, block-low}
 use Rattle.format.proofs.Written.{EntryFits, holds-piece, length-tableBytes, table-identified, table-shift, table-count, table-entries, table-written, length-blockBytes, block-identified, block-size, block-items, item-written, length-indexBytes, index-entries, index-written}
 use Rattle.format.proofs.KeptEntries.{dblk-cksm, dblk-ddt, kept-all, kept-blocks, kept-table}
 use Rattle.format.proofs.Storing.{handedOr, pieces-sized, shift-fits, shift-least, Source, old, new, stored-ok, NewPointer, fresh, kept, new-pointer, length-newPointers, getD-newPointers, item-largest, largest-bound}

@@ -1,6 +1,6 @@
 -- Lists of bytes: their fields fit, and what is written is bytes again.
 use mathlib.Core.Bool.{Bool, true}
-use mathlib.Core.List.{List, [], _∷_, _++_, map}
+use mathlib.Core.List.{List, [], _∷_, map}
 use mathlib.Core.Option.{Option, none, some}
 use mathlib.Core.Path.{_≡_, refl}
 use Prim.Native.Nat.{ℕ, zero, suc, _+_, _*_, _/_, _≤_, _<_}
@@ -18,7 +18,7 @@ use Rattle.format.specs.Lists.{All, done, more, IsBytes, flat}
 use Rattle.format.specs.Layouts.{AARUFRMT, IDX2, DBLK, DDT*, entryLength, tableEntryLength, headerBytes, entryAt, entriesFrom, entryBytes, indexHeader, indexBytes, blockHeader, blockBytes, tableHeader, tableBytes, encode}
 use Rattle.format.specs.Opening.{opened}
 use Rattle.format.specs.Creating.{createdEntries, createdBytes}
-use Rattle.format.specs.Committing.{pieces, largestItem, shiftFor, tableEntryBytes, newTable, newBlock, appendedFor, storedFor, appended}
+use Rattle.format.specs.Committing.{pieces, largestItem, shiftFor, tableEntryBytes, newTable, newBlock, appendedFor, storedFor, appended, appendedBytes}
 use Rattle.format.proofs.Tests.{below-on, and-on}
 use Rattle.format.proofs.Lists.{all-append, all-take, all-drop, all-replicate, all-flat}
 use Rattle.format.proofs.Written.{EntryFits}
@@ -111,8 +111,8 @@ unfolding newTable
 bytes-newTable ps = bytes-table _ (all-flat (bytes-pointers (shiftFor (largestItem ps)) ps)) (shiftFor (largestItem ps)) (length ps)
 
 pub bytes-appended : (img : List ℕ) (o : ℕ) (addresses : List ℕ) (size : ℕ) (sectors : List ℕ) → IsBytes sectors
-    → IsBytes (appended img o addresses size sectors .block ++ (appended img o addresses size sectors .table ++ appended img o addresses size sectors .index))
-unfolding appended appendedFor storedFor
+    → IsBytes (appendedBytes (appended img o addresses size sectors))
+unfolding appendedBytes appended appendedFor storedFor
 bytes-appended img o addresses size sectors h =
     let items = stored-ok img (opened img o) (length img) IsBytes (pieces (length addresses) size sectors) [] .keeps done (pieces-all (length addresses) size sectors h) in
     all-append (bytes-newBlock size _ items) (all-append (bytes-newTable _) (bytes-index _))

@@ -13,17 +13,17 @@ use Rattle.format.specs.declared.Verdict.{Verdict}
 use Rattle.format.specs.declared.Verdict.the-variants.{Passes, Refuses}
 use Rattle.format.specs.Tests.{same, _and_}
 use Rattle.format.specs.Lists.{All, done, more}
-use Rattle.format.specs.Refusals.{refusal, row, firstRefusal}
-use Rattle.format.specs.Layouts.{AARUFRMT, DICMFRMT, DBLK, DDT*, applicationLength, entryLength, entryAt, entriesFrom, entries}
-use Rattle.format.specs.Opening.{lacks, headerVerdict, indexVerdict, entryVerdict, entriesVerdict, offsetsOf, oneVerdict, first, tableAt, tableMalformed, sumsDiffer, tableVerdict, openVerdict, Opened, opened}
-use Rattle.format.specs.Reading.{notWritten, pointerAt, has, blockMalformed, blockVerdict, itemVerdict, sectorVerdict}
+use Rattle.format.specs.Refusals.{refusal, row, firstRefusal, refused, accepted}
+use Rattle.format.specs.Layouts.{AARUFRMT, DICMFRMT, DBLK, DDT*, indexOffset, applicationLength, entryLength, entryAt, entriesFrom, entries}
+use Rattle.format.specs.Opening.{lacks, headerVerdict, indexVerdict, entryVerdict, entriesVerdict, offsetsOf, oneOf, oneVerdict, first, tableAt, tableMalformed, sumsDiffer, tableVerdict, openVerdict, Opened, opened}
+use Rattle.format.specs.Reading.{notWritten, pointerAt, has, blockMalformed, blockVerdict, itemVerdict, sectorVerdict, itemBytes, readVerdict, readAt}
 use Rattle.format.specs.Writing.{mostSectors, largestSize, mostAddresses, longestBuffer, bufferVerdict}
 use Rattle.format.specs.Creating.{createdUsed, createVerdict}
-use Rattle.format.specs.Committing.{rising, argumentsVerdict, anyOutside, otherThan21, sectorsVerdict, discVerdict}
+use Rattle.format.specs.Committing.{rising, argumentsVerdict, anyOutside, otherThan21, sectorsVerdict, discVerdict, Appended, usedAfter, commitVerdict}
 use Rattle.format.specs.RollingBack.{rollbackVerdict}
 use Rattle.format.specs.Facts.{HeaderOk, IndexOk, EntryOk, TableOk, BlockOk, ItemOk, Identified}
 use Rattle.format.proofs.Tests.{not-off, below-off, below-false, atLeast-off, atLeast-true, atLeast-false, same-on, same-off, same-true, same-false, differs-off, differs-false, or-left, or-right, or-false, and-off, and-false-left, and-false-right, choose-true, choose-false, lacks-off, lacks-false, on-or-off}
-use Rattle.format.proofs.Refusals.{row-passes, row-off, then-passes, then-left, then-right, then-rest, row-refuses, then-refuses, firstRefusal-passes, Gives, row-not, then-not}
+use Rattle.format.proofs.Refusals.{answer-passes, answer-refuses, row-passes, row-off, then-passes, then-left, then-right, then-rest, row-refuses, then-refuses, firstRefusal-passes, Gives, row-not, then-not}
 
 -- ---- opening
 pub header-ok : (img : List ℕ) → (headerVerdict img ≡ Passes) ↔ HeaderOk img
@@ -107,8 +107,8 @@ pub entries-ok : (img : List ℕ) (k p : ℕ) → (entriesVerdict img k p ≡ Pa
 entries-ok img k p = (entries-forth img k p, entries-back img k p)
 
 -- the one table of a list of offsets
-pub one-ok : (l : List ℕ) → (oneVerdict l ≡ Passes) ↔ (l ≡ first l ∷ [])
-unfolding oneVerdict first
+pub one-ok : (l : List ℕ) → (oneOf l ≡ Passes) ↔ (l ≡ first l ∷ [])
+unfolding oneOf first
 one-ok [] = (λ h. let z : _≡_ {A = ℕ} 0 1 = cc in absurd (omega arith), λ h. let z : _≡_ {A = ℕ} 0 1 = cc in absurd (omega arith))
 one-ok (t ∷ []) = (λ h. refl, λ h. refl)
 one-ok (t ∷ u ∷ l) = (λ h. let z : _≡_ {A = ℕ} 0 1 = cc in absurd (omega arith), λ h. let z : _≡_ {A = ℕ} 0 1 = cc in absurd (omega arith))
@@ -158,7 +158,7 @@ pub record OpenOk (img : List ℕ) (o : ℕ) : Type 0 where
   pub table : TableOk img (tableAt img o)
 
 pub open-ok : (img : List ℕ) (o : ℕ) → (openVerdict img o ≡ Passes) ↔ OpenOk img o
-unfolding openVerdict tableAt entries
+unfolding openVerdict oneVerdict tableAt entries
 open-ok img o = (forth, back)
   where
     forth : openVerdict img o ≡ Passes → OpenOk img o
@@ -296,6 +296,36 @@ module _ (img : List ℕ) (es : List Entry) (t : Opened) (a : ℕ) where
           (then-not (row (not (has (pointerAt img t a .block .0) (offsetsOf DBLK es))) (refusal 22)) (itemVerdict img (pointerAt img t a)) 21
           (row-not _ (refusal 22) 21 (omega arith)) (item-not-21 img (pointerAt img t a))
           (rw (then-rest _ _ (row-passes _ (refusal 20) (atLeast-false a (t .count) h)), then-rest _ _ (row-passes _ (refusal 21) q)) at e))
+
+-- the whole of a read's checks, at index offset o
+pub record ReadOk (img : List ℕ) (o a : ℕ) : Type 0 where
+  pub opens : OpenOk img o
+  pub sector : SectorOk img (entries img o) (opened img o) a
+
+pub read-ok : (img : List ℕ) (o a : ℕ) → (readVerdict img o a ≡ Passes) ↔ ReadOk img o a
+unfolding readVerdict
+read-ok img o a = (
+  (λ h. record { opens = open-ok img o .0 (then-left _ _ h); sector = sector-ok img (entries img o) (opened img o) a .0 (then-right _ _ h) }),
+  (λ k. then-passes _ _ (open-ok img o .1 (k .opens)) (sector-ok img (entries img o) (opened img o) a .1 (k .sector))),
+)
+
+-- what a read answers of an image that opens
+module _ (img : List ℕ) (o : ℕ) (k : OpenOk img o) (a : ℕ) where
+  verdict-opened : readVerdict img o a ≡ sectorVerdict img (entries img o) (opened img o) a
+  unfolding readVerdict
+  verdict-opened = then-rest _ _ (open-ok img o .1 k)
+
+  pub read-20 : opened img o .count ≤ a → readAt img o a ≡ refused (refusal 20)
+  unfolding readAt
+  read-20 h = answer-refuses _ _ _ (verdict-opened ∙ sector-20 img (entries img o) (opened img o) a h)
+
+  pub read-21 : a < opened img o .count → notWritten img (opened img o) a ≡ true → readAt img o a ≡ refused (refusal 21)
+  unfolding readAt
+  read-21 h e = answer-refuses _ _ _ (verdict-opened ∙ sector-21 img (entries img o) (opened img o) a h e)
+
+  pub read-bytes : SectorOk img (entries img o) (opened img o) a → readAt img o a ≡ accepted (itemBytes img (pointerAt img (opened img o) a))
+  unfolding readAt
+  read-bytes h = answer-passes _ _ (read-ok img o a .1 (record { opens = k; sector = h }))
 
 -- ---- creating
 pub record CreateOk (buffer : List ℕ) (count : ℕ) (application : List ℕ) : Type 0 where
@@ -438,6 +468,28 @@ disc-ok img o addresses = (forth, back)
     back k =
         then-passes _ _ (open-ok img o .1 (k .sound .opens))
         (then-passes _ _ (row-passes _ _ (k .inside)) (all (opened img o .count) 0 (omega arith) (k .sound .sectors)))
+
+-- the whole of a commit's checks
+pub record CommitOk (buffer : List ℕ) (used : ℕ) (addresses : List ℕ) (size : ℕ) (sectors : List ℕ) (new : Appended) : Type 0 where
+  pub arguments : ArgumentsOk buffer used addresses size sectors
+  pub disc : DiscOk (take used buffer) (indexOffset (take used buffer)) addresses
+  pub room : usedAfter used new ≤ length buffer
+
+pub commit-ok : (buffer : List ℕ) (used : ℕ) (addresses : List ℕ) (size : ℕ) (sectors : List ℕ) (new : Appended)
+    → (commitVerdict buffer used addresses size sectors new ≡ Passes) ↔ CommitOk buffer used addresses size sectors new
+unfolding commitVerdict
+commit-ok buffer used addresses size sectors new = (
+  (λ h.
+      let k = then-right _ _ h in
+      record {
+        arguments = arguments-ok buffer used addresses size sectors .0 (then-left _ _ h);
+        disc = disc-ok (take used buffer) (indexOffset (take used buffer)) addresses .0 (then-left _ _ k);
+        room = below-off _ _ (row-off _ _ (then-right _ _ k));
+      }),
+  (λ k.
+      then-passes _ _ (arguments-ok buffer used addresses size sectors .1 (k .arguments))
+      (then-passes _ _ (disc-ok (take used buffer) (indexOffset (take used buffer)) addresses .1 (k .disc)) (row-passes _ _ (below-false _ _ (k .room))))),
+)
 
 -- ---- rolling back
 pub record RollbackOk (buffer : List ℕ) (used offset : ℕ) : Type 0 where

@@ -1,6 +1,6 @@
 -- An accepted commit: the disc afterwards is sound, keeps the old image's bytes, and reads as handed in, or as before.
 use mathlib.Core.Bool.{true, false}
-use mathlib.Core.List.{List, [], _++_}
+use mathlib.Core.List.{List, []}
 use mathlib.Core.Logic.{_⊎_, inl, inr}
 use mathlib.Core.Option.{Option}
 use mathlib.Core.Path.{_≡_, sym, ap, _∙_, subst}
@@ -19,13 +19,12 @@ use Rattle.format.specs.Layouts.{headerLength, indexOffset}
 use Rattle.format.specs.Opening.{opened}
 use Rattle.format.specs.Reading.{readAt, read}
 use Rattle.format.specs.Writing.{longestBuffer, placed, setHeader}
-use Rattle.format.specs.Committing.{rising, pieces, given, newTable, Appended, appendedFor, appended, tableStart, indexStart, usedAfter, append, commit}
+use Rattle.format.specs.Committing.{rising, pieces, given, newTable, Appended, appendedFor, appended, tableStart, indexStart, usedAfter, appendedBytes, append, commit}
 use Rattle.format.specs.Demands.{ReadsCommitted, NoStaleChecksum, Demand2Committing}
 use Rattle.format.proofs.Tests.{on-or-off, below-on, below-off}
-use Rattle.format.proofs.Refusals.{row-off, then-left, then-right}
 use Rattle.format.proofs.Lists.{all-take}
-use Rattle.format.proofs.Checks.{ArgumentsOk, arguments-ok, Sound, DiscOk, disc-ok}
-use Rattle.format.proofs.Agree.{Agree, read-20}
+use Rattle.format.proofs.Checks.{commit-ok, ArgumentsOk, Sound, DiscOk, read-20}
+use Rattle.format.proofs.Agree.{Agree}
 use Rattle.format.proofs.Bytes.{bytes-overwrite, bytes-appended}
 use Rattle.format.proofs.Addresses.{given-named, given-other, outside-other}
 use Rattle.format.proofs.Storing.{handedOr, getD-pieces, length-pieces}
@@ -59,7 +58,7 @@ module _ (buffer : List ℕ) (isBytes : IsBytes buffer) (used : ℕ) (addresses 
   new = appended x o addresses size sectors
 
   abbrev run : List ℕ
-  run = new .block ++ (new .table ++ new .index)
+  run = appendedBytes new
 
   abbrev ds : List (List ℕ)
   ds = pieces (length addresses) size sectors
@@ -80,7 +79,7 @@ module _ (buffer : List ℕ) (isBytes : IsBytes buffer) (used : ℕ) (addresses 
   low = omega (arith, length-x, s .opens .header .long)
 
   total : used + length run ≡ usedAfter used new
-  unfolding usedAfter indexStart tableStart
+  unfolding appendedBytes usedAfter indexStart tableStart
   total = simp length-append (omega arith)
 
   fits : used + length run ≤ length buffer
@@ -103,15 +102,15 @@ module _ (buffer : List ℕ) (isBytes : IsBytes buffer) (used : ℕ) (addresses 
   index-at = ap (λ n. n + length (new .block) + length (new .table)) (sym length-x)
 
   sound-y : Sound y (indexStart used new)
-  unfolding appended appendedFor newTable tableStart
+  unfolding appendedBytes appended appendedFor newTable tableStart
   sound-y = subst (Sound y) (sym index-at) (sound-new x o addresses size sectors y agrees s (all-take buffer isBytes used) (k .pos) (k .small) (k .whole) holds y-long)
 
   no-cksm-y : NoStaleChecksum y (indexStart used new)
-  unfolding appended appendedFor newTable tableStart
+  unfolding appendedBytes appended appendedFor newTable tableStart
   no-cksm-y = subst (NoStaleChecksum y) (sym index-at) (no-cksm x o addresses size sectors y agrees s (all-take buffer isBytes used) (k .pos) (k .small) (k .whole) holds y-long)
 
   reads-y : (a : ℕ) → readAt y (indexStart used new) a ≡ handedOr (given addresses ds a) (readAt x o a)
-  unfolding appended appendedFor newTable tableStart handedOr
+  unfolding appendedBytes appended appendedFor newTable tableStart handedOr
   reads-y a = ap (λ n. readAt y n a) index-at ∙ go (on-or-off (below a (opened x o .count)))
     where
       go : (below a (opened x o .count) ≡ true) ⊎ (below a (opened x o .count) ≡ false)
@@ -149,11 +148,8 @@ pub commit-accepted : (buffer : List ℕ) → IsBytes buffer → (used : ℕ) (a
 unfolding commit append
 commit-accepted buffer b used addresses size sectors time p e =
     let r = outcome-accepted _ _ _ _ p e in
-    let v = then-left _ _ (r .passes) in
-    let k = arguments-ok buffer used addresses size sectors .0 (then-left _ _ v) in
-    let d = disc-ok (take used buffer) (indexOffset (take used buffer)) addresses .0 (then-right _ _ v) in
-    let room = below-off _ _ (row-off _ _ (then-right _ _ (r .passes))) in
-    rw (r .buffer, ← (r .answer)) (committed buffer b used addresses size sectors time k d room)
+    let k = commit-ok buffer used addresses size sectors _ .0 (r .passes) in
+    rw (r .buffer, ← (r .answer)) (committed buffer b used addresses size sectors time (k .arguments) (k .disc) (k .room))
 
 -- ---- demand 2, committing
 reads-committed : (before later : ℕ → Answer (List ℕ)) (addresses : List ℕ) (size : ℕ) (sectors : List ℕ) → rising addresses ≡ true

@@ -17,7 +17,7 @@ use Rattle.format.specs.Writing.{longestBuffer, Outcome, placed, setHead
 use Rattle.format.specs.Committing.{append, commit}
 use Rattle.format.specs.RollingBack.{rollback}
 use Rattle.format.specs.Histories.{Call, commits, rollsBack, Point, Moment, reads, ReadTheSame, pointNow, started, outcomeOf, pointsAfter, momentAfter, after, atEnd, Throughout, end, made, Permitted}
-use Rattle.format.specs.Demands.{ReturnsTo, Unchanged, Promised, Distinct, nothing, fresh, Kept, Demand3}
+use Rattle.format.specs.Demands.{ReturnsTo, Unchanged, Effect, Promised, Distinct, nothing, fresh, Kept, Demand3}
 use Rattle.format.proofs.Lists.{all-map}
 use Rattle.format.proofs.Checks.{Sound, rollback-ok}
 use Rattle.format.proofs.Agree.{Agree, agree-refl, agree-trans, sound-agree, reads-agree}
@@ -108,17 +108,15 @@ unchanged m c r e =
     record { buffer = ap (λ (n : Moment). n .buffer) (refused-same m c r e); used = ap (λ (n : Moment). n .used) (refused-same m c r e) }
 
 -- ---- each call keeps its promise, and the invariant
+effect : (m : Moment) → Inv m → (c : Call) → Effect m c
+unfolding Effect outcomeOf reads
+effect m i (rollsBack offset time) = all-map (λ p k e. subst (λ o. ReturnsTo m o time p) e (can-return m i time p k)) (i .points)
+effect m i (commits addresses size sectors time) = λ p e.
+    rw (after-accepted m (commits addresses size sectors time) p e)
+    (demand-2-committing (m .buffer) (i .bytes) (m .used) addresses size sectors time p e .disc)
+
 promised : (m : Moment) → Inv m → (c : Call) → Promised m c
-unfolding Promised outcomeOf reads
-promised m i (rollsBack offset time) =
-    record { returns = all-map (λ p k e. subst (λ o. ReturnsTo m o time p) e (can-return m i time p k)) (i .points); unchanged = λ r e. unchanged m (rollsBack offset time) r e }
-promised m i (commits addresses size sectors time) =
-    record {
-      disc = λ p e.
-          rw (after-accepted m (commits addresses size sectors time) p e)
-          (demand-2-committing (m .buffer) (i .bytes) (m .used) addresses size sectors time p e .disc);
-      unchanged = λ r e. unchanged m (commits addresses size sectors time) r e;
-    }
+promised m i c = record { effect = effect m i c; unchanged = unchanged m c }
 
 -- an accepted commit's index lies past every point's
 distinct-new : (m : Moment) → Inv m → (o : ℕ) → m .used ≤ o → All (λ (q : Point). o ≢ q .offset) (m .points)
@@ -156,18 +154,17 @@ inv-rollback m i offset time p e =
       distinct = i .distinct;
     })
 
-inv-after : (m : Moment) → Inv m → (c : Call) → Permitted m c → Inv (after m c)
+inv-accepted : (m : Moment) → Inv m → (c : Call) → Permitted m c → (p : Placed) → outcomeOf m c .result ≡ accepted p → Inv (after m c)
 unfolding Permitted outcomeOf
-inv-after m i (commits addresses size sectors time) b = go (commit (m .buffer) (m .used) addresses size sectors time .result) refl
+inv-accepted m i (commits addresses size sectors time) b p e = inv-commit m i addresses size sectors time b p e
+inv-accepted m i (rollsBack offset time) h p e = inv-rollback m i offset time p e
+
+inv-after : (m : Moment) → Inv m → (c : Call) → Permitted m c → Inv (after m c)
+inv-after m i c h = go (outcomeOf m c .result) refl
   where
-    go : (w : Answer Placed) → commit (m .buffer) (m .used) addresses size sectors time .result ≡ w → Inv (after m (commits addresses size sectors time))
-    go (refused r) e = rw (refused-same m (commits addresses size sectors time) r e) i
-    go (accepted p) e = inv-commit m i addresses size sectors time b p e
-inv-after m i (rollsBack offset time) b = go (rollback (m .buffer) (m .used) offset time .result) refl
-  where
-    go : (w : Answer Placed) → rollback (m .buffer) (m .used) offset time .result ≡ w → Inv (after m (rollsBack offset time))
-    go (refused r) e = rw (refused-same m (rollsBack offset time) r e) i
-    go (accepted p) e = inv-rollback m i offset time p e
+    go : (w : Answer Placed) → outcomeOf m c .result ≡ w → Inv (after m c)
+    go (refused r) e = rw (refused-same m c r e) i
+    go (accepted p) e = inv-accepted m i c h p e
 
 -- ---- the whole list
 kept : (m : Moment) (calls : List Call) → Inv m → Throughout Permitted m calls → Kept m calls

@@ -5,25 +5,25 @@ use Prim.Native.Nat.{ℕ}
 use Rattle.format.specs.Refusals.{accepted}
 use Rattle.format.specs.Layouts.{DBLK, DDT*, indexOffset, entries, decode, tableShift}
 use Rattle.format.specs.Opening.{offsetsOf, first, tableAt, Opened, openedAt, opened}
-use Rattle.format.specs.Reading.{tableEntry, notWritten, pointerAt, placeOf, itemBytes, readVerdict, readAt, read}
+use Rattle.format.specs.Reading.{tableEntry, notWritten, pointerAt, placeOf, itemBytes, readAt, read}
 use Rattle.format.specs.Committing.{itemOf}
 use Rattle.format.specs.Demands.{NamesItem, Demand2Reading}
 use Rattle.format.proofs.Tests.{same-off, same-false}
-use Rattle.format.proofs.Refusals.{then-left, then-right, answer-accepted}
-use Rattle.format.proofs.Checks.{OpenOk, open-ok, SectorOk, sector-ok}
+use Rattle.format.proofs.Refusals.{answer-accepted}
+use Rattle.format.proofs.Checks.{read-ok, OpenOk, SectorOk, read-bytes}
 use Rattle.format.proofs.Named.{named, only-named}
-use Rattle.format.proofs.Agree.{read-bytes}
 
 module _ (img : List ℕ) (a : ℕ) (sector : List ℕ) where
   abbrev o : ℕ
   o = indexOffset img
 
   forth : read img a ≡ accepted sector → NamesItem img a sector
-  unfolding read readAt readVerdict opened openedAt notWritten tableEntry pointerAt decode itemBytes placeOf
+  unfolding read readAt opened openedAt notWritten tableEntry pointerAt decode itemBytes placeOf
   forth e =
       let r = answer-accepted _ _ sector e in
-      let k = open-ok img o .0 (then-left _ _ (r .0)) in
-      let q = sector-ok img (entries img o) (opened img o) a .0 (then-right _ _ (r .0)) in
+      let v = read-ok img o a .0 (r .0) in
+      let k = v .opens in
+      let q = v .sector in
       let n = only-named DDT* (entries img o) (tableAt img o) .0 (k .only) in
       record {
         header = k .header;

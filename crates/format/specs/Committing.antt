@@ -94,6 +94,7 @@ pub record Stored : Type 0 where
   pub items : List (List ℕ)
   pub pointers : List Pointer
 
+-- all of them, after those that are stored already
 unfoldable pub storeAll : List ℕ → Opened → ℕ → List (List ℕ) → List (List ℕ) → Stored
 storeAll img t block stored [] = record { items = stored; pointers = [] }
 storeAll img t block stored (d ∷ ds) =
@@ -120,6 +121,7 @@ given [] ys a = none
 given (b ∷ bs) [] a = none
 given (b ∷ bs) (y ∷ ys) a = choose (same b a) (some y) (given bs ys a)
 
+-- the first where there is one, else the second
 unfoldable pub orElse : {A : Type 0} → Option A → Option A → Option A
 orElse (some x) y = some x
 orElse none y = y
@@ -213,17 +215,25 @@ appended img o addresses size sectors =
     let st = storedFor img o addresses size sectors in
     appendedFor (length img) size (entries img o) (st .items) (pointersFor img o addresses (st .pointers))
 
+unfoldable pub appendedBytes : Appended → List ℕ
+appendedBytes new = new .block ++ (new .table ++ new .index)
+
 -- "Then indexOffset and lastWrittenTime are set. No other byte changes below the old `used` or from the new one on. The result is the
--- new `used` and the new index's offset". 35 is the last check
+-- new `used` and the new index's offset"
 unfoldable pub append : List ℕ → ℕ → Verdict → Appended → ℕ → Outcome
 append buffer used verdict new time =
-    outcome buffer (verdict then row (below (length buffer) (usedAfter used new)) (refusal 35))
-    (placed (usedAfter used new) (indexStart used new))
-    (setHeader (overwrite buffer used (new .block ++ (new .table ++ new .index))) (indexStart used new) time)
+    outcome buffer verdict (placed (usedAfter used new) (indexStart used new))
+    (setHeader (overwrite buffer used (appendedBytes new)) (indexStart used new) time)
+
+-- the whole order of checks
+unfoldable pub commitVerdict : List ℕ → ℕ → List ℕ → ℕ → List ℕ → Appended → Verdict
+commitVerdict buffer used addresses size sectors new =
+    argumentsVerdict buffer used addresses size sectors
+    then discVerdict (take used buffer) (indexOffset (take used buffer)) addresses
+    then row (below (length buffer) (usedAfter used new)) (refusal 35)
 
 unfoldable pub commit : List ℕ → ℕ → List ℕ → ℕ → List ℕ → ℕ → Outcome
 commit buffer used addresses size sectors time =
     let img = take used buffer in
-    let o = indexOffset img in
-    append buffer used (argumentsVerdict buffer used addresses size sectors then discVerdict img o addresses)
-    (appended img o addresses size sectors) time
+    let new = appended img (indexOffset img) addresses size sectors in
+    append buffer used (commitVerdict buffer used addresses size sectors new) new time

@@ -15,8 +15,7 @@ use Rattle.format.specs.Reading.{read}
 use Rattle.format.specs.Writing.{placed}
 use Rattle.format.specs.Creating.{create}
 use Rattle.format.specs.Committing.{commit}
-use Rattle.format.specs.RollingBack.{rollback}
-use Rattle.format.specs.Histories.{Call, commits, rollsBack, Point, Moment, reads, ReadTheSame, started, after, atEnd, Throughout, Permitted}
+use Rattle.format.specs.Histories.{Call, commits, rollsBack, Point, Moment, reads, ReadTheSame, started, outcomeOf, after, atEnd, Throughout, Permitted}
 use Rattle.format.specs.Facts.{HeaderOk, IndexOk, EntryOk, UserData, TableOk, ItemOk}
 
 -- ---- Demand 2, reading: in an image that opens, a sector is given exactly if its table entry names an item of an indexed, intact,
@@ -61,6 +60,7 @@ pub record ReadsCommitted (before later : ℕ → Answer (List ℕ)) (addresses 
 abbrev pub NoStaleChecksum : List ℕ → ℕ → Type 0
 NoStaleChecksum img o = All (λ (e : Entry). e .blockType ≢ tag CKSM) (entries img o)
 
+-- what demand 2 asks of an accepted commit that answered p and left `after`
 pub record CommitKept (buffer : List ℕ) (used : ℕ) (addresses : List ℕ) (size : ℕ) (sectors : List ℕ) (p : Placed) (after : List ℕ) : Type 0 where
   pub disc : ReadsCommitted (read (take used buffer)) (read (take (p .used) after)) addresses size sectors
   pub index : NoStaleChecksum (take (p .used) after) (p .index .0)
@@ -76,7 +76,7 @@ Demand2Committing =
 -- (a) A rollback, made at m, to the offset of a point: it is accepted, it answers `used` and the offset, and right after it every address
 -- reads the same bytes, or the same refusal, as at the point
 pub record ReturnsTo (m : Moment) (offset time : ℕ) (p : Point) : Type 0 where
-  pub accepts : rollback (m .buffer) (m .used) offset time .result ≡ accepted (placed (m .used) offset)
+  pub accepts : outcomeOf m (rollsBack offset time) .result ≡ accepted (placed (m .used) offset)
   pub same : ReadTheSame (reads (after m (rollsBack offset time))) (p .disc)
 
 -- (d) "A refused call passes buffer and `used` on unchanged."
@@ -84,26 +84,24 @@ pub record Unchanged (m n : Moment) : Type 0 where
   pub buffer : n .buffer ≡ m .buffer
   pub used : n .used ≡ m .used
 
-pub record RollbackPromise (m : Moment) (offset time : ℕ) : Type 0 where
-  pub returns : All (λ (p : Point). p .offset ≡ offset → ReturnsTo m offset time p) (m .points)
-  pub unchanged : (r : Refusal) → rollback (m .buffer) (m .used) offset time .result ≡ refused r → Unchanged m (after m (rollsBack offset time))
+-- (a) for a rollback; (c) for a commit: if it is accepted, the named addresses read as handed in and every other as just before it
+unfoldable pub Effect : Moment → Call → Type 0
+Effect m (rollsBack offset time) = All (λ (p : Point). p .offset ≡ offset → ReturnsTo m offset time p) (m .points)
+Effect m (commits addresses size sectors time) =
+    (p : Placed) → outcomeOf m (commits addresses size sectors time) .result ≡ accepted p
+    → ReadsCommitted (reads m) (reads (after m (commits addresses size sectors time))) addresses size sectors
 
--- (c) At an accepted commit the named addresses read as handed in and every other as just before it
-pub record CommitPromise (m : Moment) (addresses : List ℕ) (size : ℕ) (sectors : List ℕ) (time : ℕ) : Type 0 where
-  pub disc : (p : Placed) → commit (m .buffer) (m .used) addresses size sectors time .result ≡ accepted p
-      → ReadsCommitted (reads m) (reads (after m (commits addresses size sectors time))) addresses size sectors
-  pub unchanged : (r : Refusal) → commit (m .buffer) (m .used) addresses size sectors time .result ≡ refused r
-      → Unchanged m (after m (commits addresses size sectors time))
-
-unfoldable pub Promised : Moment → Call → Type 0
-Promised m (commits addresses size sectors time) = CommitPromise m addresses size sectors time
-Promised m (rollsBack offset time) = RollbackPromise m offset time
+-- what is promised of a call that is made at m
+pub record Promised (m : Moment) (c : Call) : Type 0 where
+  pub effect : Effect m c
+  pub unchanged : (r : Refusal) → outcomeOf m c .result ≡ refused r → Unchanged m (after m c)
 
 -- (b) "No two points have the same offset"
 pub data Distinct : List Point → Type 0 where
   nothing : Distinct []
   fresh : {p : Point} {ps : List Point} → All (λ (q : Point). p .offset ≢ q .offset) ps → Distinct ps → Distinct (p ∷ ps)
 
+-- what is promised of the list
 pub record Kept (start : Moment) (calls : List Call) : Type 0 where
   pub promises : Throughout Promised start calls
   pub distinct : Distinct (atEnd start calls .points)

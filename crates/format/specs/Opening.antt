@@ -59,10 +59,13 @@ unfoldable pub offsetsOf : List ℕ → List Entry → List ℕ
 offsetsOf letters [] = []
 offsetsOf letters (e ∷ es) = choose (isUserData letters e) (e .offset .0 ∷ offsetsOf letters es) (offsetsOf letters es)
 
-unfoldable pub oneVerdict : List ℕ → Verdict
-oneVerdict [] = Refuses (refusal 9)
-oneVerdict (t ∷ []) = Passes
-oneVerdict (t ∷ u ∷ ts) = Refuses (refusal 10)
+unfoldable pub oneOf : List ℕ → Verdict
+oneOf [] = Refuses (refusal 9)
+oneOf (t ∷ []) = Passes
+oneOf (t ∷ u ∷ ts) = Refuses (refusal 10)
+
+unfoldable pub oneVerdict : List ℕ → ℕ → Verdict
+oneVerdict img o = oneOf (offsetsOf DDT* (entries img o))
 
 -- the first of a list, 0 where it is empty
 unfoldable pub first : List ℕ → ℕ
@@ -98,7 +101,7 @@ openVerdict img o =
     headerVerdict img
     then indexVerdict img o
     then entriesVerdict img (entryCount img o) (o + indexHeaderLength)
-    then oneVerdict (offsetsOf DDT* (entries img o))
+    then oneVerdict img o
     then tableVerdict img (tableAt img o)
 
 -- "An opened image travels as one record holding the lent bytes and the table's place (that of its header), count and shift."

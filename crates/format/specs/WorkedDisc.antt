@@ -4,14 +4,14 @@ use mathlib.Core.List.{List, [], _∷_, _++_, map}
 use Prim.Native.Nat.{ℕ}
 use lib.ListN.{take, replicate}
 use Rattle.crc64.specs.Crc.{crcOf}
-use Rattle.fields.specs.Bytes.{field, toLe, overwrite, equal}
+use Rattle.fields.specs.Bytes.{part, field, toLe, overwrite, equal}
 use Rattle.format.specs.declared.Place.{Place}
+use Rattle.format.specs.declared.Placed.{Placed}
 use Rattle.format.specs.Tests.{same, _and_}
 use Rattle.format.specs.Refusals.{Answer, refused, accepted}
-use Rattle.format.specs.Layouts.{DBLK, tag, indexOffsetAt, indexOffset, decode}
+use Rattle.format.specs.Layouts.{AARUFRMT, DICMFRMT, IDX2, DBLK, DDT*, CKSM, tag, indexOffsetAt, indexOffset, decode}
 use Rattle.format.specs.Opening.{opening, opened}
 use Rattle.format.specs.Reading.{tableEntry, read, locate}
-use Rattle.format.specs.Writing.{Outcome}
 use Rattle.format.specs.Creating.{create}
 use Rattle.format.specs.Committing.{shiftFor, commit}
 use Rattle.format.specs.RollingBack.{rollback}
@@ -21,8 +21,9 @@ allHold [] = true
 allHold (b ∷ bs) = b and allHold bs
 
 -- accepted, with this `used` and this index offset
-unfoldable pub leaves : ℕ → ℕ → Outcome → Bool
-leaves used index w = elim (w .result) [ refused r ↦ false | accepted p ↦ same (p .used) used and same (p .index .0) index ]
+unfoldable pub leaves : ℕ → ℕ → Answer Placed → Bool
+leaves used index (refused r) = false
+leaves used index (accepted p) = same (p .used) used and same (p .index .0) index
 
 -- refused with this number
 unfoldable pub refusedWith : {A : Type 0} → ℕ → Answer A → Bool
@@ -73,18 +74,18 @@ workedDisc =
     let p7 = commit b1 181 [] 4 [] 11 in
     let i7 = take 290 (p7 .buffer) in
     -- P1: "Create, E = 3: table 72, index 145, used 181."
-    leaves 181 145 p1 ∷ hasTable i1 72 0 (0 ∷ 0 ∷ 0 ∷ [])
+    leaves 181 145 (p1 .result) ∷ hasTable i1 72 0 (0 ∷ 0 ∷ 0 ∷ [])
     -- P2: "Commit addresses 0, 2, size 4, "AAAABBBB": block 181, table 225, index 298, used 350, shift 1, entries 362, 0, 363."
-    ∷ leaves 350 298 p2 ∷ hasTable i2 225 1 (362 ∷ 0 ∷ 363 ∷ []) ∷ same (field i2 181 4) (tag DBLK)
+    ∷ leaves 350 298 (p2 .result) ∷ hasTable i2 225 1 (362 ∷ 0 ∷ 363 ∷ []) ∷ same (field i2 181 4) (tag DBLK)
     -- P3: "Then commit address 1 "AAAA": no block, table 350, index 423, used 475, entries 362, 362, 363." And the listing's lines
-    ∷ leaves 475 423 p3 ∷ hasTable i3 350 1 (362 ∷ 362 ∷ 363 ∷ [])
+    ∷ leaves 475 423 (p3 .result) ∷ hasTable i3 350 1 (362 ∷ 362 ∷ 363 ∷ [])
     ∷ liesAt 217 4 (locate i3 0) ∷ liesAt 217 4 (locate i3 1) ∷ liesAt 221 4 (locate i3 2)
     -- P4: "Roll back to 298: address 1 is 21; used stays 475." P5: "Back to 423: address 1 reads "AAAA"."
-    ∷ leaves 475 298 p4 ∷ refusedWith 21 (read i4 1) ∷ leaves 475 423 p5 ∷ gives AAAA (read i5 1)
+    ∷ leaves 475 298 (p4 .result) ∷ refusedWith 21 (read i4 1) ∷ leaves 475 423 (p5 .result) ∷ gives AAAA (read i5 1)
     -- P6: "After P4, commit 1 "BBBB": entry 363, used 600."
-    ∷ leaves 600 548 p6 ∷ hasTable i6 475 1 (362 ∷ 363 ∷ 363 ∷ [])
+    ∷ leaves 600 548 (p6 .result) ∷ hasTable i6 475 1 (362 ∷ 363 ∷ 363 ∷ [])
     -- P7: "Empty commit after P1: table 181, index 254, used 290."
-    ∷ leaves 290 254 p7 ∷ hasTable i7 181 0 (0 ∷ 0 ∷ 0 ∷ [])
+    ∷ leaves 290 254 (p7 .result) ∷ hasTable i7 181 0 (0 ∷ 0 ∷ 0 ∷ [])
     -- P8: "Largest item 0, 1, 2, 3, 4: shift 0, 1, 2, 2, 3."
     ∷ equal (map shiftFor (0 ∷ 1 ∷ 2 ∷ 3 ∷ 4 ∷ [])) (0 ∷ 1 ∷ 2 ∷ 2 ∷ 3 ∷ [])
     -- P9: "In P1's bytes indexOffset 4,294,967,295 gives 4 (a 32-bit sum gives 19); 162 and 71 give 4; 161 gives 5."
@@ -94,4 +95,10 @@ workedDisc =
     ∷ refusedWith 23 (read (overwrite i2 193 (toLe 4 4294967292 ++ toLe 4 4294967292)) 0)
     -- P11: "Checksum of no bytes is 0." P12: "0x8003 with shift 5 is offset 1024, item 3."
     ∷ same (crcOf []) 0 ∷ same (decode 5 0x8003 .block .0) 1024 ∷ same (decode 5 0x8003 .item .0) 3
+    -- beyond the P cases: the header as creating (versions 2.0 and 1.2, mediaType 3, times 4 and 5), a commit (6) and a rollback (8) leave it
+    ∷ equal (part i1 40 4) (2 ∷ 0 ∷ 1 ∷ 2 ∷ []) ∷ same (field i1 44 4) 3 ∷ same (field i1 48 8) 145 ∷ same (field i1 56 8) 4 ∷ same (field i1 64 8) 5
+    ∷ same (field i2 56 8) 4 ∷ same (field i2 64 8) 6 ∷ same (field i4 56 8) 4 ∷ same (field i4 64 8) 8
+    -- and the identifiers as numbers, of which `cases` makes the same from their letters
+    ∷ same (tag AARUFRMT) 0x544D524655524141 ∷ same (tag DICMFRMT) 0x544D52464D434944 ∷ same (tag IDX2) 0x32584449
+    ∷ same (tag DDT*) 0x2A544444 ∷ same (tag DBLK) 0x4B4C4244 ∷ same (tag CKSM) 0x4D534B43
     ∷ []
