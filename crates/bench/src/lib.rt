@@ -1,4 +1,4 @@
-// Exports for the measurements of bench/, and for nothing else.
+// Internal: exports for the measurements of bench/, and for nothing else.
 ghost use mathlib.Core.Path.{_≡_};
 ghost use Rattle.crc64.specs.Crc.{ones, run, crcOf};
 

@@ -1,5 +1,5 @@
-// Runs the cases of document 01 that are not proved, and prints what they give, a line each. The file stdout has what they
-// should give, from the document and the published check value.
+// Runs cases through the compiled code, and prints what they give, a line each. The file stdout has what they should give: the
+// published check value, and numbers and bytes as document 01 lays them out.
 ghost use Prim.Native.Nat.{_≤_, _<_};
 use libc::STDOUT_FILENO;
 
@@ -116,7 +116,18 @@ fn fields_of_each_width() {
     hex_line(b"1 byte at 0", fields::get(&s, 0, 1));
 }
 
+// The number that an identifier's letters make.
+fn identifiers() {
+    hex_line(b"AARUFRMT", fields::get(b"AARUFRMT", 0, 8));
+    hex_line(b"DICMFRMT", fields::get(b"DICMFRMT", 0, 8));
+    hex_line(b"IDX2", fields::get(b"IDX2", 0, 4));
+    hex_line(b"DDT*", fields::get(b"DDT*", 0, 4));
+    hex_line(b"DBLK", fields::get(b"DBLK", 0, 4));
+    hex_line(b"CKSM", fields::get(b"CKSM", 0, 4));
+}
+
 fn main() {
     checksums();
+    identifiers();
     fields_of_each_width();
 }

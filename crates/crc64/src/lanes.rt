@@ -1,5 +1,5 @@
 // Long runs: 32 bytes at a time, in four lanes. Each lane has a register of its own, for every
-// fourth word, so that the four look-ups of a turn do not wait for one another.
+// fourth word, so that the look-ups of the four do not wait for one another.
 ghost use mathlib.Core.Path.{_≡_};
 ghost use Prim.Native.Nat.{_+_, _%_, _≤_};
 ghost use lib.ListN.{length};
@@ -7,7 +7,7 @@ ghost use Rattle.crc64.specs.Crc.{shifts, run};
 ghost use Rattle.crc64.specs.Internal.{word8, wordAt, Tables, joined};
 use super::register;
 
-// 256 shifts, by one look-up for each byte.
+// 256 shifts, since a lane's next word is 32 bytes on: by one look-up for each byte of the register.
 fn lane(t: &[u64; 2048], x: u64) -> u64
     requires { ⌜ Tables (now t) ⌝ }
     ensures { λ r. ⌜ r ≡ shifts 256 x ⌝ }
@@ -82,7 +82,7 @@ fn four_lanes(t: &[u64; 2048], register: u64, s: &[u8]) -> u64
     let mut c = word_at(s, 16);
     let mut d = word_at(s, 24);
     let mut i: usize = 32;
-    // A turn for each 32 bytes after the first 32.
+    // an iteration for each 32 bytes after the first 32
     while i < s.len() {
         a = lane(t, a) ^ word_at(s, i);
         b = lane(t, b) ^ word_at(s, i + 8);

@@ -1,4 +1,4 @@
-// The checksum of document 01, CRC-64/XZ.
+// Internal: the checksum of document 01, CRC-64/XZ.
 ghost use mathlib.Core.Path.{_≡_};
 ghost use Rattle.crc64.specs.Crc.{run, crcOf};
 

@@ -19,7 +19,7 @@ pub fn shifts(register: u64, n: u32) -> u64
 {
     let mut x = register;
     let mut left = n;
-    // n turns.
+    // n iterations
     while left > 0 {
         x = shift(x);
         left -= 1;
@@ -40,7 +40,7 @@ pub fn update(register: u64, s: &[u8]) -> u64
 {
     let mut x = register;
     let mut i = 0;
-    // A turn for each byte.
+    // an iteration for each byte
     while i < s.len() {
         x = add_byte(x, s[i]);
         i += 1;

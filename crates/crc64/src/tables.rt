@@ -1,5 +1,6 @@
-// The eight tables of 256 entries, one after the other, filled by linearity: the entry of a byte
-// is that of its highest bit, exclusive-or that of the rest.
+// The eight tables of 256 entries, one after the other. Table k serves the byte that stands 8 (7 - k) bits up in a register that
+// is to take 256 shifts: the first 56 - 8 k of these bring the byte down, and 200 + 8 k are left for the table. Filled by
+// linearity: the entry of a byte is that of its highest bit, exclusive-or that of the rest.
 ghost use mathlib.Core.Path.{_≡_};
 ghost use Prim.Native.Nat.{_+_, _*_, _^_, _<_};
 ghost use lib.ListN.{length};
@@ -14,7 +15,7 @@ fn powers() -> [u64; 64]
     let mut p = [0u64; 64];
     let mut x = register::shifts(128, 200);
     let mut n: usize = 0;
-    // 64 turns.
+    // 64 iterations
     while n < 64 {
         p[n] = x;
         x = register::shift(x);
@@ -33,7 +34,7 @@ fn double(t: &mut [u64; 2048], k: usize, j: usize, x: u64)
 {
     let half: usize = 1 << j;
     let mut m: usize = 0;
-    // 2^j turns, at most 128.
+    // 2^j iterations, at most 128
     while m < half {
         t[256 * k + half + m] = t[256 * k + m] ^ x;
         m += 1;
@@ -49,7 +50,7 @@ fn table(t: &mut [u64; 2048], k: usize, p: &[u64; 64])
 {
     t[256 * k] = 0;
     let mut j: usize = 0;
-    // 8 turns.
+    // 8 iterations
     while j < 8 {
         double(t, k, j, p[8 * k + 7 - j]);
         j += 1;
@@ -63,7 +64,7 @@ pub fn fill(t: &mut [u64; 2048])
 {
     let p = powers();
     let mut k: usize = 0;
-    // 8 turns.
+    // 8 iterations
     while k < 8 {
         table(t, k, &p);
         k += 1;

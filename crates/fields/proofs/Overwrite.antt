@@ -1,4 +1,4 @@
--- Laws of `overwrite` and `part`. None but those of what was written asks that the bytes fit.
+-- Laws of `overwrite` and `part`.
 -- Assumes nothing.
 use mathlib.Core.Path.{_≡_, refl, sym, ap, _∙_}
 use mathlib.Core.Logic.{_⊎_, inl, inr, ⊎-elim}
