@@ -1,7 +1,7 @@
 -- The address list of a commit: what is handed in for an address of it, and for every other.
 use mathlib.Core.Bool.{true, false}
 use mathlib.Core.List.{List, [], _∷_}
-use mathlib.Core.Logic.{_≢_}
+use mathlib.Core.Logic.{_≢_, Iff·rfl}
 use mathlib.Core.Option.{none, some}
 use mathlib.Core.Path.{_≡_, refl, _∙_}
 use Prim.Native.Nat.{ℕ, zero, suc, _≤_, _<_}
@@ -10,7 +10,7 @@ use native.Mathlib.Omega.{arith}
 use lib.ListN.{length, getD}
 use Rattle.format.specs.Lists.{All, done, more}
 use Rattle.format.specs.Committing.{rising, anyOutside, given}
-use Rattle.format.proofs.Tests.{below-on, atLeast-off, same-true, same-false, or-left, or-right, and-on, choose-true, choose-false}
+use Rattle.format.proofs.Tests.{below-on, atLeast-iff, same-true, same-iff, or-iff, and-on, choose-true, choose-false}
 
 rising-tail : (a : ℕ) (l : List ℕ) → rising (a ∷ l) ≡ true → rising l ≡ true
 unfolding rising
@@ -36,7 +36,7 @@ given-named d (a ∷ l) [] i h k m = absurd (not-suc-le-zero m)
 given-named d (a ∷ l) (y ∷ ys) zero h k m = choose-true _ _ _ (same-true a a refl)
 given-named d (a ∷ l) (y ∷ ys) (suc i) h k m =
     let lt : a < getD l i 0 = rising-below a l i h (le-of-suc-le-suc k) in
-    choose-false _ _ _ (same-false a (getD l i 0) (λ e. absurd (omega arith)))
+    choose-false _ _ _ (same-iff {a = a} {b = getD l i 0} .1 (λ e. absurd (omega arith)))
     ∙ given-named d l ys i (rising-tail a l h) (le-of-suc-le-suc k) (le-of-suc-le-suc m)
 
 -- every other address
@@ -44,12 +44,12 @@ pub given-other : {A : Type 0} (l : List ℕ) (ys : List A) (a : ℕ) → All (�
 unfolding given
 given-other _ ys a done = refl
 given-other _ [] a (more h hs) = refl
-given-other _ (y ∷ ys) a (more {a = b} {l = l} h hs) = choose-false _ _ _ (same-false b a h) ∙ given-other l ys a hs
+given-other _ (y ∷ ys) a (more {a = b} {l = l} h hs) = choose-false _ _ _ (same-iff .1 h) ∙ given-other l ys a hs
 
 -- an address past the count is another
 pub outside-other : (n a : ℕ) (l : List ℕ) → anyOutside n l ≡ false → n ≤ a → All (λ (b : ℕ). b ≢ a) l
 unfolding anyOutside
 outside-other n a [] h k = done
 outside-other n a (b ∷ l) h k =
-    let lt : b < n = atLeast-off _ _ (or-left _ _ h) in
-    more (λ (e : b ≡ a). absurd (omega arith)) (outside-other n a l (or-right _ _ h) k)
+    let (lt, r) = or-iff atLeast-iff Iff·rfl .0 h in
+    more (λ (e : b ≡ a). absurd (omega arith)) (outside-other n a l r k)

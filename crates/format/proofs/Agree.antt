@@ -21,7 +21,7 @@ use Rattle.format.specs.Layouts.{DBLK, DDT*, headerLength, imageMajorAt,
 use Rattle.format.specs.Opening.{offsetsOf, first, tableAt, Opened, openedAt, opened}
 use Rattle.format.specs.Reading.{tableEntry, notWritten, pointerAt, has, placeOf, itemBytes, readAt}
 use Rattle.format.specs.Facts.{Identified, HeaderOk, IndexOk, EntryOk, TableOk, ItemOk}
-use Rattle.format.proofs.Tests.{on-or-off, below-on, below-off}
+use Rattle.format.proofs.Tests.{on-or-off, below-on, below-iff}
 use Rattle.format.proofs.Lists.{all-map, all-head}
 use Rattle.format.proofs.Checks.{read-20, read-21, read-bytes, OpenOk, PointerOk, SectorOk, AddressOk, Sound}
 use Rattle.format.proofs.Named.{offsets-all, has-all}
@@ -271,4 +271,4 @@ reads-agree x y g o s a = go (on-or-off (below a (opened x o .count)))
 
     go : (below a (opened x o .count) ≡ true) ⊎ (below a (opened x o .count) ≡ false) → readAt x o a ≡ readAt y o a
     go (inl e) = let h : a < opened x o .count = below-on _ _ e in inside h (s .sectors a h)
-    go (inr e) = let h : opened x o .count ≤ a = below-off _ _ e in read-20 x o ox a h ∙ sym (read-20 y o oy a (rw eo at h))
+    go (inr e) = let h : opened x o .count ≤ a = below-iff .0 e in read-20 x o ox a h ∙ sym (read-20 y o oy a (rw eo at h))

@@ -24,7 +24,7 @@ use Rattle.format.specs.Reading.{tableEntry, notWritten, pointerAt, has,
 use Rattle.format.specs.Writing.{largestSize, longestBuffer}
 use Rattle.format.specs.Committing.{pieces, given, itemOf, oldPointer, newPointer, itemOrZero, largestItem, shiftFor, tableEntryBytes, keptEntries, newBlock, newBlockEntry, storedFor, pointersFor}
 use Rattle.format.specs.Facts.{Identified, EntryOk, ItemOk}
-use Rattle.format.proofs.Tests.{never, same-true, same-false, choose-true, choose-false}
+use Rattle.format.proofs.Tests.{never, same-true, same-iff, choose-true, choose-false}
 use Rattle.format.proofs.Lists.{Sized, all-append, all-map, all-get, length-flat, getD-map}
 use Rattle.format.proofs.Checks.{OpenOk, PointerOk, SectorOk, AddressOk, Sound, read-20, read-21, read-bytes}
 use Rattle.format.proofs.Named.{user-data-on, user-data-true, user-data-false, offsets-yes, offsets-no, offsets-append, has-head, has-left, has-right}
@@ -125,7 +125,7 @@ entry-zero y t a e = same-true _ _ e
 
 entry-other : (y : List ℕ) (t : Opened) (a : ℕ) → tableEntry y t a ≢ 0 → notWritten y t a ≡ false
 unfolding notWritten
-entry-other y t a e = same-false _ _ e
+entry-other y t a e = same-iff .1 e
 
 module _ (x : List ℕ) (o : ℕ) (addresses : List ℕ) (size : ℕ) (sectors : List ℕ) where
   abbrev ds : List (List ℕ)

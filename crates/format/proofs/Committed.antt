@@ -21,7 +21,7 @@ use Rattle.format.specs.Reading.{readAt, read}
 use Rattle.format.specs.Writing.{longestBuffer, placed, setHeader}
 use Rattle.format.specs.Committing.{rising, pieces, given, newTable, Appended, appendedFor, appended, tableStart, indexStart, usedAfter, appendedBytes, append, commit}
 use Rattle.format.specs.Demands.{ReadsCommitted, NoStaleChecksum, Demand2Committing}
-use Rattle.format.proofs.Tests.{on-or-off, below-on, below-off}
+use Rattle.format.proofs.Tests.{on-or-off, below-on, below-iff}
 use Rattle.format.proofs.Lists.{all-take}
 use Rattle.format.proofs.Checks.{commit-ok, ArgumentsOk, Sound, DiscOk, read-20}
 use Rattle.format.proofs.Agree.{Agree}
@@ -117,8 +117,8 @@ module _ (buffer : List ℕ) (isBytes : IsBytes buffer) (used : ℕ) (addresses 
           → readAt y (length x + length (new .block) + length (new .table)) a ≡ handedOr (given addresses ds a) (readAt x o a)
       go (inl e) = reads-new x o addresses size sectors y agrees s (all-take buffer isBytes used) (k .pos) (k .small) (k .whole) holds y-long a (below-on _ _ e)
       go (inr e) =
-          reads-past x o addresses size sectors y agrees s (all-take buffer isBytes used) (k .pos) (k .small) (k .whole) holds y-long a (below-off _ _ e)
-          ∙ sym (ap (λ (v : Option (List ℕ)). handedOr v (readAt x o a)) (given-other addresses ds a (outside-other _ a addresses (d .inside) (below-off _ _ e))) ∙ read-20 x o (s .opens) a (below-off _ _ e))
+          reads-past x o addresses size sectors y agrees s (all-take buffer isBytes used) (k .pos) (k .small) (k .whole) holds y-long a (below-iff .0 e)
+          ∙ sym (ap (λ (v : Option (List ℕ)). handedOr v (readAt x o a)) (given-other addresses ds a (outside-other _ a addresses (d .inside) (below-iff .0 e))) ∙ read-20 x o (s .opens) a (below-iff .0 e))
 
   committed : Committed buffer used addresses size sectors (placed (usedAfter used new) (indexStart used new)) after
   unfolding read usedAfter

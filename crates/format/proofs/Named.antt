@@ -1,7 +1,7 @@
 -- What an index names: the offsets of its entries for one kind of block, of user data.
 use mathlib.Core.Bool.{true, false}
 use mathlib.Core.List.{List, [], _∷_, _++_}
-use mathlib.Core.Logic.{_≢_, _⊎_, inl, inr, _↔_}
+use mathlib.Core.Logic.{_≢_, _⊎_, inl, inr, _↔_, Iff·rfl}
 use mathlib.Core.Path.{_≡_, refl, sym, ap, _∙_, subst}
 use Prim.Native.Nat.{ℕ}
 use native.Mathlib.Omega.{arith}
@@ -12,7 +12,7 @@ use Rattle.format.specs.Layouts.{tag}
 use Rattle.format.specs.Opening.{isType, isUserData, offsetsOf}
 use Rattle.format.specs.Reading.{has}
 use Rattle.format.specs.Facts.{UserData}
-use Rattle.format.proofs.Tests.{on-or-off, never, same-on, same-off, same-true, same-false, or-on, or-true-left, or-true-right, and-on, and-true, and-false-left, choose-true, choose-false}
+use Rattle.format.proofs.Tests.{on-or-off, never, same-on, same-true, same-iff, or-on, or-true-left, or-true-right, and-on, and-true, and-iff, choose-true, choose-false}
 
 -- ---- one entry
 module _ (letters : List ℕ) (e : Entry) where
@@ -22,7 +22,7 @@ module _ (letters : List ℕ) (e : Entry) where
 
   pub type-off : isType letters e ≡ false → e .blockType ≢ tag letters
   unfolding isType
-  type-off h = same-off _ _ h
+  type-off h = same-iff .0 h
 
   pub type-true : e .blockType ≡ tag letters → isType letters e ≡ true
   unfolding isType
@@ -30,7 +30,7 @@ module _ (letters : List ℕ) (e : Entry) where
 
   pub type-false : e .blockType ≢ tag letters → isType letters e ≡ false
   unfolding isType
-  type-false h = same-false _ _ h
+  type-false h = same-iff .1 h
 
   pub user-data-on : isUserData letters e ≡ true → UserData letters e
   unfolding isUserData
@@ -42,7 +42,7 @@ module _ (letters : List ℕ) (e : Entry) where
 
   pub user-data-false : e .blockType ≢ tag letters → isUserData letters e ≡ false
   unfolding isUserData
-  user-data-false h = and-false-left _ _ (type-false h)
+  user-data-false h = and-iff (type-off, type-false) Iff·rfl .1 (inl h)
 
   -- ---- the offsets
   pub offsets-yes : (es : List Entry) → isUserData letters e ≡ true → offsetsOf letters (e ∷ es) ≡ e .offset .0 ∷ offsetsOf letters es

@@ -8,7 +8,7 @@ use Rattle.format.specs.Opening.{offsetsOf, first, tableAt, Opened, open
 use Rattle.format.specs.Reading.{tableEntry, notWritten, pointerAt, placeOf, itemBytes, readAt, read}
 use Rattle.format.specs.Committing.{itemOf}
 use Rattle.format.specs.Demands.{NamesItem, Demand2Reading}
-use Rattle.format.proofs.Tests.{same-off, same-false}
+use Rattle.format.proofs.Tests.{same-iff}
 use Rattle.format.proofs.Refusals.{answer-accepted}
 use Rattle.format.proofs.Checks.{read-ok, OpenOk, SectorOk, read-bytes}
 use Rattle.format.proofs.Named.{named, only-named}
@@ -37,7 +37,7 @@ module _ (img : List ℕ) (a : ℕ) (sector : List ℕ) where
         inside = q .inside;
         entry = tableEntry img (opened img o) a;
         entryThere = refl;
-        written = same-off _ _ (q .written);
+        written = same-iff .0 (q .written);
         block = pointerAt img (opened img o) a .block .0;
         blockPlace = refl;
         item = pointerAt img (opened img o) a .item .0;
@@ -82,7 +82,7 @@ module _ (img : List ℕ) (a : ℕ) (sector : List ℕ) where
     sector-is =
         record {
           inside = n .inside;
-          written = same-false _ _ (λ e. n .written (sym (n .entryThere) ∙ e));
+          written = same-iff .1 (λ e. n .written (sym (n .entryThere) ∙ e));
           named = rw pointer-is (named DBLK (n .block) (entries img o) .1 (n .indexed));
           item = rw pointer-is (n .itemOk);
         }

@@ -1,9 +1,9 @@
 -- Chains of checks: what it takes to pass, and what the first refusal is.
-use mathlib.Core.Bool.{Bool, true, false}
-use mathlib.Core.Logic.{_≢_}
-use mathlib.Core.Path.{_≡_, refl, ap, _∙_}
-use Prim.Native.Nat.{ℕ, zero, suc, _+_, _<_}
-use native.Mathlib.Nat.{add-zero, not-suc-le-zero, le-of-suc-le-suc}
+use mathlib.Core.Bool.{Bool, true, false, true≢false}
+use mathlib.Core.Logic.{_≢_, ⊎-elim, _↔_}
+use mathlib.Core.Path.{_≡_, refl, subst}
+use Prim.Native.Nat.{ℕ, zero, suc, _+_, _≤_, _<_}
+use native.Mathlib.Nat.{eq-or-lt-of-le}
 use native.Mathlib.Omega.{arith}
 use Rattle.format.specs.declared.Refusal.{Refusal}
 use Rattle.format.specs.declared.Verdict.{Verdict}
@@ -11,36 +11,28 @@ use Rattle.format.specs.declared.Verdict.the-variants.{Passes, Refuses}
 use Rattle.format.specs.Refusals.{row, _then_, firstRefusal, refused, accepted, answer}
 
 -- ---- passing
-pub row-passes : (b : Bool) (r : Refusal) → b ≡ false → row b r ≡ Passes
+pub not-passes : {r : Refusal} → Refuses r ≢ Passes
+not-passes h = let z : _≡_ {A = ℕ} 0 1 = cc in absurd (omega arith)
+
+pub row-iff : {P : Type 0} {b : Bool} (r : Refusal) → (b ≡ false) ↔ P → (row b r ≡ Passes) ↔ P
 unfolding row
-row-passes b r e = rw e
+row-iff {b = true} r p = (λ h. absurd (not-passes h), λ k. absurd (true≢false (p .1 k)))
+row-iff {b = false} r p = (λ h. p .0 refl, λ k. refl)
 
-pub row-off : (b : Bool) (r : Refusal) → row b r ≡ Passes → b ≡ false
-unfolding row
-row-off true r h = let z : _≡_ {A = ℕ} 0 1 = cc in absurd (omega arith)
-row-off false r h = refl
-
-pub then-passes : (v w : Verdict) → v ≡ Passes → w ≡ Passes → (v then w) ≡ Passes
+pub then-iff : {P Q : Type 0} {v w : Verdict} → (v ≡ Passes) ↔ P → (w ≡ Passes) ↔ Q → ((v then w) ≡ Passes) ↔ (P × Q)
 unfolding _then_
-then-passes v w p q = rw p q
+then-iff {v = Passes} p q = (λ h. (p .0 refl, q .0 h), λ k. q .1 (k .1))
+then-iff {v = Refuses r} p q = (λ h. absurd (not-passes h), λ k. p .1 (k .0))
 
-pub then-left : (v w : Verdict) → (v then w) ≡ Passes → v ≡ Passes
-unfolding _then_
-then-left Passes w h = refl
-then-left (Refuses r) w h = h
-
-pub then-right : (v w : Verdict) → (v then w) ≡ Passes → w ≡ Passes
-unfolding _then_
-then-right Passes w h = h
-then-right (Refuses r) w h = let z : _≡_ {A = ℕ} 0 1 = cc in absurd (omega arith)
-
-pub firstRefusal-passes : (f : ℕ → Verdict) (k i : ℕ) → firstRefusal f k i ≡ Passes → (j : ℕ) → j < k → f (i + j) ≡ Passes
+pub firstRefusal-iff : {P : ℕ → Type 0} {f : ℕ → Verdict} (n k i : ℕ) → i + k ≡ n → ((a : ℕ) → a < n → (f a ≡ Passes) ↔ P a)
+    → (firstRefusal f k i ≡ Passes) ↔ ((a : ℕ) → i ≤ a → a < n → P a)
 unfolding firstRefusal
-firstRefusal-passes f zero i h j b = absurd (not-suc-le-zero b)
-firstRefusal-passes f (suc k) i h zero b = ap f (add-zero i) ∙ then-left _ _ h
-firstRefusal-passes f (suc k) i h (suc j) b =
-    let e : i + suc j ≡ suc i + j = omega arith in
-    ap f e ∙ firstRefusal-passes f k (suc i) (then-right (f i) _ h) j (le-of-suc-le-suc b)
+firstRefusal-iff n zero i e p = (λ h a l b. absurd (omega arith), λ h. refl)
+firstRefusal-iff {P} n (suc k) i e p =
+    let both = then-iff (p i (omega arith)) (firstRefusal-iff n k (suc i) (omega arith) p) in (
+      (λ h a l b. ⊎-elim (λ q. subst P q (both .0 h .0)) (λ m. both .0 h .1 a m b) (eq-or-lt-of-le l)),
+      λ s. both .1 (s i (omega arith) (omega arith), λ a l b. s a (omega arith) b),
+    )
 
 -- ---- the rest of a chain
 pub then-rest : (v w : Verdict) → v ≡ Passes → (v then w) ≡ w

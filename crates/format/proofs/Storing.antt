@@ -10,6 +10,7 @@ use native.Mathlib.Omega.{arith}
 use lib.ListN.{length, take, drop, getD, length-append, length-take, length-drop, List·getD-append}
 use lib.Pow.{pow-mono}
 use lib.Seq.{drop-drop, getD-append-seam}
+use borrow.Author.Tests.{not-true}
 use Rattle.fields.specs.Bytes.{part, equal}
 use Rattle.fields.proofs.Equal.{equal-true}
 use Rattle.format.specs.declared.Pointer.{Pointer}
@@ -19,7 +20,7 @@ use Rattle.format.specs.Refusals.{Answer, accepted}
 use Rattle.format.specs.Opening.{Opened}
 use Rattle.format.specs.Reading.{notWritten, pointerAt, itemBytes}
 use Rattle.format.specs.Committing.{pieces, given, firstWith, holdsSector, onDisc, amongStored, Step, itemOf, stepFor, storeOne, Stored, storeAll, oldPointer, orElse, newPointer, newPointers, itemOrZero, largestItem, shiftFrom}
-use Rattle.format.proofs.Tests.{on-or-off, not-on, below-on, below-off, and-on, choose-true, choose-false}
+use Rattle.format.proofs.Tests.{on-or-off, below-on, below-iff, and-on, choose-true, choose-false}
 use Rattle.format.proofs.Lists.{Sized, all-append, all-take, all-drop, all-head, all-tail}
 
 -- ---- the smallest shift
@@ -42,7 +43,7 @@ shift-least (suc k) s n m h q = go (shift-least k (suc s) n m) (on-or-off (below
 
     go : (suc s ≤ m → n < 2 ^ m → shiftFrom k (suc s) n ≤ m) → (below n (2 ^ s) ≡ true) ⊎ (below n (2 ^ s) ≡ false) → shiftFrom (suc k) s n ≤ m
     go ih (inl e) = rw (choose-true _ s (shiftFrom k (suc s) n) e) h
-    go ih (inr e) = rw (choose-false _ s (shiftFrom k (suc s) n) e) (ih (past (below-off _ _ e)) q)
+    go ih (inr e) = rw (choose-false _ s (shiftFrom k (suc s) n) e) (ih (past (below-iff .0 e)) q)
 
 -- ---- the searches
 -- what a search finds passes its test
@@ -70,7 +71,7 @@ unfolding onDisc holdsSector
 onDisc-found img t sector a e =
     let r = firstWith-found (holdsSector img t sector) (t .count) 0 a e in
     let q = and-on _ _ (r .0) in
-    record { inside = omega (arith, r .2); written = not-on _ (q .0); bytes = equal-true _ _ (q .1) }
+    record { inside = omega (arith, r .2); written = not-true _ (q .0); bytes = equal-true _ _ (q .1) }
 
 amongStored-found : (stored : List (List ℕ)) (sector : List ℕ) (j : ℕ) → amongStored stored sector ≡ some j → (j < length stored) × (getD stored j [] ≡ sector)
 unfolding amongStored
