@@ -42,12 +42,12 @@ holds-left s at a b h =
       there = λ i k. h .there i (simp length-append (omega arith)) ∙ List·getD-append a b 0 i k;
     }
 
-pub holds-right : (s : List ℕ) (at : ℕ) (a b : List ℕ) → Holds s at (a ++ b) → Holds s (at + length a) b
-holds-right s at a b h =
+pub holds-right : (s : List ℕ) (at : ℕ) (a b : List ℕ) → Holds s at (a ++ b) → {n : ℕ} → at + length a ≡ n → Holds s n b
+holds-right s at a b h {n} q =
     record {
       fits = omega (arith, simp length-append at (h .fits));
       there = λ i k.
-          let e : at + length a + i ≡ at + (length a + i) = omega arith in
+          let e : n + i ≡ at + (length a + i) = omega arith in
           ap (λ m. getD s m 0) e ∙ h .there (length a + i) (simp length-append (omega arith)) ∙ getD-append-add a b i 0;
     }
 

@@ -31,7 +31,7 @@ holds-nth s at [] rest h j k = absurd (not-suc-le-zero k)
 holds-nth s at (f ∷ fs) rest h zero k = rw add-zero (holds-left s at (fieldBytes f) (layout fs ++ rest) (rw append-assoc at h))
 holds-nth s at (f ∷ fs) rest h (suc j) k =
     let e : at + (width f + total (take j fs)) ≡ at + length (fieldBytes f) + total (take j fs) = omega (arith, length-fieldBytes f) in
-    rw e (holds-nth s (at + length (fieldBytes f)) fs rest (holds-right s at (fieldBytes f) (layout fs ++ rest) (rw append-assoc at h)) j (le-of-suc-le-suc k))
+    rw e (holds-nth s (at + length (fieldBytes f)) fs rest (holds-right s at (fieldBytes f) (layout fs ++ rest) (rw append-assoc at h) refl) j (le-of-suc-le-suc k))
 
 -- a number of it
 pub holds-num : (s : List ℕ) (at : ℕ) (fs : List Field) (rest : List ℕ) → Holds s at (layout fs ++ rest) → (j k v : ℕ) → j < length fs

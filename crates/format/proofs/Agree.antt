@@ -26,27 +26,26 @@ use Rattle.format.proofs.Lists.{all-map, all-head}
 use Rattle.format.proofs.Checks.{read-20, read-21, read-bytes, OpenOk, PointerOk, SectorOk, AddressOk, Sound}
 use Rattle.format.proofs.Named.{offsets-all, has-all}
 
--- y keeps x's bytes below the index offset and past the header
+-- places below the header's index offset, or past the header
+abbrev pub KeptAt : ℕ → Type 0
+KeptAt p = (p < indexOffsetAt) ⊎ (headerLength ≤ p)
+
+-- y keeps x's bytes there
 pub record Agree (x y : List ℕ) : Type 0 where
   pub longer : length x ≤ length y
-  pub front : (p : ℕ) → p < indexOffsetAt → p < length x → getD x p 0 ≡ getD y p 0
-  pub rest : (p : ℕ) → headerLength ≤ p → p < length x → getD x p 0 ≡ getD y p 0
+  pub bytes : (p : ℕ) → KeptAt p → p < length x → getD x p 0 ≡ getD y p 0
 
 pub agree-refl : (x : List ℕ) → Agree x x
-agree-refl x = record { longer = le-refl (length x); front = λ p h k. refl; rest = λ p h k. refl }
+agree-refl x = record { longer = le-refl (length x); bytes = λ p h k. refl }
 
 pub agree-trans : (x y z : List ℕ) → Agree x y → Agree y z → Agree x z
 agree-trans x y z f g =
-    record {
-      longer = le-trans (f .longer) (g .longer);
-      front = λ p h k. f .front p h k ∙ g .front p h (le-trans k (f .longer));
-      rest = λ p h k. f .rest p h k ∙ g .rest p h (le-trans k (f .longer));
-    }
+    record { longer = le-trans (f .longer) (g .longer); bytes = λ p h k. f .bytes p h k ∙ g .bytes p h (le-trans k (f .longer)) }
 
 -- ---- fields, and the facts of each group of checks
 module _ (x y : List ℕ) (g : Agree x y) where
   pub part-rest : (at n : ℕ) → headerLength ≤ at → at + n ≤ length x → part x at n ≡ part y at n
-  part-rest at n h k = part-alike x y at at n k (le-trans k (g .longer)) (λ i b. g .rest (at + i) (omega arith) (omega arith))
+  part-rest at n h k = part-alike x y at at n k (le-trans k (g .longer)) (λ i b. g .bytes (at + i) (inr (omega arith)) (omega arith))
 
   field-rest : (at n : ℕ) → headerLength ≤ at → at + n ≤ length x → field x at n ≡ field y at n
   unfolding field
@@ -54,7 +53,7 @@ module _ (x y : List ℕ) (g : Agree x y) where
 
   field-front : (at n : ℕ) → at + n ≤ indexOffsetAt → headerLength ≤ length x → field x at n ≡ field y at n
   unfolding field
-  field-front at n h k = ap fromLe (part-alike x y at at n (omega arith) (omega (arith, g .longer)) (λ i b. g .front (at + i) (omega arith) (omega arith)))
+  field-front at n h k = ap fromLe (part-alike x y at at n (omega arith) (omega (arith, g .longer)) (λ i b. g .bytes (at + i) (inl (omega arith)) (omega arith)))
 
   pub header-agree : HeaderOk x → HeaderOk y
   unfolding Identified

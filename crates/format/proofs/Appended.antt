@@ -2,7 +2,7 @@
 -- reads as handed in, or as it did.
 use mathlib.Core.Bool.{true, false}
 use mathlib.Core.List.{List, [], _∷_, _++_, map}
-use mathlib.Core.Logic.{_≢_, _⊎_, inl, inr}
+use mathlib.Core.Logic.{_≢_, _⊎_, inl, inr, ⊎-elim}
 use mathlib.Core.Option.{Option, none, some}
 use mathlib.Core.Path.{_≡_, refl, sym, ap, _∙_, subst}
 use Prim.Native.Nat.{ℕ, suc, _+_, _*_, _/_, _^_, _≤_, _<_, zero-le}
@@ -19,17 +19,18 @@ use Rattle.format.specs.declared.Pointer.{Pointer}
 use Rattle.format.specs.Lists.{All, done, more, IsBytes, flat}
 use Rattle.format.specs.Refusals.{refusal, Answer, refused, accepted}
 use Rattle.format.specs.Layouts.{DBLK, DDT*, CKSM, tag, headerLength, entries, indexBytes, sectorSize, blockLength, tableBytes, decode, encode, tableHeaderLength, blockHeaderLength, tableEntryLength}
-use Rattle.format.specs.Opening.{offsetsOf, first, tableAt, Opened, openedAt, opened}
+use Rattle.format.specs.Opening.{offsetsOf, Opened, opened}
 use Rattle.format.specs.Reading.{tableEntry, notWritten, pointerAt, has, placeOf, itemBytes, readAt}
 use Rattle.format.specs.Writing.{largestSize, longestBuffer}
-use Rattle.format.specs.Committing.{pieces, given, itemOf, oldPointer, newPointer, itemOrZero, largestItem, shiftFor, tableEntryBytes, keptEntries, newBlock, newBlockEntry, storedFor, pointersFor}
+use Rattle.format.specs.Committing.{pieces, given, itemOf, oldPointer, newPointer, itemOrZero, largestItem, shiftFor, tableEntryBytes, keptEntries, newTable, newBlock, newBlockEntry, storedFor, pointersFor, Appended, tableStart, indexStart, appendedFor, appended, appendedBytes}
+use Rattle.format.specs.Demands.{NoStaleChecksum}
 use Rattle.format.specs.Facts.{Identified, EntryOk, ItemOk}
 use Rattle.format.proofs.Tests.{never, same-true, same-iff, choose-true, choose-false}
-use Rattle.format.proofs.Lists.{Sized, all-append, all-map, all-get, length-flat, getD-map}
-use Rattle.format.proofs.Checks.{OpenOk, PointerOk, SectorOk, AddressOk, Sound, read-20, read-21, read-bytes}
+use Rattle.format.proofs.Lists.{Sized, all-append, all-map, all-get, length-flat, getD-map, all-image}
+use Rattle.format.proofs.Checks.{PointerOk, SectorOk, AddressOk, Sound, read-20, read-21, read-bytes}
 use Rattle.format.proofs.Named.{user-data-on, user-data-true, user-data-false, offsets-yes, offsets-no, offsets-append, has-head, has-left, has-right}
 use Rattle.format.proofs.Agree.{Agree, header-agree, entry-agree, item-agree, bytes-agree, block-low}
-use Rattle.format.proofs.Written.{EntryFits, holds-piece, length-tableBytes, table-identified, table-shift, table-count, table-entries, table-written, length-blockBytes, block-identified, block-size, block-items, item-written, length-indexBytes, index-entries, index-written}
+use Rattle.format.proofs.Written.{EntryFits, holds-piece, length-tableBytes, table-identified, table-entries, length-blockBytes, block-identified, block-size, block-items, item-written, length-indexBytes, Opens, opens-written}
 use Rattle.format.proofs.KeptEntries.{dblk-cksm, dblk-ddt, kept-all, kept-blocks, kept-table}
 use Rattle.format.proofs.Storing.{handedOr, pieces-sized, shift-fits, shift-least, Source, old, new, stored-ok, NewPointer, fresh, kept, new-pointer, length-newPointers, getD-newPointers, item-largest, largest-bound}
 use Rattle.format.proofs.Bytes.{entries-fit}
@@ -52,6 +53,20 @@ encode-pos s p h e =
     let m : 1 * 2 ^ s ≤ p .block .0 * 2 ^ s = mul-le-mul-right (2 ^ s) h in
     let q : 0 < 2 ^ s = pow-pos s in
     omega arith
+
+-- ---- the new block's entry, where anything is stored
+abbrev blockEntry : ℕ → Entry
+blockEntry b = record { blockType = tag DBLK; dataType = 1; offset = record { 0 = b } }
+
+block-entry-all : {P : Entry → Type 0} (b : ℕ) (items : List (List ℕ)) → (0 < length items → P (blockEntry b)) → All P (newBlockEntry b items)
+unfolding newBlockEntry
+block-entry-all b [] f = done
+block-entry-all b (i ∷ is) f = more (f (omega arith)) done
+
+block-no-table : (b : ℕ) (items : List (List ℕ)) → offsetsOf DDT* (newBlockEntry b items) ≡ []
+unfolding newBlockEntry offsetsOf
+block-no-table b [] = refl
+block-no-table b (i ∷ is) = offsets-no DDT* (blockEntry b) [] (user-data-false DDT* (blockEntry b) dblk-ddt)
 
 -- ---- the new block: item j of it
 record NewItem (y : List ℕ) (b : ℕ) (items : List (List ℕ)) (j : ℕ) : Type 0 where
@@ -83,35 +98,38 @@ new-item y b size (s ∷ ss) sz h pos small long j k = made
     short = omega (arith, f)
 
     es : sectorSize y b ≡ size
-    es = block-size y b size (length items) payload h pos small whole short
+    es = block-size y b size payload h small
 
     hi : Holds y (b + blockHeaderLength + j * size) (getD items j [])
-    hi = holds-piece y size items sz (b + blockHeaderLength) (block-items y b size (length items) payload h pos small whole short) j k
+    hi = holds-piece y size items sz (b + blockHeaderLength) (block-items y b size payload h) j k
 
     ln : length (getD items j []) ≡ size
     ln = all-get [] sz j k
 
-    e : Entry
-    e = record { blockType = tag DBLK; dataType = 1; offset = record { 0 = b } }
-
     made : NewItem y b items j
     made =
         record {
-          identified = block-identified y b size (length items) payload h pos small whole short;
+          identified = block-identified y b size payload h;
           fits = omega (arith, f);
-          item = item-written y b size (length items) payload h pos small whole short j k;
+          item = item-written y b size payload h pos small short (length items) whole j k;
           bytes = ap (λ n. part y (b + blockHeaderLength + j * n) n) es ∙ ap (part y (b + blockHeaderLength + j * size)) (sym ln) ∙ holds-all y (b + blockHeaderLength + j * size) (getD items j []) hi;
-          named = ap (has b) (offsets-yes DBLK e [] (user-data-true DBLK e (record { type = refl; userData = refl }))) ∙ has-head b b _ refl;
+          named = ap (has b) (offsets-yes DBLK (blockEntry b) [] (user-data-true DBLK (blockEntry b) (record { type = refl; userData = refl }))) ∙ has-head b b _ refl;
         }
 
 -- ---- a pointer that stands, in an image whose index has the entries es: it names an intact item, which holds these bytes
 record Points (y : List ℕ) (es : List Entry) (sector : List ℕ) (p : Pointer) : Type 0 where
   low : headerLength ≤ p .block .0
-  block : p .block .0 < 2 ^ 32
-  item : p .item .0 < 2 ^ 32
   named : has (p .block .0) (offsetsOf DBLK es) ≡ true
   ok : PointerOk y p
   bytes : itemBytes y p ≡ sector
+
+-- both numbers of a pointer to an intact item are below 2^32
+pointer-small : (y : List ℕ) (p : Pointer) → PointerOk y p → length y ≤ longestBuffer → (p .block .0 < 2 ^ 32) × (p .item .0 < 2 ^ 32)
+pointer-small y p k long =
+    let fits : p .block .0 + blockHeaderLength + blockLength y (p .block .0) ≤ length y = k .block .fits in
+    let i : p .item .0 < blockLength y (p .block .0) / sectorSize y (p .block .0) = k .item in
+    let d : blockLength y (p .block .0) / sectorSize y (p .block .0) ≤ blockLength y (p .block .0) = div-le-self _ _ in
+    (omega arith, omega arith)
 
 -- what an address gets, nothing or a pointer that stands, and what it then reads as
 data Gets (y : List ℕ) (es : List Entry) : Option Pointer → Answer (List ℕ) → Type 0 where
@@ -127,6 +145,13 @@ entry-other : (y : List ℕ) (t : Opened) (a : ℕ) → tableEntry y t a ≢ 0 �
 unfolding notWritten
 entry-other y t a e = same-iff .1 e
 
+-- ---- the disc of y at index offset i, after the sectors ds were committed at these addresses to the disc of x at o
+pub record NewDisc (x : List ℕ) (o : ℕ) (addresses : List ℕ) (ds : List (List ℕ)) (y : List ℕ) (i : ℕ) : Type 0 where
+  pub sound : Sound y i
+  pub reads : (a : ℕ) → a < opened x o .count → readAt y i a ≡ handedOr (given addresses ds a) (readAt x o a)
+  pub past : (a : ℕ) → opened x o .count ≤ a → readAt y i a ≡ refused (refusal 20)
+  pub stale : NoStaleChecksum y i
+
 module _ (x : List ℕ) (o : ℕ) (addresses : List ℕ) (size : ℕ) (sectors : List ℕ) where
   abbrev ds : List (List ℕ)
   ds = pieces (length addresses) size sectors
@@ -140,29 +165,24 @@ module _ (x : List ℕ) (o : ℕ) (addresses : List ℕ) (size : ℕ) (sectors :
   abbrev pointers : List (Option Pointer)
   pointers = pointersFor x o addresses ps
 
-  abbrev block : List ℕ
-  block = newBlock size items
-
-  abbrev tableStart : ℕ
-  tableStart = length x + length block
-
   abbrev shift : ℕ
   shift = shiftFor (largestItem pointers)
 
   abbrev payload : List ℕ
   payload = flat (map (tableEntryBytes shift) pointers)
 
-  abbrev table : List ℕ
-  table = tableBytes shift (length pointers) payload
+  -- what is appended, and where its table and its index stand
+  abbrev added : Appended
+  added = appended x o addresses size sectors
+
+  abbrev newTableAt : ℕ
+  newTableAt = tableStart (length x) (newBlock size items)
+
+  abbrev newIndexAt : ℕ
+  newIndexAt = indexStart (length x) added
 
   abbrev newEntries : List Entry
-  newEntries = keptEntries tableStart (entries x o) ++ newBlockEntry (length x) items
-
-  abbrev indexStart : ℕ
-  indexStart = tableStart + length table
-
-  abbrev index : List ℕ
-  index = indexBytes newEntries
+  newEntries = keptEntries newTableAt (entries x o) ++ newBlockEntry (length x) items
 
   -- what a commit promises of an address
   abbrev expected : ℕ → Answer (List ℕ)
@@ -173,18 +193,22 @@ module _ (x : List ℕ) (o : ℕ) (addresses : List ℕ) (size : ℕ) (sectors :
   length-pointers = length-newPointers x (opened x o) addresses ps (opened x o .count) 0
 
   module _ (y : List ℕ) (g : Agree x y) (s : Sound x o) (isBytes : IsBytes x) (pos : size ≢ 0) (small : size ≤ largestSize)
-      (whole : length sectors ≡ length addresses * size) (h : Holds y (length x) (block ++ (table ++ index))) (long : length y ≤ longestBuffer) where
-    hb : Holds y (length x) block
-    hb = holds-left y (length x) block (table ++ index) h
+      (whole : length sectors ≡ length addresses * size) (h : Holds y (length x) (appendedBytes added)) (long : length y ≤ longestBuffer) where
+    hb : Holds y (length x) (newBlock size items)
+    unfolding appendedBytes appended appendedFor
+    hb = holds-left y (length x) (added .block) (added .table ++ added .index) h
 
-    hti : Holds y tableStart (table ++ index)
-    hti = holds-right y (length x) block (table ++ index) h
+    hti : Holds y newTableAt (added .table ++ added .index)
+    unfolding appendedBytes appended appendedFor tableStart
+    hti = holds-right y (length x) (added .block) (added .table ++ added .index) h refl
 
-    ht : Holds y tableStart table
-    ht = holds-left y tableStart table index hti
+    ht : Holds y newTableAt (tableBytes shift (length pointers) payload)
+    unfolding appended appendedFor newTable
+    ht = holds-left y newTableAt (added .table) (added .index) hti
 
-    hi : Holds y indexStart index
-    hi = holds-right y tableStart table index hti
+    hi : Holds y newIndexAt (indexBytes newEntries)
+    unfolding appended appendedFor indexStart
+    hi = holds-right y newTableAt (added .table) (added .index) hti refl
 
     items-sized : All (Sized size) items
     unfolding storedFor
@@ -196,22 +220,16 @@ module _ (x : List ℕ) (o : ℕ) (addresses : List ℕ) (size : ℕ) (sectors :
     -- ---- pointers that stand
     named-old : (b : ℕ) → has b (offsetsOf DBLK (entries x o)) ≡ true → has b (offsetsOf DBLK newEntries) ≡ true
     named-old b k =
-        ap (has b) (offsets-append DBLK (keptEntries tableStart (entries x o)) (newBlockEntry (length x) items))
-        ∙ has-left b _ (offsetsOf DBLK (newBlockEntry (length x) items)) (ap (has b) (kept-blocks tableStart (entries x o)) ∙ k)
+        ap (has b) (offsets-append DBLK (keptEntries newTableAt (entries x o)) (newBlockEntry (length x) items))
+        ∙ has-left b _ (offsetsOf DBLK (newBlockEntry (length x) items)) (ap (has b) (kept-blocks newTableAt (entries x o)) ∙ k)
 
     old-points : (a : ℕ) → SectorOk x (entries x o) (opened x o) a → Points y newEntries (itemBytes x (pointerAt x (opened x o) a)) (pointerAt x (opened x o) a)
     old-points a k =
         let p : Pointer = pointerAt x (opened x o) a in
         let b : ℕ = p .block .0 in
         let low : headerLength ≤ b = block-low x o (s .opens) b (k .named) in
-        let fits : b + blockHeaderLength + blockLength x b ≤ length x = k .item .block .fits in
-        let i : p .item .0 < blockLength x b / sectorSize x b = k .item .item in
-        let d : blockLength x b / sectorSize x b ≤ blockLength x b = div-le-self _ _ in
-        let l : length x ≤ length y = g .longer in
         record {
           low = low;
-          block = omega arith;
-          item = omega arith;
           named = named-old b (k .named);
           ok = item-agree x y g b (p .item .0) low (k .item);
           bytes = sym (bytes-agree x y g p low (k .item));
@@ -220,15 +238,10 @@ module _ (x : List ℕ) (o : ℕ) (addresses : List ℕ) (size : ℕ) (sectors :
     new-points : (i : ℕ) (sector : List ℕ) → i < length items → getD items i [] ≡ sector → Points y newEntries sector (itemOf (length x) i)
     new-points i sector j q =
         let n : NewItem y (length x) items i = new-item y (length x) size items items-sized hb pos small long i j in
-        let fits : length x + blockHeaderLength + blockLength y (length x) ≤ length y = n .item .block .fits in
-        let b : i < blockLength y (length x) / sectorSize y (length x) = n .item .item in
-        let v : blockLength y (length x) / sectorSize y (length x) ≤ blockLength y (length x) = div-le-self _ _ in
         record {
           low = x-long;
-          block = omega arith;
-          item = omega arith;
-          named = ap (has (length x)) (offsets-append DBLK (keptEntries tableStart (entries x o)) (newBlockEntry (length x) items))
-              ∙ has-right (length x) (offsetsOf DBLK (keptEntries tableStart (entries x o))) _ (n .named);
+          named = ap (has (length x)) (offsets-append DBLK (keptEntries newTableAt (entries x o)) (newBlockEntry (length x) items))
+              ∙ has-right (length x) (offsetsOf DBLK (keptEntries newTableAt (entries x o))) _ (n .named);
           ok = n .item;
           bytes = n .bytes ∙ q;
         }
@@ -269,7 +282,7 @@ module _ (x : List ℕ) (o : ℕ) (addresses : List ℕ) (size : ℕ) (sectors :
       where
         go : (u : Option Pointer) (v : Answer (List ℕ)) → Gets y newEntries u v → itemOrZero u < 2 ^ 32
         go _ _ nothing = lit< tt
-        go _ _ (stands q) = q .item
+        go _ _ (stands {p = p} q) = pointer-small y p (q .ok) long .1
 
     largest-below : largestItem pointers < 2 ^ 32
     largest-below = largest-bound (2 ^ 32) pointers (lit< tt) item-below
@@ -282,136 +295,93 @@ module _ (x : List ℕ) (o : ℕ) (addresses : List ℕ) (size : ℕ) (sectors :
     unfolding shiftFor
     shift-holds = shift-fits 64 0 (largestItem pointers) (lt-of-lt-of-le largest-below (lit≤ tt))
 
-    entries-sized : (l : List (Option Pointer)) → All (Sized tableEntryLength) (map (tableEntryBytes shift) l)
+    entry-sized : (u : Option Pointer) → length (tableEntryBytes shift u) ≡ tableEntryLength
     unfolding tableEntryBytes
-    entries-sized [] = done
-    entries-sized (none ∷ l) = more (length-toLe 8 0) (entries-sized l)
-    entries-sized (some p ∷ l) = more (length-toLe 8 (encode shift p)) (entries-sized l)
+    entry-sized none = length-toLe 8 0
+    entry-sized (some p) = length-toLe 8 (encode shift p)
+
+    entries-sized : All (Sized tableEntryLength) (map (tableEntryBytes shift) pointers)
+    entries-sized = all-image (tableEntryBytes shift) entry-sized pointers
 
     payload-whole : length payload ≡ tableEntryLength * length pointers
     payload-whole =
-        let a = length-flat tableEntryLength (map (tableEntryBytes shift) pointers) (entries-sized pointers) in
+        let a = length-flat tableEntryLength (map (tableEntryBytes shift) pointers) entries-sized in
         let b = length-map pointers (tableEntryBytes shift) in
         omega arith
 
     payload-short : length payload < 256 ^ 8
     payload-short = omega (arith, ht .fits, length-tableBytes shift (length pointers) payload)
 
-    table-fits : tableStart + tableHeaderLength ≤ length y
+    table-fits : newTableAt + tableHeaderLength ≤ length y
     table-fits = omega (arith, ht .fits, length-tableBytes shift (length pointers) payload)
 
     -- ---- the index
-    block-entry-fits : (l : List (List ℕ)) → All EntryFits (newBlockEntry (length x) l)
-    unfolding newBlockEntry tag fromLe
-    block-entry-fits [] = done
-    block-entry-fits (i ∷ is) = let b : length x < 256 ^ 8 = omega (arith, g .longer) in more (record { blockType = lit< tt; dataType = lit< tt; offset = b }) done
+    block-entry-fits : EntryFits (blockEntry (length x))
+    unfolding tag fromLe
+    block-entry-fits = record { blockType = lit< tt; dataType = lit< tt; offset = omega (arith, g .longer) }
 
-    kept-fit : All (λ (e : Entry). EntryFits e × (e .blockType ≢ tag CKSM)) (keptEntries tableStart (entries x o))
+    kept-fit : All (λ (e : Entry). EntryFits e × (e .blockType ≢ tag CKSM)) (keptEntries newTableAt (entries x o))
     unfolding entries
     kept-fit =
-        kept-all EntryFits tableStart (entries x o)
+        kept-all EntryFits newTableAt (entries x o)
         (λ e k q. record { blockType = k .blockType; dataType = k .dataType; offset = omega (arith, table-fits) }) (entries-fit x isBytes _ _)
 
     new-entries-fit : All EntryFits newEntries
-    new-entries-fit = all-append (all-map (λ e k. k .0) kept-fit) (block-entry-fits items)
+    new-entries-fit = all-append (all-map (λ e k. k .0) kept-fit) (block-entry-all (length x) items (λ n. block-entry-fits))
 
-    block-entry-ok : (l : List (List ℕ)) → ((j : ℕ) → j < length l → NewItem y (length x) l j) → All (EntryOk y) (newBlockEntry (length x) l)
-    unfolding newBlockEntry Identified
-    block-entry-ok [] f = done
-    block-entry-ok (i ∷ is) f =
-        let n = f 0 (omega arith) in
-        more (record { low = x-long; fits = omega (arith, n .fits); identifier = n .identified }) done
+    block-entry-ok : 0 < length items → EntryOk y (blockEntry (length x))
+    unfolding Identified
+    block-entry-ok k =
+        let n = new-item y (length x) size items items-sized hb pos small long 0 k in
+        record { low = x-long; fits = omega (arith, n .fits); identifier = n .identified }
 
     new-entries-ok : All (EntryOk y) newEntries
-    unfolding Identified
+    unfolding Identified tableStart
     new-entries-ok =
         all-append
         (all-map (λ e k. k .0)
-        (kept-all (EntryOk y) tableStart (entries x o)
+        (kept-all (EntryOk y) newTableAt (entries x o)
         (λ e k q.
         record {
           low = omega (arith, x-long);
           fits = omega (arith, table-fits);
-          identifier =
-              table-identified y tableStart shift (length pointers) payload ht shift-small payload-whole payload-short ∙ sym (user-data-on DDT* e q .type);
+          identifier = table-identified y newTableAt shift (length pointers) payload ht ∙ sym (user-data-on DDT* e q .type);
         })
         (all-map (entry-agree x y g) (s .opens .entriesOk))))
-        (block-entry-ok items (new-item y (length x) size items items-sized hb pos small long))
+        (block-entry-all (length x) items block-entry-ok)
 
-    block-no-table : (l : List (List ℕ)) → offsetsOf DDT* (newBlockEntry (length x) l) ≡ []
-    unfolding newBlockEntry offsetsOf
-    block-no-table [] = refl
-    block-no-table (i ∷ is) =
-        let e : Entry = record { blockType = tag DBLK; dataType = 1; offset = record { 0 = length x } } in
-        offsets-no DDT* e [] (user-data-false DDT* e dblk-ddt)
-
-    only-table : offsetsOf DDT* newEntries ≡ tableStart ∷ []
+    only-table : offsetsOf DDT* newEntries ≡ newTableAt ∷ []
     only-table =
-        offsets-append DDT* (keptEntries tableStart (entries x o)) (newBlockEntry (length x) items)
-        ∙ ap (λ (l : List ℕ). l ++ offsetsOf DDT* (newBlockEntry (length x) items)) (kept-table tableStart (entries x o) ∙ ap (map (λ (o : ℕ). tableStart)) (s .opens .only))
-        ∙ ap (λ (l : List ℕ). tableStart ∷ l) (block-no-table items)
-
-    index-low : headerLength ≤ indexStart
-    index-low = omega (arith, x-long)
-
-    entries-few : length newEntries < 256 ^ 8
-    entries-few = omega (arith, hi .fits, length-indexBytes newEntries)
-
-    entries-new : entries y indexStart ≡ newEntries
-    entries-new = index-entries y indexStart newEntries hi index-low new-entries-fit entries-few
-
-    -- an accepted commit's index names no 'CKSM'
-    block-no-cksm : (l : List (List ℕ)) → All (λ (e : Entry). e .blockType ≢ tag CKSM) (newBlockEntry (length x) l)
-    unfolding newBlockEntry
-    block-no-cksm [] = done
-    block-no-cksm (i ∷ is) = more dblk-cksm done
-
-    pub no-cksm : All (λ (e : Entry). e .blockType ≢ tag CKSM) (entries y indexStart)
-    no-cksm = rw entries-new (all-append (all-map (λ e k. k .1) kept-fit) (block-no-cksm items))
+        offsets-append DDT* (keptEntries newTableAt (entries x o)) (newBlockEntry (length x) items)
+        ∙ ap (λ (l : List ℕ). l ++ offsetsOf DDT* (newBlockEntry (length x) items)) (kept-table newTableAt (entries x o) ∙ ap (map (λ (o : ℕ). newTableAt)) (s .opens .only))
+        ∙ ap (λ (l : List ℕ). newTableAt ∷ l) (block-no-table (length x) items)
 
     -- ---- the disc opens
-    tableAt-new : tableAt y indexStart ≡ tableStart
-    unfolding tableAt first
-    tableAt-new = ap (λ (es : List Entry). first (offsetsOf DDT* es)) entries-new ∙ ap first only-table
-
-    opens-new : OpenOk y indexStart
-    opens-new =
-        record {
-          header = header-agree x y g (s .opens .header);
-          index = index-written y indexStart newEntries hi index-low new-entries-fit entries-few;
-          entriesOk = rw entries-new new-entries-ok;
-          only = rw (entries-new, tableAt-new) only-table;
-          table = rw tableAt-new (table-written y tableStart shift (length pointers) payload ht shift-small payload-whole payload-short);
-        }
-
     abbrev newOpened : Opened
-    newOpened = record { table = tableStart; count = opened x o .count; shift = shift }
+    newOpened = record { table = newTableAt; count = opened x o .count; shift = shift }
 
-    opened-new : opened y indexStart ≡ newOpened
-    unfolding opened openedAt
-    opened-new =
-        ap (openedAt y) tableAt-new
-        ∙ (λ i. record {
-          table = tableStart;
-          count = (table-count y tableStart shift (length pointers) payload ht shift-small payload-whole payload-short ∙ length-pointers) i;
-          shift = table-shift y tableStart shift (length pointers) payload ht shift-small payload-whole payload-short i;
-        })
+    opens-new : Opens y newIndexAt newEntries newOpened
+    unfolding indexStart tableStart
+    opens-new =
+        rw length-pointers at
+        (opens-written y newIndexAt newEntries hi (omega (arith, hi .fits, length-indexBytes newEntries)) new-entries-fit newTableAt shift (length pointers) payload ht
+        shift-small payload-whole payload-short only-table (header-agree x y g (s .opens .header)) (omega (arith, x-long)) new-entries-ok)
 
     -- ---- the table's entries
     abbrev newPtr : ℕ → Option Pointer
     newPtr a = newPointer x (opened x o) addresses ps a
 
-    pointer-holds : (a : ℕ) → a < opened x o .count → Holds y (tableStart + tableHeaderLength + tableEntryLength * a) (tableEntryBytes shift (newPtr a))
+    pointer-holds : (a : ℕ) → a < opened x o .count → Holds y (newTableAt + tableHeaderLength + tableEntryLength * a) (tableEntryBytes shift (newPtr a))
     pointer-holds a k =
-        let hp : Holds y (tableStart + tableHeaderLength) payload = table-entries y tableStart shift (length pointers) payload ht shift-small payload-whole payload-short in
+        let hp : Holds y (newTableAt + tableHeaderLength) payload = table-entries y newTableAt shift (length pointers) payload ht in
         let lm : length (map (tableEntryBytes shift) pointers) ≡ length pointers = length-map pointers (tableEntryBytes shift) in
         let lp : length pointers ≡ opened x o .count = length-pointers in
-        let hj : Holds y (tableStart + tableHeaderLength + a * tableEntryLength) (getD (map (tableEntryBytes shift) pointers) a []) =
-        holds-piece y tableEntryLength (map (tableEntryBytes shift) pointers) (entries-sized pointers) (tableStart + tableHeaderLength) hp a (omega arith) in
+        let hj : Holds y (newTableAt + tableHeaderLength + a * tableEntryLength) (getD (map (tableEntryBytes shift) pointers) a []) =
+        holds-piece y tableEntryLength (map (tableEntryBytes shift) pointers) entries-sized (newTableAt + tableHeaderLength) hp a (omega arith) in
         let e : getD (map (tableEntryBytes shift) pointers) a [] ≡ tableEntryBytes shift (newPtr a) =
         getD-map (tableEntryBytes shift) pointers a none [] (omega arith) ∙ ap (tableEntryBytes shift) (pointer-at a k) in
-        let c : tableStart + tableHeaderLength + a * tableEntryLength ≡ tableStart + tableHeaderLength + tableEntryLength * a = omega arith in
-        subst (λ n. Holds y n (tableEntryBytes shift (newPtr a))) c (subst (Holds y (tableStart + tableHeaderLength + a * tableEntryLength)) e hj)
+        let c : newTableAt + tableHeaderLength + a * tableEntryLength ≡ newTableAt + tableHeaderLength + tableEntryLength * a = omega arith in
+        subst (λ n. Holds y n (tableEntryBytes shift (newPtr a))) c (subst (Holds y (newTableAt + tableHeaderLength + a * tableEntryLength)) e hj)
 
     item-fits : (a : ℕ) → a < opened x o .count → itemOrZero (newPtr a) < 2 ^ shift
     item-fits a k =
@@ -428,10 +398,10 @@ module _ (x : List ℕ) (o : ℕ) (addresses : List ℕ) (size : ℕ) (sectors :
     unfolding tableEntry pointerAt tableEntryBytes itemOrZero
     reads-inside a k = go (newPtr a) (expected a) (gets a k) (pointer-holds a k) (item-fits a k)
       where
-        go : (u : Option Pointer) (v : Answer (List ℕ)) → Gets y newEntries u v → Holds y (tableStart + tableHeaderLength + tableEntryLength * a) (tableEntryBytes shift u) → itemOrZero u < 2 ^ shift → Reads a v
+        go : (u : Option Pointer) (v : Answer (List ℕ)) → Gets y newEntries u v → Holds y (newTableAt + tableHeaderLength + tableEntryLength * a) (tableEntryBytes shift u) → itemOrZero u < 2 ^ shift → Reads a v
         go _ _ nothing hl il = inl (entry-zero y newOpened a (holds-number y _ 8 0 hl (lit< tt)), refl)
         go _ _ (stands {p = p} {sector = d} q) hl il =
-            let n : tableEntry y newOpened a ≡ encode shift p = holds-number y _ 8 (encode shift p) hl (encode-lt shift p shift-small (q .block) il) in
+            let n : tableEntry y newOpened a ≡ encode shift p = holds-number y _ 8 (encode shift p) hl (encode-lt shift p shift-small (pointer-small y p (q .ok) long .0) il) in
             let ep : pointerAt y newOpened a ≡ p = ap (decode shift) n ∙ decode-encode shift p il in
             let low : headerLength ≤ p .block .0 = q .low in
             inr (
@@ -445,27 +415,29 @@ module _ (x : List ℕ) (o : ℕ) (addresses : List ℕ) (size : ℕ) (sectors :
             )
 
     -- ---- the new disc is sound, and every address reads as handed in, or as before
-    pub sound-new : Sound y indexStart
-    sound-new = record { opens = opens-new; sectors = rw (entries-new, opened-new) each }
+    sound-new : Sound y newIndexAt
+    sound-new = record { opens = opens-new .ok; sectors = rw (opens-new .named, opens-new .found) each }
       where
         each : (a : ℕ) → a < opened x o .count → (notWritten y newOpened a ≡ true) ⊎ SectorOk y newEntries newOpened a
-        each a k = go (reads-inside a k)
-          where
-            go : Reads a (expected a) → (notWritten y newOpened a ≡ true) ⊎ SectorOk y newEntries newOpened a
-            go (inl r) = inl (r .0)
-            go (inr r) = inr (r .0)
+        each a k = ⊎-elim (λ r. inl (r .0)) (λ r. inr (r .0)) (reads-inside a k)
 
-    pub reads-new : (a : ℕ) → a < opened x o .count → readAt y indexStart a ≡ expected a
+    reads-new : (a : ℕ) → a < opened x o .count → readAt y newIndexAt a ≡ expected a
     reads-new a k = go (reads-inside a k)
       where
-        k′ : a < opened y indexStart .count
-        k′ = rw opened-new k
+        k′ : a < opened y newIndexAt .count
+        k′ = rw (opens-new .found) k
 
-        go : Reads a (expected a) → readAt y indexStart a ≡ expected a
-        go (inl r) = read-21 y indexStart opens-new a k′ (ap (λ (t : Opened). notWritten y t a) opened-new ∙ r .0) ∙ sym (r .1)
+        go : Reads a (expected a) → readAt y newIndexAt a ≡ expected a
+        go (inl r) = read-21 y newIndexAt (opens-new .ok) a k′ (ap (λ (u : Opened). notWritten y u a) (opens-new .found) ∙ r .0) ∙ sym (r .1)
         go (inr r) =
-            read-bytes y indexStart opens-new a (rw (entries-new, opened-new) (r .0))
-            ∙ ap (λ (t : Opened). accepted (itemBytes y (pointerAt y t a))) opened-new ∙ sym (r .1)
+            read-bytes y newIndexAt (opens-new .ok) a (rw (opens-new .named, opens-new .found) (r .0))
+            ∙ ap (λ (u : Opened). accepted (itemBytes y (pointerAt y u a))) (opens-new .found) ∙ sym (r .1)
 
-    pub reads-past : (a : ℕ) → opened x o .count ≤ a → readAt y indexStart a ≡ refused (refusal 20)
-    reads-past a k = read-20 y indexStart opens-new a (rw opened-new k)
+    pub new-disc : NewDisc x o addresses ds y newIndexAt
+    new-disc =
+        record {
+          sound = sound-new;
+          reads = reads-new;
+          past = λ a k. read-20 y newIndexAt (opens-new .ok) a (rw (opens-new .found) k);
+          stale = rw (opens-new .named) (all-append (all-map (λ e k. k .1) kept-fit) (block-entry-all (length x) items (λ n. dblk-cksm)));
+        }

@@ -1,6 +1,6 @@
 -- A writing call on a buffer: its outcome by its verdict, and the image afterwards against the image before.
 use mathlib.Core.List.{List}
-use mathlib.Core.Logic.{inl, inr}
+use mathlib.Core.Logic.{inl, inr, ⊎-elim}
 use mathlib.Core.Path.{_≡_, refl, sym, _∙_}
 use Prim.Native.Nat.{ℕ, _+_, _^_, _≤_, _<_}
 use native.Mathlib.Nat.{le-refl}
@@ -19,7 +19,7 @@ use Rattle.format.specs.Lists.{IsBytes}
 use Rattle.format.specs.Refusals.{refused, accepted}
 use Rattle.format.specs.Layouts.{headerLength, indexOffsetAt, lastWrittenAt, indexOffset}
 use Rattle.format.specs.Writing.{outcome, setHeader}
-use Rattle.format.proofs.Agree.{Agree}
+use Rattle.format.proofs.Agree.{KeptAt, Agree}
 use Rattle.format.proofs.Bytes.{bytes-overwrite, bytes-toLe}
 
 -- ---- outcomes
@@ -53,16 +53,11 @@ module _ (l : List ℕ) (o time : ℕ) where
   unfolding setHeader
   length-setHeader = length-overwrite once lastWrittenAt (toLe 8 time) ∙ length-overwrite l indexOffsetAt (toLe 8 o)
 
-  setHeader-front : (p : ℕ) → p < indexOffsetAt → getD (setHeader l o time) p 0 ≡ getD l p 0
+  setHeader-kept : (p : ℕ) → KeptAt p → getD (setHeader l o time) p 0 ≡ getD l p 0
   unfolding setHeader
-  setHeader-front p h =
-      getD-off once lastWrittenAt (toLe 8 time) p (inl (omega arith)) ∙ getD-off l indexOffsetAt (toLe 8 o) p (inl h)
-
-  setHeader-rest : (p : ℕ) → headerLength ≤ p → getD (setHeader l o time) p 0 ≡ getD l p 0
-  unfolding setHeader
-  setHeader-rest p h =
-      getD-off once lastWrittenAt (toLe 8 time) p (inr (omega (arith, length-toLe 8 time)))
-      ∙ getD-off l indexOffsetAt (toLe 8 o) p (inr (omega (arith, length-toLe 8 o)))
+  setHeader-kept p h =
+      getD-off once lastWrittenAt (toLe 8 time) p (⊎-elim (λ b. inl (omega arith)) (λ b. inr (omega (arith, length-toLe 8 time))) h)
+      ∙ getD-off l indexOffsetAt (toLe 8 o) p (⊎-elim inl (λ b. inr (omega (arith, length-toLe 8 o))) h)
 
   setHeader-holds : headerLength ≤ length l → Holds (setHeader l o time) indexOffsetAt (toLe 8 o)
   unfolding setHeader
@@ -94,36 +89,32 @@ agree-set l n o time k =
     let lm : length (setHeader l o time) ≡ length l = length-setHeader l o time in
     record {
       longer = simp length-take (omega arith);
-      front = λ p b c. getD-take n l p 0 (omega arith) ∙ sym (setHeader-front l o time p b) ∙ sym (getD-take n (setHeader l o time) p 0 (omega arith));
-      rest = λ p b c. getD-take n l p 0 (omega arith) ∙ sym (setHeader-rest l o time p b) ∙ sym (getD-take n (setHeader l o time) p 0 (omega arith));
+      bytes = λ p b c. getD-take n l p 0 (omega arith) ∙ sym (setHeader-kept l o time p b) ∙ sym (getD-take n (setHeader l o time) p 0 (omega arith));
     }
 
 -- ---- an image to which a run was appended, and whose header was then set
-module _ (l : List ℕ) (used : ℕ) (run : List ℕ) (o time : ℕ) (low : headerLength ≤ used) (fits : used + length run ≤ length l) where
+module _ (l : List ℕ) (used : ℕ) (run : List ℕ) (o time : ℕ) where
   abbrev longer : List ℕ
   longer = overwrite l used run
 
   abbrev after : List ℕ
   after = setHeader longer o time
 
-  length-after : length after ≡ length l
-  length-after = length-setHeader longer o time ∙ length-overwrite l used run
+  pub length-appended : length after ≡ length l
+  length-appended = length-setHeader longer o time ∙ length-overwrite l used run
 
-  pub agree-append : Agree (take used l) (take (used + length run) after)
-  agree-append =
+  pub agree-append : used + length run ≤ length l → Agree (take used l) (take (used + length run) after)
+  agree-append fits =
       let lu : length (take used l) ≡ used = length-take-le used l (omega arith) in
       record {
-        longer = simp length-take (omega (arith, length-after));
-        front = λ p b c.
-            getD-take used l p 0 (omega arith) ∙ sym (setHeader-front longer o time p b ∙ getD-off l used run p (inl (omega arith)))
-            ∙ sym (getD-take (used + length run) after p 0 (omega arith));
-        rest = λ p b c.
-            getD-take used l p 0 (omega arith) ∙ sym (setHeader-rest longer o time p b ∙ getD-off l used run p (inl (omega arith)))
+        longer = simp length-take (omega (arith, length-appended));
+        bytes = λ p b c.
+            getD-take used l p 0 (omega arith) ∙ sym (setHeader-kept longer o time p b ∙ getD-off l used run p (inl (omega arith)))
             ∙ sym (getD-take (used + length run) after p 0 (omega arith));
       }
 
-  pub holds-appended : Holds (take (used + length run) after) used run
-  holds-appended =
+  pub holds-appended : used + length run ≤ length l → headerLength ≤ used → Holds (take (used + length run) after) used run
+  holds-appended fits low =
       let h : Holds longer used run = holds-overwrite l used run fits in
       holds-take after (used + length run) used run
-      (record { fits = omega (arith, length-after); there = λ i b. setHeader-rest longer o time (used + i) (omega arith) ∙ h .there i b }) (le-refl _)
+      (record { fits = omega (arith, length-appended); there = λ i b. setHeader-kept longer o time (used + i) (inr (omega arith)) ∙ h .there i b }) (le-refl _)

@@ -1,26 +1,24 @@
 -- Lists of bytes: their fields fit, and what is written is bytes again.
-use mathlib.Core.Bool.{Bool, true}
-use mathlib.Core.List.{List, [], _∷_, map}
+use mathlib.Core.List.{List, [], _∷_}
 use mathlib.Core.Option.{Option, none, some}
-use mathlib.Core.Path.{_≡_, refl}
 use Prim.Native.Nat.{ℕ, zero, suc, _+_, _*_, _/_, _≤_, _<_}
 use native.Mathlib.Nat.{mod-lt, zero-lt-suc}
-use lib.Dec.{lit<}
+use lib.Dec.{T, ltb, lit<}
+use lib.Ieee.Fits.{and-l, and-r}
 use lib.ListN.{length, getD}
+use lib.Pow.{areBytes}
 use Rattle.fields.specs.Bytes.{toLe, overwrite}
 use Rattle.fields.specs.Layout.{Field, num, raw, layout}
 use Rattle.fields.proofs.Numbers.{field-lt}
 use Rattle.fields.proofs.Overwrite.{overwrite-split}
 use Rattle.format.specs.declared.Entry.{Entry}
 use Rattle.format.specs.declared.Pointer.{Pointer}
-use Rattle.format.specs.Tests.{below, _and_}
 use Rattle.format.specs.Lists.{All, done, more, IsBytes, flat}
 use Rattle.format.specs.Layouts.{AARUFRMT, IDX2, DBLK, DDT*, entryLength, tableEntryLength, headerBytes, entryAt, entriesFrom, entryBytes, indexHeader, indexBytes, blockHeader, blockBytes, tableHeader, tableBytes, encode}
 use Rattle.format.specs.Opening.{opened}
 use Rattle.format.specs.Creating.{createdEntries, createdBytes}
-use Rattle.format.specs.Committing.{pieces, largestItem, shiftFor, tableEntryBytes, newTable, newBlock, appendedFor, storedFor, appended, appendedBytes}
-use Rattle.format.proofs.Tests.{below-on, and-on}
-use Rattle.format.proofs.Lists.{all-append, all-take, all-drop, all-replicate, all-flat}
+use Rattle.format.specs.Committing.{pieces, tableEntryBytes, newTable, newBlock, appendedFor, storedFor, appended, appendedBytes}
+use Rattle.format.proofs.Lists.{all-append, all-image, all-take, all-drop, all-replicate, all-flat}
 use Rattle.format.proofs.Written.{EntryFits}
 use Rattle.format.proofs.Storing.{pieces-all, stored-ok}
 
@@ -48,14 +46,9 @@ bytes-toLe zero v = done
 bytes-toLe (suc k) v = more (mod-lt v (zero-lt-suc 255)) (bytes-toLe k (v / 256))
 
 -- ---- records: their numbers are bytes by themselves
-allBytes : List ℕ → Bool
-allBytes [] = true
-allBytes (b ∷ bs) = below b 256 and allBytes bs
-
-is-bytes : (l : List ℕ) → allBytes l ≡ true → IsBytes l
-unfolding allBytes
+is-bytes : (l : List ℕ) → T (areBytes l) → IsBytes l
 is-bytes [] h = done
-is-bytes (b ∷ bs) h = let r = and-on _ _ h in more (below-on _ _ (r .0)) (is-bytes bs (r .1))
+is-bytes (b ∷ bs) h = more (lit< (and-l (ltb b 256) (areBytes bs) h)) (is-bytes bs (and-r (ltb b 256) (areBytes bs) h))
 
 abbrev RawBytes : List Field → Type 0
 RawBytes [] = Unit {0}
@@ -70,36 +63,34 @@ bytes-layout (raw bytes ∷ fs) h = all-append (h .0) (bytes-layout fs (h .1))
 
 module _ (payload : List ℕ) (h : IsBytes payload) where
   bytes-table : (shift count : ℕ) → IsBytes (tableBytes shift count payload)
-  unfolding tableBytes tableHeader allBytes below _and_
-  bytes-table shift count = all-append (bytes-layout _ (is-bytes DDT* refl, tt)) h
+  unfolding tableBytes tableHeader
+  bytes-table shift count = all-append (bytes-layout _ (is-bytes DDT* tt, tt)) h
 
   bytes-block : (size : ℕ) → IsBytes (blockBytes size payload)
-  unfolding blockBytes blockHeader allBytes below _and_
-  bytes-block size = all-append (bytes-layout _ (is-bytes DBLK refl, tt)) h
+  unfolding blockBytes blockHeader
+  bytes-block size = all-append (bytes-layout _ (is-bytes DBLK tt, tt)) h
 
-bytes-entries : (es : List Entry) → All IsBytes (map entryBytes es)
+bytes-entry : (e : Entry) → IsBytes (entryBytes e)
 unfolding entryBytes
-bytes-entries [] = done
-bytes-entries (e ∷ es) = more (bytes-layout _ tt) (bytes-entries es)
+bytes-entry e = bytes-layout _ tt
 
 bytes-index : (es : List Entry) → IsBytes (indexBytes es)
-unfolding indexBytes indexHeader allBytes below _and_
-bytes-index es = all-append (bytes-layout _ (is-bytes IDX2 refl, tt)) (all-flat (bytes-entries es))
+unfolding indexBytes indexHeader
+bytes-index es = all-append (bytes-layout _ (is-bytes IDX2 tt, tt)) (all-flat (all-image entryBytes bytes-entry es))
 
 -- ---- a new image
 pub bytes-created : (count : ℕ) (application : List ℕ) → IsBytes application → (major minor mediaType creationTime lastWrittenTime : ℕ)
     → IsBytes (createdBytes count application major minor mediaType creationTime lastWrittenTime)
-unfolding createdBytes headerBytes allBytes below _and_
+unfolding createdBytes headerBytes
 bytes-created count application h major minor mediaType creationTime lastWrittenTime =
-    all-append (bytes-layout _ (is-bytes AARUFRMT refl, (h, tt)))
+    all-append (bytes-layout _ (is-bytes AARUFRMT tt, (h, tt)))
     (all-append (bytes-table _ (all-replicate (tableEntryLength * count) 0 (lit< tt)) 0 count) (bytes-index createdEntries))
 
 -- ---- what a commit appends
-bytes-pointers : (shift : ℕ) (ps : List (Option Pointer)) → All IsBytes (map (tableEntryBytes shift) ps)
+bytes-pointer : (shift : ℕ) (u : Option Pointer) → IsBytes (tableEntryBytes shift u)
 unfolding tableEntryBytes
-bytes-pointers shift [] = done
-bytes-pointers shift (none ∷ ps) = more (bytes-toLe 8 0) (bytes-pointers shift ps)
-bytes-pointers shift (some p ∷ ps) = more (bytes-toLe 8 (encode shift p)) (bytes-pointers shift ps)
+bytes-pointer shift none = bytes-toLe 8 0
+bytes-pointer shift (some p) = bytes-toLe 8 (encode shift p)
 
 bytes-newBlock : (size : ℕ) (items : List (List ℕ)) → All IsBytes items → IsBytes (newBlock size items)
 unfolding newBlock
@@ -108,7 +99,7 @@ bytes-newBlock size (i ∷ is) h = bytes-block (flat (i ∷ is)) (all-flat h) si
 
 bytes-newTable : (ps : List (Option Pointer)) → IsBytes (newTable ps)
 unfolding newTable
-bytes-newTable ps = bytes-table _ (all-flat (bytes-pointers (shiftFor (largestItem ps)) ps)) (shiftFor (largestItem ps)) (length ps)
+bytes-newTable ps = bytes-table _ (all-flat (all-image _ (bytes-pointer _) ps)) _ _
 
 pub bytes-appended : (img : List ℕ) (o : ℕ) (addresses : List ℕ) (size : ℕ) (sectors : List ℕ) → IsBytes sectors
     → IsBytes (appendedBytes (appended img o addresses size sectors))

@@ -1,7 +1,7 @@
 -- An accepted commit: the disc afterwards is sound, keeps the old image's bytes, and reads as handed in, or as before.
-use mathlib.Core.Bool.{true, false}
+use mathlib.Core.Bool.{true}
 use mathlib.Core.List.{List, []}
-use mathlib.Core.Logic.{_⊎_, inl, inr}
+use mathlib.Core.Logic.{⊎-elim}
 use mathlib.Core.Option.{Option}
 use mathlib.Core.Path.{_≡_, sym, ap, _∙_, subst}
 use Prim.Native.Nat.{ℕ, _+_, _≤_}
@@ -19,7 +19,7 @@ use Rattle.format.specs.Layouts.{headerLength, indexOffset}
 use Rattle.format.specs.Opening.{opened}
 use Rattle.format.specs.Reading.{readAt, read}
 use Rattle.format.specs.Writing.{longestBuffer, placed, setHeader}
-use Rattle.format.specs.Committing.{rising, pieces, given, newTable, Appended, appendedFor, appended, tableStart, indexStart, usedAfter, appendedBytes, append, commit}
+use Rattle.format.specs.Committing.{rising, pieces, given, Appended, appended, tableStart, indexStart, usedAfter, appendedBytes, append, commit}
 use Rattle.format.specs.Demands.{ReadsCommitted, NoStaleChecksum, Demand2Committing}
 use Rattle.format.proofs.Tests.{on-or-off, below-on, below-iff}
 use Rattle.format.proofs.Lists.{all-take}
@@ -28,8 +28,8 @@ use Rattle.format.proofs.Agree.{Agree}
 use Rattle.format.proofs.Bytes.{bytes-overwrite, bytes-appended}
 use Rattle.format.proofs.Addresses.{given-named, given-other, outside-other}
 use Rattle.format.proofs.Storing.{handedOr, getD-pieces, length-pieces}
-use Rattle.format.proofs.Appended.{no-cksm, sound-new, reads-new, reads-past}
-use Rattle.format.proofs.Buffers.{outcome-accepted, agree-append, holds-appended, indexOffset-set, length-setHeader, bytes-setHeader}
+use Rattle.format.proofs.Appended.{NewDisc, new-disc}
+use Rattle.format.proofs.Buffers.{outcome-accepted, agree-append, holds-appended, indexOffset-set, length-appended, bytes-setHeader}
 
 -- an accepted commit that answered p and left `after`
 pub record Committed (buffer : List ℕ) (used : ℕ) (addresses : List ℕ) (size : ℕ) (sectors : List ℕ) (p : Placed) (after : List ℕ) : Type 0 where
@@ -86,55 +86,46 @@ module _ (buffer : List ℕ) (isBytes : IsBytes buffer) (used : ℕ) (addresses 
   fits = omega (arith, total, room)
 
   agrees : Agree x y
-  agrees = agree-append buffer used run (indexStart used new) time low fits
+  agrees = agree-append buffer used run (indexStart used new) time fits
 
   holds : Holds y (length x) run
-  holds = rw length-x (holds-appended buffer used run (indexStart used new) time low fits)
+  holds = rw length-x (holds-appended buffer used run (indexStart used new) time fits low)
 
   length-after : length after ≡ length buffer
-  length-after = length-setHeader (overwrite buffer used run) (indexStart used new) time ∙ length-overwrite buffer used run
+  length-after = length-appended buffer used run (indexStart used new) time
 
   y-long : length y ≤ longestBuffer
   y-long = simp length-take (omega (arith, length-after, k .bufferOk .long))
 
-  index-at : indexStart used new ≡ length x + length (new .block) + length (new .table)
-  unfolding indexStart tableStart
-  index-at = ap (λ n. n + length (new .block) + length (new .table)) (sym length-x)
-
-  sound-y : Sound y (indexStart used new)
-  unfolding appendedBytes appended appendedFor newTable tableStart
-  sound-y = subst (Sound y) (sym index-at) (sound-new x o addresses size sectors y agrees s (all-take buffer isBytes used) (k .pos) (k .small) (k .whole) holds y-long)
-
-  no-cksm-y : NoStaleChecksum y (indexStart used new)
-  unfolding appendedBytes appended appendedFor newTable tableStart
-  no-cksm-y = subst (NoStaleChecksum y) (sym index-at) (no-cksm x o addresses size sectors y agrees s (all-take buffer isBytes used) (k .pos) (k .small) (k .whole) holds y-long)
+  disc : NewDisc x o addresses ds y (indexStart used new)
+  disc =
+      subst (λ n. NewDisc x o addresses ds y (indexStart n new)) length-x
+      (new-disc x o addresses size sectors y agrees s (all-take buffer isBytes used) (k .pos) (k .small) (k .whole) holds y-long)
 
   reads-y : (a : ℕ) → readAt y (indexStart used new) a ≡ handedOr (given addresses ds a) (readAt x o a)
-  unfolding appendedBytes appended appendedFor newTable tableStart handedOr
-  reads-y a = ap (λ n. readAt y n a) index-at ∙ go (on-or-off (below a (opened x o .count)))
-    where
-      go : (below a (opened x o .count) ≡ true) ⊎ (below a (opened x o .count) ≡ false)
-          → readAt y (length x + length (new .block) + length (new .table)) a ≡ handedOr (given addresses ds a) (readAt x o a)
-      go (inl e) = reads-new x o addresses size sectors y agrees s (all-take buffer isBytes used) (k .pos) (k .small) (k .whole) holds y-long a (below-on _ _ e)
-      go (inr e) =
-          reads-past x o addresses size sectors y agrees s (all-take buffer isBytes used) (k .pos) (k .small) (k .whole) holds y-long a (below-iff .0 e)
-          ∙ sym (ap (λ (v : Option (List ℕ)). handedOr v (readAt x o a)) (given-other addresses ds a (outside-other _ a addresses (d .inside) (below-iff .0 e))) ∙ read-20 x o (s .opens) a (below-iff .0 e))
+  unfolding handedOr
+  reads-y a =
+      ⊎-elim (λ e. disc .reads a (below-on _ _ e))
+      (λ e.
+      let past : opened x o .count ≤ a = below-iff .0 e in
+      let other = given-other addresses ds a (outside-other _ a addresses (d .inside) past) in
+      disc .past a past ∙ sym (ap (λ (v : Option (List ℕ)). handedOr v (readAt x o a)) other ∙ read-20 x o (s .opens) a past))
+      (on-or-off (below a (opened x o .count)))
 
   committed : Committed buffer used addresses size sectors (placed (usedAfter used new) (indexStart used new)) after
-  unfolding read usedAfter
+  unfolding read usedAfter indexStart tableStart
   committed =
       let y-is : take (usedAfter used new) after ≡ y = ap (λ n. take n after) (sym total) in
       let r : indexStart used new + length (new .index) ≤ length buffer = room in
       let lo : length (overwrite buffer used run) ≡ length buffer = length-overwrite buffer used run in
-      let past : used ≤ indexStart used new = omega (arith, index-at, length-x) in
       record {
         rises = k .rises;
         agree = rw y-is agrees;
-        past = past;
+        past = omega arith;
         offset = indexOffset-set (overwrite buffer used run) (usedAfter used new) (indexStart used new) time (omega (arith, low)) (omega arith) (omega (arith, k .bufferOk .long));
-        sound = rw y-is sound-y;
+        sound = rw y-is (disc .sound);
         reads = rw y-is reads-y;
-        stale = rw y-is no-cksm-y;
+        stale = rw y-is (disc .stale);
         same-length = length-after;
         inside = omega (arith, room, length-after);
         bytes = λ h.

@@ -3,7 +3,7 @@ use mathlib.Core.Bool.{true}
 use mathlib.Core.List.{List, [], _∷_, _++_}
 use mathlib.Core.Logic.{inl}
 use mathlib.Core.Path.{_≡_, refl, ap, _∙_, subst}
-use Prim.Native.Nat.{ℕ, _+_, _*_, _^_, _≤_, _<_, zero-le}
+use Prim.Native.Nat.{ℕ, _+_, _*_, _≤_, _<_, zero-le}
 use native.Mathlib.Omega.{arith}
 use lib.Dec.{lit<, lit≤}
 use lib.ListN.{length, take, replicate, length-replicate, length-append}
@@ -11,21 +11,20 @@ use Rattle.fields.specs.Bytes.{part, fromLe, field, overwrite}
 use Rattle.fields.proofs.Overwrite.{length-overwrite}
 use Rattle.fields.proofs.Holds.{Holds, holds-take, holds-overwrite, holds-part, holds-left, holds-right}
 use Rattle.fields.proofs.Records.{length-layout, holds-num, holds-raw}
-use Rattle.format.specs.declared.Entry.{Entry}
 use Rattle.format.specs.declared.Placed.{Placed}
 use Rattle.format.specs.Lists.{All, done, more, IsBytes}
 use Rattle.format.specs.Refusals.{accepted}
-use Rattle.format.specs.Layouts.{AARUFRMT, DDT*, tag, headerLength, applicationLength, imageMajorAt, indexOffsetAt, indexOffset, headerBytes, entries, indexBytes, tableCount, tableBytes, tableHeaderLength, tableEntryLength}
-use Rattle.format.specs.Opening.{offsetsOf, first, tableAt, openedAt, opened}
+use Rattle.format.specs.Layouts.{AARUFRMT, DDT*, tag, headerLength, applicationLength, imageMajorAt, indexOffsetAt, indexOffset, headerBytes, indexBytes, tableBytes, tableHeaderLength, tableEntryLength}
+use Rattle.format.specs.Opening.{offsetsOf, Opened}
 use Rattle.format.specs.Reading.{tableEntry, notWritten}
 use Rattle.format.specs.Writing.{mostSectors, longestBuffer}
 use Rattle.format.specs.Creating.{createdIndexAt, createdUsed, createdEntries, createdBytes, create}
 use Rattle.format.specs.Facts.{Identified, HeaderOk, EntryOk}
 use Rattle.format.proofs.Tests.{same-true}
 use Rattle.format.proofs.Lists.{all-take, all-drop, all-replicate}
-use Rattle.format.proofs.Checks.{OpenOk, Sound, create-ok}
+use Rattle.format.proofs.Checks.{Sound, create-ok}
 use Rattle.format.proofs.Named.{user-data-true, offsets-yes}
-use Rattle.format.proofs.Written.{EntryFits, length-tableBytes, table-identified, table-count, table-entries, table-written, length-indexBytes, index-entries, index-written}
+use Rattle.format.proofs.Written.{EntryFits, length-tableBytes, table-identified, table-entries, length-indexBytes, Opens, opens-written}
 use Rattle.format.proofs.Bytes.{bytes-overwrite, bytes-created}
 use Rattle.format.proofs.Buffers.{outcome-accepted}
 
@@ -71,18 +70,14 @@ module _ (count : ℕ) (application : List ℕ) (major minor mediaType creationT
 
     h-rest : Holds y headerLength (table ++ indexBytes createdEntries)
     unfolding createdBytes
-    h-rest =
-        let e : 0 + length header ≡ headerLength = omega (arith, length-header) in
-        subst (λ n. Holds y n (table ++ indexBytes createdEntries)) e (holds-right y 0 header (table ++ indexBytes createdEntries) h)
+    h-rest = holds-right y 0 header (table ++ indexBytes createdEntries) h (omega (arith, length-header))
 
     h-table : Holds y headerLength table
     h-table = holds-left y headerLength table (indexBytes createdEntries) h-rest
 
     h-index : Holds y o (indexBytes createdEntries)
     unfolding createdIndexAt
-    h-index =
-        let e : headerLength + length table ≡ headerLength + tableHeaderLength + tableEntryLength * count = omega (arith, length-tableBytes 0 count zeros, length-zeros) in
-        subst (λ n. Holds y n (indexBytes createdEntries)) e (holds-right y headerLength table (indexBytes createdEntries) h-rest)
+    h-index = holds-right y headerLength table (indexBytes createdEntries) h-rest (omega (arith, length-tableBytes 0 count zeros, length-zeros))
 
     y-long : createdUsed count ≤ length y
     y-long = omega (arith, h .fits, length-new)
@@ -104,68 +99,39 @@ module _ (count : ℕ) (application : List ℕ) (major minor mediaType creationT
         subst (λ n. field y n 8 ≡ o) e (holds-num y 0 _ _ h 7 8 o (lit< tt) refl (omega arith))
 
     -- ---- the table and the index
-    short : length zeros < 256 ^ 8
-    short = omega (arith, length-zeros)
-
     fit : All EntryFits createdEntries
     unfolding tag fromLe
     fit = more (record { blockType = lit< tt; dataType = lit< tt; offset = lit< tt }) done
-
-    index-low : headerLength ≤ o
-    unfolding createdIndexAt
-    index-low = omega arith
-
-    one : length createdEntries < 256 ^ 8
-    one = lit< tt
-
-    entries-new : entries y o ≡ createdEntries
-    entries-new = index-entries y o createdEntries h-index index-low fit one
-
-    only : offsetsOf DDT* createdEntries ≡ headerLength ∷ []
-    unfolding offsetsOf
-    only = offsets-yes DDT* _ [] (user-data-true DDT* _ (record { type = refl; userData = refl }))
-
-    tableAt-new : tableAt y o ≡ headerLength
-    unfolding tableAt first
-    tableAt-new = ap (λ (es : List Entry). first (offsetsOf DDT* es)) entries-new ∙ ap first only
 
     named : All (EntryOk y) createdEntries
     unfolding Identified createdUsed createdIndexAt
     named =
         let fits : headerLength + 4 ≤ length y = omega (arith, y-long) in
-        more
-        (record {
-          low = lit≤ tt;
-          fits = fits;
-          identifier = table-identified y headerLength 0 count zeros h-table zero-le length-zeros short;
-        })
-        done
+        more (record { low = lit≤ tt; fits = fits; identifier = table-identified y headerLength 0 count zeros h-table }) done
 
-    opens : OpenOk y o
+    only : offsetsOf DDT* createdEntries ≡ headerLength ∷ []
+    unfolding offsetsOf
+    only = offsets-yes DDT* _ [] (user-data-true DDT* _ (record { type = refl; userData = refl }))
+
+    abbrev newOpened : Opened
+    newOpened = record { table = headerLength; count = count; shift = 0 }
+
+    opens : Opens y o createdEntries newOpened
+    unfolding createdIndexAt
     opens =
-        record {
-          header = header-new;
-          index = index-written y o createdEntries h-index index-low fit one;
-          entriesOk = rw entries-new named;
-          only = rw (entries-new, tableAt-new) only;
-          table = rw tableAt-new (table-written y headerLength 0 count zeros h-table zero-le length-zeros short);
-        }
+        opens-written y o createdEntries h-index (lit< tt) fit headerLength 0 count zeros h-table zero-le length-zeros (omega (arith, length-zeros)) only
+        header-new (omega arith) named
 
-    count-new : opened y o .count ≡ count
-    unfolding opened openedAt
-    count-new = ap (tableCount y) tableAt-new ∙ table-count y headerLength 0 count zeros h-table zero-le length-zeros short
-
-    nothing-written : (a : ℕ) → a < count → notWritten y (opened y o) a ≡ true
-    unfolding notWritten opened openedAt tableEntry field part
+    nothing-written : (a : ℕ) → a < count → notWritten y newOpened a ≡ true
+    unfolding notWritten tableEntry field part
     nothing-written a k =
-        let hp : Holds y (headerLength + tableHeaderLength) zeros = table-entries y headerLength 0 count zeros h-table zero-le length-zeros short in
+        let hp : Holds y (headerLength + tableHeaderLength) zeros = table-entries y headerLength 0 count zeros h-table in
         let e : part y (headerLength + tableHeaderLength + tableEntryLength * a) 8 ≡ part zeros (tableEntryLength * a) 8 = holds-part y (headerLength + tableHeaderLength) zeros hp (tableEntryLength * a) 8 (omega (arith, length-zeros)) in
         same-true _ _
-        (ap (λ (t : ℕ). fromLe (part y (t + tableHeaderLength + tableEntryLength * a) 8)) tableAt-new ∙ ap fromLe e
-        ∙ fromLe-zeros _ (all-take _ (all-drop _ (all-replicate (tableEntryLength * count) 0 refl) (tableEntryLength * a)) 8))
+        (ap fromLe e ∙ fromLe-zeros _ (all-take _ (all-drop _ (all-replicate (tableEntryLength * count) 0 refl) (tableEntryLength * a)) 8))
 
     pub created-sound : Sound y o
-    created-sound = record { opens = opens; sectors = λ a k. inl (nothing-written a (rw count-new at k)) }
+    created-sound = record { opens = opens .ok; sectors = rw (opens .found) (λ a k. inl (nothing-written a k)) }
 
 -- ---- an accepted creation that answered p and left `after`
 pub record Created (p : Placed) (after : List ℕ) : Type 0 where

@@ -1,7 +1,6 @@
 -- Where the sectors of a commit end up: each handed-in sector gets a pointer to an equal one, on the old disc or among the stored ones.
 use mathlib.Core.Bool.{Bool, true, false}
 use mathlib.Core.List.{List, [], _∷_, _++_, append-assoc, append-nil}
-use mathlib.Core.Logic.{_⊎_, inl, inr}
 use mathlib.Core.Option.{Option, none, some}
 use mathlib.Core.Path.{_≡_, refl, sym, ap, _∙_, subst}
 use Prim.Native.Nat.{ℕ, zero, suc, _+_, _*_, _^_, _≤_, _<_}
@@ -20,46 +19,36 @@ use Rattle.format.specs.Refusals.{Answer, accepted}
 use Rattle.format.specs.Opening.{Opened}
 use Rattle.format.specs.Reading.{notWritten, pointerAt, itemBytes}
 use Rattle.format.specs.Committing.{pieces, given, firstWith, holdsSector, onDisc, amongStored, Step, itemOf, stepFor, storeOne, Stored, storeAll, oldPointer, orElse, newPointer, newPointers, itemOrZero, largestItem, shiftFrom}
-use Rattle.format.proofs.Tests.{on-or-off, below-on, below-iff, and-on, choose-true, choose-false}
+use Rattle.format.proofs.Tests.{below-on, below-iff, and-on, choose-true, choose-false, choose-cases}
 use Rattle.format.proofs.Lists.{Sized, all-append, all-take, all-drop, all-head, all-tail}
 
 -- ---- the smallest shift
 pub shift-fits : (k s n : ℕ) → n < 2 ^ (s + k) → n < 2 ^ shiftFrom k s n
 unfolding shiftFrom
 shift-fits zero s n h = rw add-zero at h
-shift-fits (suc k) s n h = go (shift-fits k (suc s) n (subst (λ m. n < 2 ^ m) (omega arith) h)) (on-or-off (below n (2 ^ s)))
-  where
-    go : n < 2 ^ shiftFrom k (suc s) n → (below n (2 ^ s) ≡ true) ⊎ (below n (2 ^ s) ≡ false) → n < 2 ^ shiftFrom (suc k) s n
-    go ih (inl e) = rw (choose-true _ s (shiftFrom k (suc s) n) e) (below-on _ _ e)
-    go ih (inr e) = rw (choose-false _ s (shiftFrom k (suc s) n) e) ih
+shift-fits (suc k) s n h =
+    let ih = shift-fits k (suc s) n (subst (λ m. n < 2 ^ m) (omega arith) h) in
+    choose-cases (λ m. n < 2 ^ m) (below n (2 ^ s)) s (shiftFrom k (suc s) n) (below-on _ _) (λ e. ih)
 
 pub shift-least : (k s n m : ℕ) → s ≤ m → n < 2 ^ m → shiftFrom k s n ≤ m
 unfolding shiftFrom
 shift-least zero s n m h q = h
-shift-least (suc k) s n m h q = go (shift-least k (suc s) n m) (on-or-off (below n (2 ^ s)))
-  where
-    past : 2 ^ s ≤ n → suc s ≤ m
-    past b = lt-of-not-le (λ (z : m ≤ s). let z′ : 2 ^ m ≤ 2 ^ s = pow-mono z in omega arith)
-
-    go : (suc s ≤ m → n < 2 ^ m → shiftFrom k (suc s) n ≤ m) → (below n (2 ^ s) ≡ true) ⊎ (below n (2 ^ s) ≡ false) → shiftFrom (suc k) s n ≤ m
-    go ih (inl e) = rw (choose-true _ s (shiftFrom k (suc s) n) e) h
-    go ih (inr e) = rw (choose-false _ s (shiftFrom k (suc s) n) e) (ih (past (below-iff .0 e)) q)
+shift-least (suc k) s n m h q =
+    let ih = shift-least k (suc s) n m in
+    choose-cases (λ r. r ≤ m) (below n (2 ^ s)) s (shiftFrom k (suc s) n) (λ e. h)
+    (λ e.
+    let b : 2 ^ s ≤ n = below-iff .0 e in
+    ih (lt-of-not-le (λ (z : m ≤ s). let z′ : 2 ^ m ≤ 2 ^ s = pow-mono z in omega arith)) q)
 
 -- ---- the searches
 -- what a search finds passes its test
 pub firstWith-found : (f : ℕ → Bool) (k i a : ℕ) → firstWith f k i ≡ some a → (f a ≡ true) × (i ≤ a) × (a < i + k)
 unfolding firstWith
 firstWith-found f zero i a e = let z : _≡_ {A = ℕ} 0 1 = cc in absurd (omega arith)
-firstWith-found f (suc k) i a e = go (firstWith-found f k (suc i) a) (on-or-off (f i))
-  where
-    go : (firstWith f k (suc i) ≡ some a → (f a ≡ true) × (suc i ≤ a) × (a < suc i + k)) → (f i ≡ true) ⊎ (f i ≡ false) → (f a ≡ true) × (i ≤ a) × (a < i + suc k)
-    go ih (inl t) =
-        let q : some i ≡ some a = sym (choose-true (f i) (some i) (firstWith f k (suc i)) t) ∙ e in
-        let ia : i ≡ a = cc in
-        (rw ia at t, omega arith, omega arith)
-    go ih (inr t) =
-        let r = ih (sym (choose-false (f i) (some i) (firstWith f k (suc i)) t) ∙ e) in
-        (r .0, omega (arith, r .1), omega (arith, r .2))
+firstWith-found f (suc k) i a e =
+    let ih = firstWith-found f k (suc i) a in
+    choose-cases (λ (r : Option ℕ). r ≡ some a → (f a ≡ true) × (i ≤ a) × (a < i + suc k)) (f i) _ _
+    (λ t q. let ia : i ≡ a = cc in (rw ia at t, omega arith, omega arith)) (λ t q. let r = ih q in (r .0, omega (arith, r .1), omega (arith, r .2))) e
 
 pub record OnDisc (img : List ℕ) (t : Opened) (sector : List ℕ) (a : ℕ) : Type 0 where
   pub inside : a < t .count
@@ -186,12 +175,10 @@ module _ (img : List ℕ) (t : Opened) (block : ℕ) (items : List (List ℕ)) (
   unfolding newPointer given orElse
   new-pointer [] ds ps h = kept
   new-pointer (b ∷ bs) _ _ ended = kept
-  new-pointer (b ∷ bs) _ _ (next {a = d} {b = p} {l = ds} {m = ps} h hs) = go (new-pointer bs ds ps hs) (on-or-off (same b a))
-    where
-      go : NewPointer img t block items a (newPointer img t bs ps a) (given bs ds a) → (same b a ≡ true) ⊎ (same b a ≡ false)
-          → NewPointer img t block items a (newPointer img t (b ∷ bs) (p ∷ ps) a) (given (b ∷ bs) (d ∷ ds) a)
-      go ih (inl e) = rw (choose-true _ (some p) (given bs ps a) e, choose-true _ (some d) (given bs ds a) e) (fresh h)
-      go ih (inr e) = rw (choose-false _ (some p) (given bs ps a) e, choose-false _ (some d) (given bs ds a) e) ih
+  new-pointer (b ∷ bs) _ _ (next {a = d} {b = p} {l = ds} {m = ps} h hs) =
+      let ih = new-pointer bs ds ps hs in
+      choose-cases (λ (u : Option Pointer). NewPointer img t block items a (orElse u (oldPointer img t a)) (given (b ∷ bs) (d ∷ ds) a)) (same b a) _ _
+      (λ e. rw (choose-true _ (some d) (given bs ds a) e) (fresh h)) (λ e. rw (choose-false _ (some d) (given bs ds a) e) ih)
 
 module _ (img : List ℕ) (t : Opened) (addresses : List ℕ) (ps : List Pointer) where
   pub length-newPointers : (k a : ℕ) → length (newPointers img t addresses ps k a) ≡ k

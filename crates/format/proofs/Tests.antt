@@ -95,3 +95,9 @@ choose-true b x y e = rw e
 pub choose-false : {A : Type 0} (b : Bool) (x y : A) → b ≡ false → choose b x y ≡ y
 unfolding choose
 choose-false b x y e = rw e
+
+-- what is so of both is so of the chosen one
+pub choose-cases : {A : Type 0} (P : A → Type 0) (b : Bool) (x y : A) → (b ≡ true → P x) → (b ≡ false → P y) → P (choose b x y)
+unfolding choose
+choose-cases P true x y f g = f refl
+choose-cases P false x y f g = g refl

@@ -1,7 +1,7 @@
--- A written block, table and index, read back: the facts of their checks hold.
+-- A written block, table and index, read back: the facts of their checks hold, and an image that holds a table and an index opens.
 use mathlib.Core.List.{List, [], _∷_, _++_, map, append-nil}
 use mathlib.Core.Logic.{_≢_}
-use mathlib.Core.Path.{_≡_, refl, sym, ap, _∙_, subst}
+use mathlib.Core.Path.{_≡_, refl, sym, ap, _∙_}
 use Prim.Native.Nat.{ℕ, zero, suc, _+_, _*_, _^_, _≤_, _<_}
 use native.Mathlib.Nat.{add-zero, mul-div-cancel, mul-mod-left, not-suc-le-zero, le-of-suc-le-suc}
 use native.Mathlib.Omega.{arith}
@@ -15,9 +15,11 @@ use Rattle.fields.proofs.Records.{length-layout, holds-num, holds-raw}
 use Rattle.format.specs.declared.Entry.{Entry}
 use Rattle.format.specs.Lists.{All, done, more, flat}
 use Rattle.format.specs.Layouts.{IDX2, DBLK, DDT*, tag, headerLength, entryCount, entryAt, entriesFrom, entries, entryBytes, indexHeader, indexBytes, sectorSize, blockLength, blockPayload, blockHeader, blockBytes, tableShift, tableCount, tableLength, tablePayload, tableHeader, tableBytes, tableHeaderLength, blockHeaderLength, indexHeaderLength, entryLength, tableEntryLength}
+use Rattle.format.specs.Opening.{offsetsOf, first, tableAt, Opened, openedAt, opened}
 use Rattle.format.specs.Writing.{largestSize}
-use Rattle.format.specs.Facts.{Identified, IndexOk, TableOk, ItemOk}
-use Rattle.format.proofs.Lists.{Sized, length-flat}
+use Rattle.format.specs.Facts.{Identified, HeaderOk, IndexOk, EntryOk, TableOk, ItemOk}
+use Rattle.format.proofs.Lists.{Sized, all-image, length-flat}
+use Rattle.format.proofs.Checks.{OpenOk}
 
 -- ---- pieces of one size
 pub holds-piece : (y : List ℕ) (n : ℕ) (ls : List (List ℕ)) → All (Sized n) ls → (p : ℕ) → Holds y p (flat ls) → (j : ℕ) → j < length ls
@@ -29,54 +31,49 @@ holds-piece y n _ (more {a = l} {l = ls} e es) p h zero k =
     rw z (holds-left y p l (flat ls) h)
 holds-piece y n _ (more {a = l} {l = ls} e es) p h (suc j) k =
     let z : p + suc j * n ≡ p + length l + j * n = rw e (omega arith) in
-    rw z (holds-piece y n ls es (p + length l) (holds-right y p l (flat ls) h) j (le-of-suc-le-suc k))
+    rw z (holds-piece y n ls es (p + length l) (holds-right y p l (flat ls) h refl) j (le-of-suc-le-suc k))
 
 -- ---- table
 pub length-tableBytes : (s c : ℕ) (payload : List ℕ) → length (tableBytes s c payload) ≡ tableHeaderLength + length payload
 unfolding tableBytes tableHeader
 length-tableBytes s c payload = simp (length-append, length-layout) (omega arith)
 
-module _ (y : List ℕ) (t s c : ℕ) (payload : List ℕ) (h : Holds y t (tableBytes s c payload)) (small : s ≤ 32) (whole : length payload ≡ tableEntryLength * c)
-    (long : length payload < 256 ^ 8) where
-  table-len : length (tableBytes s c payload) ≡ tableHeaderLength + length payload
-  table-len = length-tableBytes s c payload
-
+module _ (y : List ℕ) (t s c : ℕ) (payload : List ℕ) (h : Holds y t (tableBytes s c payload)) where
   pub table-identified : Identified y t DDT*
   unfolding Identified tableBytes tableHeader tag
   table-identified = holds-raw y t DDT* _ _ h
 
-  pub table-shift : tableShift y t ≡ s
-  unfolding tableBytes tableHeader
-  table-shift = holds-num y t _ _ h 3 1 s (lit< tt) refl (omega arith)
-
-  pub table-count : tableCount y t ≡ c
-  unfolding tableBytes tableHeader
-  table-count = holds-num y t _ _ h 4 8 c (lit< tt) refl (omega arith)
-
-  table-length : tableLength y t ≡ length payload
-  unfolding tableBytes tableHeader
-  table-length = holds-num y t _ _ h 6 8 (length payload) (lit< tt) refl long
-
   pub table-entries : Holds y (t + tableHeaderLength) payload
   unfolding tableBytes tableHeader
-  table-entries =
-      let e : t + length (tableHeader s c payload) ≡ t + tableHeaderLength = simp length-layout in
-      subst (λ n. Holds y n payload) e (holds-right y t (tableHeader s c payload) payload h)
+  table-entries = holds-right y t (tableHeader s c payload) payload h (simp length-layout)
 
-  pub table-written : TableOk y t
+  table-shift : s ≤ 32 → tableShift y t ≡ s
   unfolding tableBytes tableHeader
-  table-written =
+  table-shift small = holds-num y t _ _ h 3 1 s (lit< tt) refl (omega arith)
+
+  table-count : c < 256 ^ 8 → tableCount y t ≡ c
+  unfolding tableBytes tableHeader
+  table-count few = holds-num y t _ _ h 4 8 c (lit< tt) refl few
+
+  table-length : length payload < 256 ^ 8 → tableLength y t ≡ length payload
+  unfolding tableBytes tableHeader
+  table-length long = holds-num y t _ _ h 6 8 (length payload) (lit< tt) refl long
+
+  table-written : s ≤ 32 → length payload ≡ tableEntryLength * c → length payload < 256 ^ 8 → TableOk y t
+  unfolding tableBytes tableHeader
+  table-written small whole long =
       let f : t + length (tableBytes s c payload) ≤ length y = h .fits in
-      let en : tableLength y t ≡ length payload = table-length in
+      let l : length (tableBytes s c payload) ≡ tableHeaderLength + length payload = length-tableBytes s c payload in
+      let en : tableLength y t ≡ length payload = table-length long in
       let ep : crcOf (tablePayload y t) ≡ crcOf payload = ap crcOf (ap (part y (t + tableHeaderLength)) en ∙ holds-all y (t + tableHeaderLength) payload table-entries) in
       record {
-        head = omega (arith, table-len);
+        head = omega arith;
         compression = holds-num y t _ _ h 2 2 0 (lit< tt) refl (lit< tt);
         type = holds-num y t _ _ h 1 2 1 (lit< tt) refl (lit< tt);
-        shift = rw table-shift small;
-        whole = en ∙ whole ∙ ap (λ n. tableEntryLength * n) (sym table-count);
+        shift = rw (table-shift small) small;
+        whole = en ∙ whole ∙ ap (λ n. tableEntryLength * n) (sym (table-count (omega arith)));
         unpacked = holds-num y t _ _ h 5 8 (length payload) (lit< tt) refl long ∙ sym en;
-        fits = rw en (omega (arith, table-len));
+        fits = rw en (omega arith);
         cmpSum = ep ∙ sym (holds-num y t _ _ h 7 8 (crcOf payload) (lit< tt) refl (crcOf-lt payload));
         sum = ep ∙ sym (holds-num y t _ _ h 8 8 (crcOf payload) (lit< tt) refl (crcOf-lt payload));
       }
@@ -86,46 +83,42 @@ pub length-blockBytes : (size : ℕ) (payload : List ℕ) → length (blockBytes
 unfolding blockBytes blockHeader
 length-blockBytes size payload = simp (length-append, length-layout) (omega arith)
 
-module _ (y : List ℕ) (b size k : ℕ) (payload : List ℕ) (h : Holds y b (blockBytes size payload)) (pos : size ≢ 0) (small : size ≤ largestSize)
-    (whole : length payload ≡ k * size) (long : length payload < 256 ^ 4) where
-  block-len : length (blockBytes size payload) ≡ blockHeaderLength + length payload
-  block-len = length-blockBytes size payload
-
+module _ (y : List ℕ) (b size : ℕ) (payload : List ℕ) (h : Holds y b (blockBytes size payload)) where
   pub block-identified : Identified y b DBLK
   unfolding Identified blockBytes blockHeader tag
   block-identified = holds-raw y b DBLK _ _ h
 
-  pub block-size : sectorSize y b ≡ size
-  unfolding blockBytes blockHeader
-  block-size = holds-num y b _ _ h 3 4 size (lit< tt) refl (omega arith)
-
-  block-length : blockLength y b ≡ length payload
-  unfolding blockBytes blockHeader
-  block-length = holds-num y b _ _ h 5 4 (length payload) (lit< tt) refl long
-
   pub block-items : Holds y (b + blockHeaderLength) payload
   unfolding blockBytes blockHeader
-  block-items =
-      let e : b + length (blockHeader size payload) ≡ b + blockHeaderLength = simp length-layout in
-      subst (λ n. Holds y n payload) e (holds-right y b (blockHeader size payload) payload h)
+  block-items = holds-right y b (blockHeader size payload) payload h (simp length-layout)
 
-  pub item-written : (i : ℕ) → i < k → ItemOk y b i
+  pub block-size : size ≤ largestSize → sectorSize y b ≡ size
   unfolding blockBytes blockHeader
-  item-written i j =
+  block-size small = holds-num y b _ _ h 3 4 size (lit< tt) refl (omega arith)
+
+  block-length : length payload < 256 ^ 4 → blockLength y b ≡ length payload
+  unfolding blockBytes blockHeader
+  block-length long = holds-num y b _ _ h 5 4 (length payload) (lit< tt) refl long
+
+  -- a payload of k sectors has the items below k
+  pub item-written : size ≢ 0 → size ≤ largestSize → length payload < 256 ^ 4 → (k : ℕ) → length payload ≡ k * size → (i : ℕ) → i < k → ItemOk y b i
+  unfolding blockBytes blockHeader
+  item-written pos small long k whole i j =
       let f : b + length (blockBytes size payload) ≤ length y = h .fits in
-      let en : blockLength y b ≡ length payload = block-length in
-      let es : sectorSize y b ≡ size = block-size in
+      let l : length (blockBytes size payload) ≡ blockHeaderLength + length payload = length-blockBytes size payload in
+      let en : blockLength y b ≡ length payload = block-length long in
+      let es : sectorSize y b ≡ size = block-size small in
       let ep : crcOf (blockPayload y b) ≡ crcOf payload = ap crcOf (ap (part y (b + blockHeaderLength)) en ∙ holds-all y (b + blockHeaderLength) payload block-items) in
       let pos′ : 0 < size = omega arith in
       record {
         block = record {
-          head = omega (arith, block-len);
+          head = omega arith;
           compression = holds-num y b _ _ h 2 2 0 (lit< tt) refl (lit< tt);
           type = holds-num y b _ _ h 1 2 1 (lit< tt) refl (lit< tt);
           size = λ z. pos (sym es ∙ z);
           unpacked = holds-num y b _ _ h 4 4 (length payload) (lit< tt) refl long ∙ sym en;
           whole = rw (en, es, whole) (mul-mod-left k size);
-          fits = rw en (omega (arith, block-len));
+          fits = rw en (omega arith);
         };
         item = rw (en, es, whole) (rw (mul-div-cancel k pos′) j);
         cmpSum = ep ∙ sym (holds-num y b _ _ h 6 8 (crcOf payload) (lit< tt) refl (crcOf-lt payload));
@@ -142,12 +135,8 @@ length-entryBytes : (e : Entry) → length (entryBytes e) ≡ entryLength
 unfolding entryBytes
 length-entryBytes e = simp length-layout
 
-entryBytes-sized : (es : List Entry) → All (Sized entryLength) (map entryBytes es)
-entryBytes-sized [] = done
-entryBytes-sized (e ∷ es) = more (length-entryBytes e) (entryBytes-sized es)
-
 length-payload : (es : List Entry) → length (flat (map entryBytes es)) ≡ entryLength * length es
-length-payload es = let e = length-flat entryLength (map entryBytes es) (entryBytes-sized es) in let l = length-map es entryBytes in omega arith
+length-payload es = let e = length-flat entryLength (map entryBytes es) (all-image entryBytes length-entryBytes es) in let l = length-map es entryBytes in omega arith
 
 pub length-indexBytes : (es : List Entry) → length (indexBytes es) ≡ indexHeaderLength + entryLength * length es
 unfolding indexBytes indexHeader
@@ -168,41 +157,69 @@ entries-written y p _ done h = refl
 entries-written y p _ (more {a = e} {l = es} k ks) h =
     let rest : List ℕ = flat (map entryBytes es) in
     let h1 : Holds y p (entryBytes e) = holds-left y p (entryBytes e) rest h in
-    let h2 : Holds y (p + entryLength) rest = subst (λ n. Holds y (p + n) rest) (length-entryBytes e) (holds-right y p (entryBytes e) rest h) in
+    let h2 : Holds y (p + entryLength) rest = holds-right y p (entryBytes e) rest h (rw length-entryBytes) in
     λ i. entry-written y p e k h1 i ∷ entries-written y (p + entryLength) es ks h2 i
 
-module _ (y : List ℕ) (o : ℕ) (es : List Entry) (h : Holds y o (indexBytes es)) (low : headerLength ≤ o) (fit : All EntryFits es) (few : length es < 256 ^ 8) where
-  abbrev payload : List ℕ
-  payload = flat (map entryBytes es)
+module _ (y : List ℕ) (o : ℕ) (es : List Entry) (h : Holds y o (indexBytes es)) where
+  abbrev indexPayload : List ℕ
+  indexPayload = flat (map entryBytes es)
 
-  index-len : length (indexBytes es) ≡ indexHeaderLength + entryLength * length es
-  index-len = length-indexBytes es
-
-  index-count : entryCount y o ≡ length es
+  index-count : length es < 256 ^ 8 → entryCount y o ≡ length es
   unfolding indexBytes indexHeader entryCount
-  index-count = holds-num y o _ _ h 1 8 (length es) (lit< tt) refl few
+  index-count few = holds-num y o _ _ h 1 8 (length es) (lit< tt) refl few
 
-  index-payload : Holds y (o + indexHeaderLength) payload
+  index-run : Holds y (o + indexHeaderLength) indexPayload
   unfolding indexBytes indexHeader
-  index-payload =
-      let e : o + length (indexHeader (length es) payload) ≡ o + indexHeaderLength = simp length-layout in
-      subst (λ n. Holds y n payload) e (holds-right y o (indexHeader (length es) payload) payload h)
+  index-run = holds-right y o (indexHeader (length es) indexPayload) indexPayload h (simp length-layout)
 
-  pub index-entries : entries y o ≡ es
+  index-entries : length es < 256 ^ 8 → All EntryFits es → entries y o ≡ es
   unfolding entries
-  index-entries = ap (λ n. entriesFrom y n (o + indexHeaderLength)) index-count ∙ entries-written y (o + indexHeaderLength) es fit index-payload
+  index-entries few fit = ap (λ n. entriesFrom y n (o + indexHeaderLength)) (index-count few) ∙ entries-written y (o + indexHeaderLength) es fit index-run
 
-  pub index-written : IndexOk y o
+  index-written : length es < 256 ^ 8 → headerLength ≤ o → IndexOk y o
   unfolding Identified indexBytes indexHeader tag
-  index-written =
+  index-written few low =
       let f : o + length (indexBytes es) ≤ length y = h .fits in
-      let en : entryCount y o ≡ length es = index-count in
-      let lp : length payload ≡ entryLength * length es = length-payload es in
+      let l : length (indexBytes es) ≡ indexHeaderLength + entryLength * length es = length-indexBytes es in
+      let en : entryCount y o ≡ length es = index-count few in
+      let lp : length indexPayload ≡ entryLength * length es = length-payload es in
       record {
         low = low;
-        head = omega (arith, index-len);
+        head = omega arith;
         identifier = holds-raw y o IDX2 _ _ h;
-        fits = rw en (omega (arith, index-len));
-        sum = ap crcOf (ap (λ n. part y (o + indexHeaderLength) (entryLength * n)) en ∙ ap (part y (o + indexHeaderLength)) (sym lp) ∙ holds-all y (o + indexHeaderLength) payload index-payload)
-            ∙ sym (holds-num y o _ _ h 2 8 (crcOf payload) (lit< tt) refl (crcOf-lt payload));
+        fits = rw en (omega arith);
+        sum = ap crcOf (ap (λ n. part y (o + indexHeaderLength) (entryLength * n)) en ∙ ap (part y (o + indexHeaderLength)) (sym lp) ∙ holds-all y (o + indexHeaderLength) indexPayload index-run)
+            ∙ sym (holds-num y o _ _ h 2 8 (crcOf indexPayload) (lit< tt) refl (crcOf-lt indexPayload));
+      }
+
+-- ---- an image that holds both opens: its index at o has the entries es, of which one names the table at t
+pub record Opens (y : List ℕ) (o : ℕ) (es : List Entry) (t : Opened) : Type 0 where
+  pub ok : OpenOk y o
+  pub named : entries y o ≡ es
+  pub found : opened y o ≡ t
+
+module _ (y : List ℕ) (o : ℕ) (es : List Entry) (hi : Holds y o (indexBytes es)) (few : length es < 256 ^ 8) (fit : All EntryFits es)
+    (t s c : ℕ) (payload : List ℕ) (ht : Holds y t (tableBytes s c payload)) (small : s ≤ 32) (whole : length payload ≡ tableEntryLength * c)
+    (long : length payload < 256 ^ 8) (only : offsetsOf DDT* es ≡ t ∷ []) where
+  entries-are : entries y o ≡ es
+  entries-are = index-entries y o es hi few fit
+
+  table-at : tableAt y o ≡ t
+  unfolding tableAt first
+  table-at = ap (λ (l : List Entry). first (offsetsOf DDT* l)) entries-are ∙ ap first only
+
+  pub opens-written : HeaderOk y → headerLength ≤ o → All (EntryOk y) es → Opens y o es (record { table = t; count = c; shift = s })
+  unfolding opened openedAt
+  opens-written header low entriesOk =
+      record {
+        ok = record {
+          header = header;
+          index = index-written y o es hi few low;
+          entriesOk = rw entries-are entriesOk;
+          only = rw (entries-are, table-at) only;
+          table = rw table-at (table-written y t s c payload ht small whole long);
+        };
+        named = entries-are;
+        found = ap (openedAt y) table-at
+            ∙ (λ i. record { table = t; count = table-count y t s c payload ht (omega arith) i; shift = table-shift y t s c payload ht small i });
       }
