@@ -2,7 +2,7 @@
 use mathlib.Core.Bool.{true, false, not}
 use mathlib.Core.List.{List, [], _∷_, cons-ne-nil}
 use mathlib.Core.Logic.{_≢_, _⊎_, ⊎-elim, ⊎-map, inl, inr, _↔_, Iff·rfl, Iff·trans}
-use mathlib.Core.Path.{_≡_, refl, sym, _∙_, subst}
+use mathlib.Core.Path.{_≡_, refl, sym, ap, _∙_, subst}
 use Prim.Native.Nat.{ℕ, zero, suc, _+_, _*_, _≤_, _<_}
 use native.Mathlib.Omega.{arith}
 use lib.ListN.{length, take}
@@ -75,6 +75,10 @@ table-ok img t =
     (then-iff (row-iff _ below-iff) (row-iff _ (or-iff differs-iff differs-iff))))))
     (λ (a, (b, ((c, (d, (e, f))), (g, (h, i))))). record { head = a; compression = b; type = c; shift = d; whole = e; unpacked = f; fits = g; cmpSum = h; sum = i })
     (λ k. (k .head, (k .compression, ((k .type, (k .shift, (k .whole, k .unpacked))), (k .fits, (k .cmpSum, k .sum))))))
+
+pub tableAt-only : (img : List ℕ) (o t : ℕ) → offsetsOf DDT* (entries img o) ≡ t ∷ [] → tableAt img o ≡ t
+unfolding tableAt first
+tableAt-only img o t e = ap first e
 
 -- opening as a whole
 pub record OpenOk (img : List ℕ) (o : ℕ) : Type 0 where

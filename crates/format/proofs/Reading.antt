@@ -4,13 +4,13 @@ use mathlib.Core.Path.{_≡_, refl, sym, ap, _∙_}
 use Prim.Native.Nat.{ℕ}
 use Rattle.format.specs.Refusals.{accepted}
 use Rattle.format.specs.Layouts.{DBLK, DDT*, indexOffset, entries, decode, tableShift}
-use Rattle.format.specs.Opening.{offsetsOf, first, tableAt, Opened, openedAt, opened}
+use Rattle.format.specs.Opening.{offsetsOf, tableAt, Opened, openedAt, opened}
 use Rattle.format.specs.Reading.{tableEntry, notWritten, pointerAt, placeOf, itemBytes, readAt, read}
 use Rattle.format.specs.Committing.{itemOf}
 use Rattle.format.specs.Demands.{NamesItem, Demand2Reading}
 use Rattle.format.proofs.Tests.{same-iff}
 use Rattle.format.proofs.Refusals.{answer-accepted}
-use Rattle.format.proofs.Checks.{read-ok, OpenOk, SectorOk, read-bytes}
+use Rattle.format.proofs.Checks.{tableAt-only, read-ok, OpenOk, SectorOk, read-bytes}
 use Rattle.format.proofs.Named.{named, only-named}
 
 module _ (img : List ℕ) (a : ℕ) (sector : List ℕ) where
@@ -55,8 +55,7 @@ module _ (img : List ℕ) (a : ℕ) (sector : List ℕ) where
     table-only = only-named DDT* (entries img o) (n .table) .1 (record { entry = n .tableNamedBy; only = n .only; place = n .tablePlace })
 
     table-at : tableAt img o ≡ n .table
-    unfolding tableAt first
-    table-at = ap first table-only
+    table-at = tableAt-only img o (n .table) table-only
 
     opens : OpenOk img o
     opens =

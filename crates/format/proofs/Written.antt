@@ -15,11 +15,11 @@ use Rattle.fields.proofs.Records.{length-layout, holds-num, holds-raw}
 use Rattle.format.specs.declared.Entry.{Entry}
 use Rattle.format.specs.Lists.{All, done, more, flat}
 use Rattle.format.specs.Layouts.{IDX2, DBLK, DDT*, tag, headerLength, entryCount, entryAt, entriesFrom, entries, entryBytes, indexHeader, indexBytes, sectorSize, blockLength, blockPayload, blockHeader, blockBytes, tableShift, tableCount, tableLength, tablePayload, tableHeader, tableBytes, tableHeaderLength, blockHeaderLength, indexHeaderLength, entryLength, tableEntryLength}
-use Rattle.format.specs.Opening.{offsetsOf, first, tableAt, Opened, openedAt, opened}
+use Rattle.format.specs.Opening.{offsetsOf, tableAt, Opened, openedAt, opened}
 use Rattle.format.specs.Writing.{largestSize}
 use Rattle.format.specs.Facts.{Identified, HeaderOk, IndexOk, EntryOk, TableOk, ItemOk}
 use Rattle.format.proofs.Lists.{Sized, all-image, length-flat}
-use Rattle.format.proofs.Checks.{OpenOk}
+use Rattle.format.proofs.Checks.{tableAt-only, OpenOk}
 
 -- ---- pieces of one size
 pub holds-piece : (y : List ℕ) (n : ℕ) (ls : List (List ℕ)) → All (Sized n) ls → (p : ℕ) → Holds y p (flat ls) → (j : ℕ) → j < length ls
@@ -205,8 +205,7 @@ module _ (y : List ℕ) (o : ℕ) (es : List Entry) (hi : Holds y o (indexBytes 
   entries-are = index-entries y o es hi few fit
 
   table-at : tableAt y o ≡ t
-  unfolding tableAt first
-  table-at = ap (λ (l : List Entry). first (offsetsOf DDT* l)) entries-are ∙ ap first only
+  table-at = tableAt-only y o t (ap (offsetsOf DDT*) entries-are ∙ only)
 
   pub opens-written : HeaderOk y → headerLength ≤ o → All (EntryOk y) es → Opens y o es (record { table = t; count = c; shift = s })
   unfolding opened openedAt
