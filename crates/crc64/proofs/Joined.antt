@@ -1,16 +1,17 @@
 -- Four registers that stand for one, and what 32 bytes do to them. Assumes nothing.
 use mathlib.Core.Path.{_≡_, sym, ap, _∙_}
 use mathlib.Core.List.{List}
-use Prim.Native.Nat.{ℕ, _+_, _≤_}
+use Prim.Native.Nat.{ℕ, _+_, _≤_, _<_}
 use native.Mathlib.Nat.{add-comm, add-assoc}
 use native.Mathlib.Omega.{arith}
-use lib.ListN.{length, drop}
+use lib.ListN.{length, drop, getD}
 use lib.Bits.{bitXor, xor-zero-r}
+use Rattle.fields.specs.Bytes.{field}
 use Rattle.crc64.specs.Crc.{shifts, run}
 use Rattle.crc64.proofs.Xor.{xor-assoc, xor-swap}
 use Rattle.crc64.proofs.Linear.{shifts-xor, shifts-add}
-use Rattle.crc64.specs.Internal.{wordAt, joined}
-use Rattle.crc64.proofs.Words.{run-word}
+use Rattle.crc64.specs.Internal.{joined}
+use Rattle.crc64.proofs.Words.{run-field}
 
 -- one register goes into the next
 abbrev pass : ℕ → ℕ → ℕ
@@ -70,32 +71,32 @@ turn a b c d w x y z =
 joined-eq : {a b c d w x y z : ℕ} → a ≡ w → b ≡ x → c ≡ y → d ≡ z → joined a b c d ≡ joined w x y z
 joined-eq p q r s = cc
 
-module _ (s : List ℕ) (i : ℕ) (fits : i + 32 ≤ length s) where
+module _ (s : List ℕ) (bytes : (j : ℕ) → getD s j 0 < 256) (i : ℕ) (fits : i + 32 ≤ length s) where
   -- 32 bytes go into a register
-  four-words : (c : ℕ) → run c (drop i s) ≡ run (joined (bitXor c (wordAt s i)) (wordAt s (i + 8)) (wordAt s (i + 16)) (wordAt s (i + 24))) (drop (i + 32) s)
+  four-words : (c : ℕ) → run c (drop i s) ≡ run (joined (bitXor c (field s i 8)) (field s (i + 8) 8) (field s (i + 16) 8) (field s (i + 24) 8)) (drop (i + 32) s)
   unfolding joined
   four-words c =
-      run-word c s i (omega arith)
-      ∙ next (shifts 64 (bitXor c (wordAt s i))) 8 (omega arith)
-      ∙ next (shifts 64 (pass (bitXor c (wordAt s i)) (wordAt s (i + 8)))) 16 (omega arith)
-      ∙ next (shifts 64 (pass (pass (bitXor c (wordAt s i)) (wordAt s (i + 8))) (wordAt s (i + 16)))) 24 (omega arith)
+      run-field 8 c s i bytes (omega arith)
+      ∙ next (shifts 64 (bitXor c (field s i 8))) 8 (omega arith)
+      ∙ next (shifts 64 (pass (bitXor c (field s i 8)) (field s (i + 8) 8))) 16 (omega arith)
+      ∙ next (shifts 64 (pass (pass (bitXor c (field s i 8)) (field s (i + 8) 8)) (field s (i + 16) 8))) 24 (omega arith)
     where
-      next : (x k : ℕ) → k ≤ 24 → run x (drop (i + k) s) ≡ run (shifts 64 (bitXor x (wordAt s (i + k)))) (drop (i + (k + 8)) s)
-      next x k l = run-word x s (i + k) (omega arith) ∙ ap (λ (n : ℕ). run (shifts 64 (bitXor x (wordAt s (i + k)))) (drop n s)) (add-assoc i k 8)
+      next : (x k : ℕ) → k ≤ 24 → run x (drop (i + k) s) ≡ run (shifts 64 (bitXor x (field s (i + k) 8))) (drop (i + (k + 8)) s)
+      next x k l = run-field 8 x s (i + k) bytes (omega arith) ∙ ap (λ (n : ℕ). run (shifts 64 (bitXor x (field s (i + k) 8))) (drop n s)) (add-assoc i k 8)
 
   -- the lanes start with a word each, the first with the register too
-  pub lanes-start : (c : ℕ) {w x y z : ℕ} → w ≡ bitXor c (wordAt s i) → x ≡ wordAt s (i + 8) → y ≡ wordAt s (i + 16) → z ≡ wordAt s (i + 24)
+  pub lanes-start : (c : ℕ) {w x y z : ℕ} → w ≡ bitXor c (field s i 8) → x ≡ field s (i + 8) 8 → y ≡ field s (i + 16) 8 → z ≡ field s (i + 24) 8
       → run (joined w x y z) (drop (i + 32) s) ≡ run c (drop i s)
   lanes-start c p q r t = ap (λ (x : ℕ). run x (drop (i + 32) s)) (joined-eq p q r t) ∙ sym (four-words c)
 
   -- a turn: 256 shifts and a word for each lane
   pub lanes-next : (a b c d : ℕ) {w x y z : ℕ}
-      → w ≡ bitXor (shifts 256 a) (wordAt s i)
-      → x ≡ bitXor (shifts 256 b) (wordAt s (i + 8))
-      → y ≡ bitXor (shifts 256 c) (wordAt s (i + 16))
-      → z ≡ bitXor (shifts 256 d) (wordAt s (i + 24))
+      → w ≡ bitXor (shifts 256 a) (field s i 8)
+      → x ≡ bitXor (shifts 256 b) (field s (i + 8) 8)
+      → y ≡ bitXor (shifts 256 c) (field s (i + 16) 8)
+      → z ≡ bitXor (shifts 256 d) (field s (i + 24) 8)
       → run (joined w x y z) (drop (i + 32) s) ≡ run (joined a b c d) (drop i s)
   lanes-next a b c d p q r t =
       ap (λ (x : ℕ). run x (drop (i + 32) s))
-      (joined-eq p q r t ∙ sym (turn a b c d (wordAt s i) (wordAt s (i + 8)) (wordAt s (i + 16)) (wordAt s (i + 24))))
+      (joined-eq p q r t ∙ sym (turn a b c d (field s i 8) (field s (i + 8) 8) (field s (i + 16) 8) (field s (i + 24) 8)))
       ∙ sym (four-words (joined a b c d))

@@ -1,24 +1,11 @@
--- What the contracts of this crate's internal functions cite: words, tables, and four registers that stand for one.
+-- What the contracts of this crate's internal functions cite: tables, and four registers that stand for one.
 -- No public contract names anything of this file: that of the checksum is in Crc. Assumes nothing.
 use mathlib.Core.Path.{_≡_}
 use mathlib.Core.List.{List}
-use Prim.Native.Nat.{ℕ, _+_, _*_, _/_, _%_, _^_, _<_}
+use Prim.Native.Nat.{ℕ, _+_, _*_, _/_, _%_, _<_}
 use lib.ListN.{length, getD}
 use lib.Bits.{bitXor}
 use Rattle.crc64.specs.Crc.{shifts}
-
--- a byte below a number, which moves up by eight bits
-abbrev pub under : ℕ → ℕ → ℕ
-under b w = bitXor b (w * 2 ^ 8)
-
--- eight bytes as a number, the lowest first
-abbrev pub word8 : ℕ → ℕ → ℕ → ℕ → ℕ → ℕ → ℕ → ℕ → ℕ
-word8 a b c d e f g h = under a (under b (under c (under d (under e (under f (under g h))))))
-
--- the word of a list at i: the eight bytes from there on
-unfoldable pub wordAt : List ℕ → ℕ → ℕ
-wordAt s i =
-    word8 (getD s i 0) (getD s (i + 1) 0) (getD s (i + 2) 0) (getD s (i + 3) 0) (getD s (i + 4) 0) (getD s (i + 5) 0) (getD s (i + 6) 0) (getD s (i + 7) 0)
 
 -- entry i of the tables, which stand one after the other: table k = i / 256 has for the byte b = i % 256 what 200 + 8 k shifts make of b
 unfoldable pub entry : ℕ → ℕ

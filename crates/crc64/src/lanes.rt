@@ -3,8 +3,9 @@
 ghost use mathlib.Core.Path.{_≡_};
 ghost use Prim.Native.Nat.{_+_, _%_, _≤_};
 ghost use lib.ListN.{length};
+ghost use Rattle.fields.specs.Bytes.{field};
 ghost use Rattle.crc64.specs.Crc.{shifts, run};
-ghost use Rattle.crc64.specs.Internal.{word8, wordAt, Tables, joined};
+ghost use Rattle.crc64.specs.Internal.{Tables, joined};
 use super::register;
 
 // 256 shifts, since a lane's next word is 32 bytes on: by one look-up for each byte of the register.
@@ -29,35 +30,12 @@ fn lane(t: &[u64; 2048], x: u64) -> u64
         ^ t[1792 + (x % 256) as usize]
 }
 
-// Eight bytes as a number, the lowest first.
-fn word(a: u8, b: u8, c: u8, d: u8, e: u8, f: u8, g: u8, h: u8) -> u64
-    ensures { λ r. ⌜ r ≡ word8 a b c d e f g h ⌝ }
-{
-    (a as u64)
-        + 0x100 * (b as u64)
-        + 0x1_0000 * (c as u64)
-        + 0x100_0000 * (d as u64)
-        + 0x1_0000_0000 * (e as u64)
-        + 0x100_0000_0000 * (f as u64)
-        + 0x1_0000_0000_0000 * (g as u64)
-        + 0x100_0000_0000_0000 * (h as u64)
-}
-
-// The word of s at i.
+// The eight bytes of s from i on, as a number.
 fn word_at(s: &[u8], i: usize) -> u64
     requires { ⌜ i + 8 ≤ length (now s) ⌝ }
-    ensures { λ r. ⌜ r ≡ wordAt (now (s .entry)) i ⌝ }
+    ensures { λ r. ⌜ r ≡ field (now (s .entry)) i 8 ⌝ }
 {
-    word(
-        s[i],
-        s[i + 1],
-        s[i + 2],
-        s[i + 3],
-        s[i + 4],
-        s[i + 5],
-        s[i + 6],
-        s[i + 7],
-    )
+    fields::get(s, i as u64, 8)
 }
 
 // One register of four.
@@ -77,13 +55,14 @@ fn four_lanes(t: &[u64; 2048], register: u64, s: &[u8]) -> u64
     requires { ⌜ 32 ≤ length (now s) ⌝ }
     ensures { λ r. ⌜ r ≡ run register (now (s .entry)) ⌝ }
 {
+    let n = s.len();
     let mut a = register ^ word_at(s, 0);
     let mut b = word_at(s, 8);
     let mut c = word_at(s, 16);
     let mut d = word_at(s, 24);
     let mut i: usize = 32;
     // an iteration for each 32 bytes after the first 32
-    while i < s.len() {
+    while i < n {
         a = lane(t, a) ^ word_at(s, i);
         b = lane(t, b) ^ word_at(s, i + 8);
         c = lane(t, c) ^ word_at(s, i + 16);

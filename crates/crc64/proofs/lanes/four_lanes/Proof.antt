@@ -14,17 +14,17 @@ use Rattle.crc64.proofs.lanes.four_lanes.Statement.{statement}
 use Rattle.crc64.proofs.lanes.four_lanes.Tie as tie
 
 abbrev Inv-loop : tie.InvT-loop
-Inv-loop t register s a₀ b₀ c₀ d₀ i₀ a b c d i = (i ≤ length s) × (i % 32 ≡ 0) × (run (joined a b c d) (drop i s) ≡ run register s)
+Inv-loop t register s n a₀ b₀ c₀ d₀ i₀ a b c d i = (i ≤ length s) × (i % 32 ≡ 0) × (run (joined a b c d) (drop i s) ≡ run register s)
 
 abbrev μ-loop : tie.MeasureT-loop
-μ-loop t register s a₀ b₀ c₀ d₀ i₀ a b c d i = length s - i
+μ-loop t register s n a₀ b₀ c₀ d₀ i₀ a b c d i = length s - i
 
 loop-holds : tie.Need-loop-holds Inv-loop μ-loop
 loop-holds c =
     let g = c .before .before .before .before .before .args in (
       omega arith,
       omega arith,
-      lanes-start (now (g .s)) 0 (omega arith) (g .register)
+      lanes-start (now (g .s)) (λ j. c .before .before .before .before .shared-slice-known .given j .fits) 0 (omega arith) (g .register)
           (ap (bitXor (g .register)) (c .before .before .before .word-at .ensures))
           (c .before .before .word-at2 .ensures)
           (c .before .word-at3 .ensures)
@@ -38,11 +38,12 @@ loop-again c =
     let b6 = b4 .before .before in
     let l = b6 .before .before .before .loop in
     let start = b6 .before .before .before .before .before .before .before .before .before in
+    let known = b6 .before .before .before .before .before .before .before .before .shared-slice-known in
     let s = now (start .args .s) in
     let room : l .i + 32 ≤ length s = omega (arith, start .pre .1 .0, l .inv .0, l .inv .1, b6 .before .before .loop-test .taken) in (
       room,
       omega (arith, l .inv .1),
-      lanes-next s (l .i) room (l .a) (l .b) (l .c) (l .d)
+      lanes-next s (λ j. known .given j .fits) (l .i) room (l .a) (l .b) (l .c) (l .d)
           (ap₂ bitXor (b6 .before .lane .ensures) (b6 .word-at5 .ensures))
           (ap₂ bitXor (b4 .before .lane2 .ensures) (b4 .word-at6 .ensures))
           (ap₂ bitXor (b2 .before .lane3 .ensures) (b2 .word-at7 .ensures))
