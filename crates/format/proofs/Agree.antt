@@ -18,7 +18,7 @@ use Rattle.format.specs.Lists.{All}
 use Rattle.format.specs.Refusals.{accepted}
 use Rattle.format.specs.Tests.{below, same}
 use Rattle.format.specs.Layouts.{DBLK, DDT*, headerLength, imageMajorAt, indexOffsetAt, entryCount, entryAt, entriesFrom, entries, blockLength, sectorSize, blockPayload, tableLength, tablePayload, decode, tableHeaderLength, blockHeaderLength, indexHeaderLength, entryLength, tableEntryLength}
-use Rattle.format.specs.Opening.{offsetsOf, first, tableAt, Opened, openedAt, opened}
+use Rattle.format.specs.Opening.{offsetsOf, tableAt, Opened, openedAt, opened}
 use Rattle.format.specs.Reading.{tableEntry, notWritten, pointerAt, has, placeOf, itemBytes, readAt}
 use Rattle.format.specs.Facts.{Identified, HeaderOk, IndexOk, EntryOk, TableOk, ItemOk}
 use Rattle.format.proofs.Tests.{on-or-off, below-on, below-iff}
@@ -178,7 +178,7 @@ module _ (x y : List ℕ) (g : Agree x y) (o : ℕ) (k : OpenOk x o) where
 
   tableAt-agree : tableAt x o ≡ tableAt y o
   unfolding tableAt
-  tableAt-agree = ap (λ es. first (offsetsOf DDT* es)) (entries-agree x y g o (k .index))
+  tableAt-agree = ap (λ es. getD (offsetsOf DDT* es) 0 0) (entries-agree x y g o (k .index))
 
   open-agree : OpenOk y o
   open-agree =

@@ -5,7 +5,7 @@ use mathlib.Core.Logic.{_≢_, _⊎_, ⊎-elim, ⊎-map, inl, inr, _↔_, Iff·r
 use mathlib.Core.Path.{_≡_, refl, sym, ap, _∙_, subst}
 use Prim.Native.Nat.{ℕ, zero, suc, _+_, _*_, _≤_, _<_}
 use native.Mathlib.Omega.{arith}
-use lib.ListN.{length, take}
+use lib.ListN.{length, take, getD}
 use Rattle.format.specs.declared.Entry.{Entry}
 use Rattle.format.specs.declared.Pointer.{Pointer}
 use Rattle.format.specs.declared.Verdict.{Verdict}
@@ -14,7 +14,7 @@ use Rattle.format.specs.Tests.{same}
 use Rattle.format.specs.Lists.{All, done, more}
 use Rattle.format.specs.Refusals.{refusal, row, refused, accepted}
 use Rattle.format.specs.Layouts.{DBLK, DDT*, indexOffset, applicationLength, entryLength, entryAt, entriesFrom, entries}
-use Rattle.format.specs.Opening.{lacks, headerVerdict, indexVerdict, entryVerdict, entriesVerdict, offsetsOf, oneOf, oneVerdict, first, tableAt, tableMalformed, sumsDiffer, tableVerdict, openVerdict, Opened, opened}
+use Rattle.format.specs.Opening.{lacks, headerVerdict, indexVerdict, entryVerdict, entriesVerdict, offsetsOf, oneOf, oneVerdict, tableAt, tableMalformed, sumsDiffer, tableVerdict, openVerdict, Opened, opened}
 use Rattle.format.specs.Reading.{notWritten, pointerAt, has, blockMalformed, blockVerdict, itemVerdict, sectorVerdict, itemBytes, readVerdict, readAt}
 use Rattle.format.specs.Writing.{mostSectors, largestSize, mostAddresses, longestBuffer, bufferVerdict}
 use Rattle.format.specs.Creating.{createdUsed, createVerdict}
@@ -59,8 +59,8 @@ entries-ok img (suc k) p =
     facts (then-iff (entry-ok img p) (entries-ok img k (p + entryLength))) (λ (h, hs). more h hs) (λ h. (all-head h, all-tail h))
 
 -- the one table of a list of offsets
-pub one-ok : (l : List ℕ) → (oneOf l ≡ Passes) ↔ (l ≡ first l ∷ [])
-unfolding oneOf first
+pub one-ok : (l : List ℕ) → (oneOf l ≡ Passes) ↔ (l ≡ getD l 0 0 ∷ [])
+unfolding oneOf
 one-ok [] = (λ h. absurd (not-passes h), λ h. absurd (cons-ne-nil _ _ (sym h)))
 one-ok (t ∷ []) = (λ h. refl, λ h. refl)
 one-ok (t ∷ u ∷ l) = (λ h. absurd (not-passes h), λ h. absurd (cons-ne-nil u l cc))
@@ -77,8 +77,8 @@ table-ok img t =
     (λ k. (k .head, (k .compression, ((k .type, (k .shift, (k .whole, k .unpacked))), (k .fits, (k .cmpSum, k .sum))))))
 
 pub tableAt-only : (img : List ℕ) (o t : ℕ) → offsetsOf DDT* (entries img o) ≡ t ∷ [] → tableAt img o ≡ t
-unfolding tableAt first
-tableAt-only img o t e = ap first e
+unfolding tableAt
+tableAt-only img o t e = ap (λ (l : List ℕ). getD l 0 0) e
 
 -- opening as a whole
 pub record OpenOk (img : List ℕ) (o : ℕ) : Type 0 where

@@ -1,7 +1,7 @@
 -- Where the sectors of a commit end up: each handed-in sector gets a pointer to an equal one, on the old disc or among the stored ones.
 use mathlib.Core.Bool.{Bool, true, false}
 use mathlib.Core.List.{List, [], _∷_, _++_, append-assoc, append-nil}
-use mathlib.Core.Option.{Option, none, some}
+use mathlib.Core.Option.{Option, none, some, orElse}
 use mathlib.Core.Path.{_≡_, refl, sym, ap, _∙_, subst}
 use Prim.Native.Nat.{ℕ, zero, suc, _+_, _*_, _^_, _≤_, _<_}
 use native.Mathlib.Nat.{add-zero, zero-mul, suc-mul, lt-of-not-le, le-trans, not-suc-le-zero, le-of-suc-le-suc, le-max-left, le-max-right}
@@ -18,7 +18,7 @@ use Rattle.format.specs.Lists.{All, done, more}
 use Rattle.format.specs.Refusals.{Answer, accepted}
 use Rattle.format.specs.Opening.{Opened}
 use Rattle.format.specs.Reading.{notWritten, pointerAt, itemBytes}
-use Rattle.format.specs.Committing.{pieces, given, firstWith, holdsSector, onDisc, amongStored, Step, itemOf, stepFor, storeOne, Stored, storeAll, oldPointer, orElse, newPointer, newPointers, itemOrZero, largestItem, shiftFrom}
+use Rattle.format.specs.Committing.{pieces, given, firstWith, holdsSector, onDisc, amongStored, Step, itemOf, stepFor, storeOne, Stored, storeAll, oldPointer, newPointer, newPointers, itemOrZero, largestItem, shiftFrom}
 use Rattle.format.proofs.Tests.{below-on, below-iff, and-on, choose-true, choose-false, choose-cases}
 use Rattle.format.proofs.Lists.{Sized, all-append, all-take, all-drop, all-head, all-tail}
 

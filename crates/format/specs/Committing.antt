@@ -2,7 +2,7 @@
 -- image `img`, opened as `t`; a commit opens it at o, its header's index offset. "An empty list is allowed."
 use mathlib.Core.Bool.{Bool, true, false, not}
 use mathlib.Core.List.{List, [], _∷_, _++_, map}
-use mathlib.Core.Option.{Option, none, some}
+use mathlib.Core.Option.{Option, none, some, orElse}
 use Prim.Native.Nat.{ℕ, zero, suc, _+_, _*_, _^_, max}
 use lib.ListN.{length, take, drop, getD}
 use Rattle.fields.specs.Bytes.{overwrite, toLe, equal}
@@ -121,11 +121,7 @@ given [] ys a = none
 given (b ∷ bs) [] a = none
 given (b ∷ bs) (y ∷ ys) a = choose (same b a) (some y) (given bs ys a)
 
--- the first where there is one, else the second
-unfoldable pub orElse : {A : Type 0} → Option A → Option A → Option A
-orElse (some x) y = some x
-orElse none y = y
-
+-- the pointer of the sector handed in for an address, else the old one
 unfoldable pub newPointer : List ℕ → Opened → List ℕ → List Pointer → ℕ → Option Pointer
 newPointer img t addresses ps a = orElse (given addresses ps a) (oldPointer img t a)
 

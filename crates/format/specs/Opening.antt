@@ -3,7 +3,7 @@
 use mathlib.Core.Bool.{Bool}
 use mathlib.Core.List.{List, [], _∷_}
 use Prim.Native.Nat.{ℕ, zero, suc, _+_, _*_}
-use lib.ListN.{length}
+use lib.ListN.{length, getD}
 use Rattle.crc64.specs.Crc.{crcOf}
 use Rattle.fields.specs.Bytes.{field}
 use Rattle.format.specs.declared.Entry.{Entry}
@@ -67,14 +67,9 @@ oneOf (t ∷ u ∷ ts) = Refuses (refusal 10)
 unfoldable pub oneVerdict : List ℕ → ℕ → Verdict
 oneVerdict img o = oneOf (offsetsOf DDT* (entries img o))
 
--- the first of a list, 0 where it is empty
-unfoldable pub first : List ℕ → ℕ
-first [] = 0
-first (t ∷ ts) = t
-
 -- the table's place, where the index names one table
 unfoldable pub tableAt : List ℕ → ℕ → ℕ
-tableAt img o = first (offsetsOf DDT* (entries img o))
+tableAt img o = getD (offsetsOf DDT* (entries img o)) 0 0
 
 -- 5. "Table header past the end: 11. Compression not 0: 13. Type not 1, shift over 32, length not 8 x entries, or cmpLength not
 -- length: 12. Payload past the end: 11. Either checksum wrong: 14."
