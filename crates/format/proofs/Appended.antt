@@ -1,7 +1,7 @@
 -- A commit read back: an image that keeps x's bytes and holds the appended block, table and index opens at the new index, and every address
 -- reads as handed in, or as it did.
 use mathlib.Core.Bool.{true, false}
-use mathlib.Core.List.{List, [], _∷_, _++_, map}
+use mathlib.Core.List.{List, [], _∷_, _++_, map, flatten}
 use mathlib.Core.Logic.{_≢_, _⊎_, inl, inr, ⊎-elim}
 use mathlib.Core.Option.{Option, none, some}
 use mathlib.Core.Path.{_≡_, refl, sym, ap, _∙_, subst}
@@ -16,7 +16,7 @@ use Rattle.fields.proofs.Numbers.{length-toLe}
 use Rattle.fields.proofs.Holds.{Holds, holds-all, holds-left, holds-right, holds-number}
 use Rattle.format.specs.declared.Entry.{Entry}
 use Rattle.format.specs.declared.Pointer.{Pointer}
-use Rattle.format.specs.Lists.{All, done, more, IsBytes, flat}
+use Rattle.format.specs.Lists.{All, done, more, IsBytes}
 use Rattle.format.specs.Refusals.{refusal, Answer, refused, accepted}
 use Rattle.format.specs.Layouts.{DBLK, DDT*, CKSM, tag, headerLength, entries, indexBytes, sectorSize, blockLength, tableBytes, decode, encode, tableHeaderLength, blockHeaderLength, tableEntryLength}
 use Rattle.format.specs.Opening.{offsetsOf, Opened, opened}
@@ -26,7 +26,7 @@ use Rattle.format.specs.Committing.{pieces, given, itemOf, oldPointer, n
 use Rattle.format.specs.Demands.{NoStaleChecksum}
 use Rattle.format.specs.Facts.{Identified, EntryOk, ItemOk}
 use Rattle.format.proofs.Tests.{never, same-true, same-iff, choose-true, choose-false}
-use Rattle.format.proofs.Lists.{Sized, all-append, all-map, all-get, length-flat, getD-map, all-image}
+use Rattle.format.proofs.Lists.{Sized, all-append, all-map, all-get, length-flatten, getD-map, all-image}
 use Rattle.format.proofs.Checks.{PointerOk, SectorOk, AddressOk, Sound, read-20, read-21, read-bytes}
 use Rattle.format.proofs.Named.{user-data-on, user-data-true, user-data-false, offsets-yes, offsets-no, offsets-append, has-head, has-left, has-right}
 use Rattle.format.proofs.Agree.{Agree, header-agree, entry-agree, item-agree, bytes-agree, block-low}
@@ -86,10 +86,10 @@ new-item y b size (s ∷ ss) sz h pos small long j k = made
     items = s ∷ ss
 
     payload : List ℕ
-    payload = flat items
+    payload = flatten items
 
     whole : length payload ≡ length items * size
-    whole = length-flat size items sz
+    whole = length-flatten size items sz
 
     f : b + (blockHeaderLength + length payload) ≤ length y
     f = subst (λ n. b + n ≤ length y) (length-blockBytes size payload) (h .fits)
@@ -169,7 +169,7 @@ module _ (x : List ℕ) (o : ℕ) (addresses : List ℕ) (size : ℕ) (sectors :
   shift = shiftFor (largestItem pointers)
 
   abbrev payload : List ℕ
-  payload = flat (map (tableEntryBytes shift) pointers)
+  payload = flatten (map (tableEntryBytes shift) pointers)
 
   -- what is appended, and where its table and its index stand
   abbrev added : Appended
@@ -305,7 +305,7 @@ module _ (x : List ℕ) (o : ℕ) (addresses : List ℕ) (size : ℕ) (sectors :
 
     payload-whole : length payload ≡ tableEntryLength * length pointers
     payload-whole =
-        let a = length-flat tableEntryLength (map (tableEntryBytes shift) pointers) entries-sized in
+        let a = length-flatten tableEntryLength (map (tableEntryBytes shift) pointers) entries-sized in
         let b = length-map pointers (tableEntryBytes shift) in
         omega arith
 

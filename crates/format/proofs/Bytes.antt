@@ -1,5 +1,5 @@
 -- Lists of bytes: their fields fit, and what is written is bytes again.
-use mathlib.Core.List.{List, [], _∷_}
+use mathlib.Core.List.{List, [], _∷_, flatten}
 use mathlib.Core.Option.{Option, none, some}
 use Prim.Native.Nat.{ℕ, zero, suc, _+_, _*_, _/_, _≤_, _<_}
 use native.Mathlib.Nat.{mod-lt, zero-lt-suc}
@@ -13,12 +13,12 @@ use Rattle.fields.proofs.Numbers.{field-lt}
 use Rattle.fields.proofs.Overwrite.{overwrite-split}
 use Rattle.format.specs.declared.Entry.{Entry}
 use Rattle.format.specs.declared.Pointer.{Pointer}
-use Rattle.format.specs.Lists.{All, done, more, IsBytes, flat}
+use Rattle.format.specs.Lists.{All, done, more, IsBytes}
 use Rattle.format.specs.Layouts.{AARUFRMT, IDX2, DBLK, DDT*, entryLength, tableEntryLength, headerBytes, entryAt, entriesFrom, entryBytes, indexHeader, indexBytes, blockHeader, blockBytes, tableHeader, tableBytes, encode}
 use Rattle.format.specs.Opening.{opened}
 use Rattle.format.specs.Creating.{createdEntries, createdBytes}
 use Rattle.format.specs.Committing.{pieces, tableEntryBytes, newTable, newBlock, appendedFor, storedFor, appended, appendedBytes}
-use Rattle.format.proofs.Lists.{all-append, all-image, all-take, all-drop, all-replicate, all-flat}
+use Rattle.format.proofs.Lists.{all-append, all-image, all-take, all-drop, all-replicate, all-flatten}
 use Rattle.format.proofs.Written.{EntryFits}
 use Rattle.format.proofs.Storing.{pieces-all, stored-ok}
 
@@ -76,7 +76,7 @@ bytes-entry e = bytes-layout _ tt
 
 bytes-index : (es : List Entry) → IsBytes (indexBytes es)
 unfolding indexBytes indexHeader
-bytes-index es = all-append (bytes-layout _ (is-bytes IDX2 tt, tt)) (all-flat (all-image entryBytes bytes-entry es))
+bytes-index es = all-append (bytes-layout _ (is-bytes IDX2 tt, tt)) (all-flatten (all-image entryBytes bytes-entry es))
 
 -- ---- a new image
 pub bytes-created : (count : ℕ) (application : List ℕ) → IsBytes application → (major minor mediaType creationTime lastWrittenTime : ℕ)
@@ -95,11 +95,11 @@ bytes-pointer shift (some p) = bytes-toLe 8 (encode shift p)
 bytes-newBlock : (size : ℕ) (items : List (List ℕ)) → All IsBytes items → IsBytes (newBlock size items)
 unfolding newBlock
 bytes-newBlock size [] h = done
-bytes-newBlock size (i ∷ is) h = bytes-block (flat (i ∷ is)) (all-flat h) size
+bytes-newBlock size (i ∷ is) h = bytes-block (flatten (i ∷ is)) (all-flatten h) size
 
 bytes-newTable : (ps : List (Option Pointer)) → IsBytes (newTable ps)
 unfolding newTable
-bytes-newTable ps = bytes-table _ (all-flat (all-image _ (bytes-pointer _) ps)) _ _
+bytes-newTable ps = bytes-table _ (all-flatten (all-image _ (bytes-pointer _) ps)) _ _
 
 pub bytes-appended : (img : List ℕ) (o : ℕ) (addresses : List ℕ) (size : ℕ) (sectors : List ℕ) → IsBytes sectors
     → IsBytes (appendedBytes (appended img o addresses size sectors))

@@ -1,11 +1,11 @@
 -- Laws of the lists that the definitions speak of.
-use mathlib.Core.List.{List, [], _∷_, _++_, map}
+use mathlib.Core.List.{List, [], _∷_, _++_, map, flatten}
 use mathlib.Core.Path.{_≡_, refl, sym, _∙_}
 use Prim.Native.Nat.{ℕ, zero, suc, _*_, _<_}
 use native.Mathlib.Nat.{zero-mul, suc-mul, not-suc-le-zero, le-of-suc-le-suc}
 use native.Mathlib.Omega.{arith}
 use lib.ListN.{length, take, drop, getD, replicate, length-append}
-use Rattle.format.specs.Lists.{All, done, more, flat}
+use Rattle.format.specs.Lists.{All, done, more}
 
 -- ---- every member
 pub all-append : {A : Type 0} {P : A → Type 0} {a b : List A} → All P a → All P b → All P (a ++ b)
@@ -57,12 +57,12 @@ getD-map f (a ∷ l) (suc j) d e h = getD-map f l j d e (le-of-suc-le-suc h)
 abbrev pub Sized : ℕ → List ℕ → Type 0
 Sized n l = length l ≡ n
 
-pub length-flat : (n : ℕ) (ls : List (List ℕ)) → All (Sized n) ls → length (flat ls) ≡ length ls * n
-unfolding flat
-length-flat n _ done = sym (zero-mul n)
-length-flat n _ (more {a = l} {l = ls} h hs) = length-append l (flat ls) ∙ rw (h, length-flat n ls hs, suc-mul) (omega arith)
+pub length-flatten : (n : ℕ) (ls : List (List ℕ)) → All (Sized n) ls → length (flatten ls) ≡ length ls * n
+unfolding flatten
+length-flatten n _ done = sym (zero-mul n)
+length-flatten n _ (more {a = l} {l = ls} h hs) = length-append l (flatten ls) ∙ rw (h, length-flatten n ls hs, suc-mul) (omega arith)
 
-pub all-flat : {P : ℕ → Type 0} {ls : List (List ℕ)} → All (All P) ls → All P (flat ls)
-unfolding flat
-all-flat done = done
-all-flat (more h hs) = all-append h (all-flat hs)
+pub all-flatten : {P : ℕ → Type 0} {ls : List (List ℕ)} → All (All P) ls → All P (flatten ls)
+unfolding flatten
+all-flatten done = done
+all-flatten (more h hs) = all-append h (all-flatten hs)

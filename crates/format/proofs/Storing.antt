@@ -1,6 +1,6 @@
 -- Where the sectors of a commit end up: each handed-in sector gets a pointer to an equal one, on the old disc or among the stored ones.
 use mathlib.Core.Bool.{Bool, true, false}
-use mathlib.Core.List.{List, [], _∷_, _++_, append-assoc, append-nil}
+use mathlib.Core.List.{List, [], _∷_, _++_, append-assoc, append-nil, Forall₂, Forall₂·nil, Forall₂·cons}
 use mathlib.Core.Option.{Option, none, some, orElse}
 use mathlib.Core.Path.{_≡_, refl, sym, ap, _∙_, subst}
 use Prim.Native.Nat.{ℕ, zero, suc, _+_, _*_, _^_, _≤_, _<_}
@@ -105,11 +105,6 @@ source-grow : {img : List ℕ} {t : Opened} {block : ℕ} {items : List (List �
 source-grow extra (old h) = old h
 source-grow {items = items} extra (new {i = i} h e) = new {i = i} (simp length-append (omega arith)) (List·getD-append items extra [] i h ∙ e)
 
--- two lists, member by member
-pub data Both {A B : Type 0} (R : A → B → Type 0) : List A → List B → Type 0 where
-  ended : Both R [] []
-  next : {a : A} {b : B} {l : List A} {m : List B} → R a b → Both R l m → Both R (a ∷ l) (b ∷ m)
-
 -- P: a property that all handed-in sectors have, and so all stored ones
 module _ (img : List ℕ) (t : Opened) (block : ℕ) (P : List ℕ → Type 0) where
   -- one sector
@@ -141,11 +136,11 @@ module _ (img : List ℕ) (t : Opened) (block : ℕ) (P : List ℕ → Type 0) w
     pub extra : List (List ℕ)
     pub grown : r .items ≡ stored ++ extra
     pub keeps : All P stored → All P sectors → All P (r .items)
-    pub sources : Both (λ (sector : List ℕ) (p : Pointer). Source img t block (r .items) sector p) sectors (r .pointers)
+    pub sources : Forall₂ (λ (sector : List ℕ) (p : Pointer). Source img t block (r .items) sector p) sectors (r .pointers)
 
   pub stored-ok : (sectors stored : List (List ℕ)) → StoredOk stored sectors (storeAll img t block stored sectors)
   unfolding storeAll
-  stored-ok [] stored = record { extra = []; grown = sym (append-nil stored); keeps = λ h k. h; sources = ended }
+  stored-ok [] stored = record { extra = []; grown = sym (append-nil stored); keeps = λ h k. h; sources = Forall₂·nil }
   stored-ok (d ∷ ds) stored = go (storeOne img t block stored d) (step-ok stored d) (stored-ok ds)
     where
       go : (s : Step) → StepOk stored d s → ((l : List (List ℕ)) → StoredOk l ds (storeAll img t block l ds))
@@ -156,7 +151,7 @@ module _ (img : List ℕ) (t : Opened) (block : ℕ) (P : List ℕ → Type 0) w
             extra = k .extra ++ r .extra;
             grown = r .grown ∙ ap (λ (l : List (List ℕ)). l ++ r .extra) (k .grown) ∙ append-assoc stored (k .extra) (r .extra);
             keeps = λ h q. r .keeps (k .keeps h (all-head q)) (all-tail q);
-            sources = next {a = d} {b = s .pointer} (rw (r .grown) (source-grow (r .extra) (k .source))) (r .sources);
+            sources = Forall₂·cons {a = d} {b = s .pointer} (rw (r .grown) (source-grow (r .extra) (k .source))) (r .sources);
           }
 
 -- ---- what an address reads as after a commit, by what was handed in for it and by what it read as before
@@ -170,12 +165,12 @@ pub data NewPointer (img : List ℕ) (t : Opened) (block : ℕ) (items : List (L
   kept : NewPointer img t block items a (oldPointer img t a) none
 
 module _ (img : List ℕ) (t : Opened) (block : ℕ) (items : List (List ℕ)) (a : ℕ) where
-  pub new-pointer : (addresses : List ℕ) (ds : List (List ℕ)) (ps : List Pointer) → Both (λ (sector : List ℕ) (p : Pointer). Source img t block items sector p) ds ps
+  pub new-pointer : (addresses : List ℕ) (ds : List (List ℕ)) (ps : List Pointer) → Forall₂ (λ (sector : List ℕ) (p : Pointer). Source img t block items sector p) ds ps
       → NewPointer img t block items a (newPointer img t addresses ps a) (given addresses ds a)
   unfolding newPointer given orElse
   new-pointer [] ds ps h = kept
-  new-pointer (b ∷ bs) _ _ ended = kept
-  new-pointer (b ∷ bs) _ _ (next {a = d} {b = p} {l = ds} {m = ps} h hs) =
+  new-pointer (b ∷ bs) _ _ Forall₂·nil = kept
+  new-pointer (b ∷ bs) _ _ (Forall₂·cons {a = d} {b = p} {l₁ = ds} {l₂ = ps} h hs) =
       let ih = new-pointer bs ds ps hs in
       choose-cases (λ (u : Option Pointer). NewPointer img t block items a (orElse u (oldPointer img t a)) (given (b ∷ bs) (d ∷ ds) a)) (same b a) _ _
       (λ e. rw (choose-true _ (some d) (given bs ds a) e) (fresh h)) (λ e. rw (choose-false _ (some d) (given bs ds a) e) ih)

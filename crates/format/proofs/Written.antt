@@ -1,5 +1,5 @@
 -- A written block, table and index, read back: the facts of their checks hold, and an image that holds a table and an index opens.
-use mathlib.Core.List.{List, [], _∷_, _++_, map, append-nil}
+use mathlib.Core.List.{List, [], _∷_, _++_, map, append-nil, flatten}
 use mathlib.Core.Logic.{_≢_}
 use mathlib.Core.Path.{_≡_, refl, sym, ap, _∙_}
 use Prim.Native.Nat.{ℕ, zero, suc, _+_, _*_, _^_, _≤_, _<_}
@@ -13,25 +13,25 @@ use Rattle.fields.specs.Bytes.{part, field}
 use Rattle.fields.proofs.Holds.{Holds, holds-all, holds-left, holds-right}
 use Rattle.fields.proofs.Records.{length-layout, holds-num, holds-raw}
 use Rattle.format.specs.declared.Entry.{Entry}
-use Rattle.format.specs.Lists.{All, done, more, flat}
+use Rattle.format.specs.Lists.{All, done, more}
 use Rattle.format.specs.Layouts.{IDX2, DBLK, DDT*, tag, headerLength, entryCount, entryAt, entriesFrom, entries, entryBytes, indexHeader, indexBytes, sectorSize, blockLength, blockPayload, blockHeader, blockBytes, tableShift, tableCount, tableLength, tablePayload, tableHeader, tableBytes, tableHeaderLength, blockHeaderLength, indexHeaderLength, entryLength, tableEntryLength}
 use Rattle.format.specs.Opening.{offsetsOf, tableAt, Opened, openedAt, opened}
 use Rattle.format.specs.Writing.{largestSize}
 use Rattle.format.specs.Facts.{Identified, HeaderOk, IndexOk, EntryOk, TableOk, ItemOk}
-use Rattle.format.proofs.Lists.{Sized, all-image, length-flat}
+use Rattle.format.proofs.Lists.{Sized, all-image, length-flatten}
 use Rattle.format.proofs.Checks.{tableAt-only, OpenOk}
 
 -- ---- pieces of one size
-pub holds-piece : (y : List ℕ) (n : ℕ) (ls : List (List ℕ)) → All (Sized n) ls → (p : ℕ) → Holds y p (flat ls) → (j : ℕ) → j < length ls
+pub holds-piece : (y : List ℕ) (n : ℕ) (ls : List (List ℕ)) → All (Sized n) ls → (p : ℕ) → Holds y p (flatten ls) → (j : ℕ) → j < length ls
     → Holds y (p + j * n) (getD ls j [])
-unfolding flat
+unfolding flatten
 holds-piece y n _ done p h j k = absurd (not-suc-le-zero k)
 holds-piece y n _ (more {a = l} {l = ls} e es) p h zero k =
     let z : p + 0 * n ≡ p = omega arith in
-    rw z (holds-left y p l (flat ls) h)
+    rw z (holds-left y p l (flatten ls) h)
 holds-piece y n _ (more {a = l} {l = ls} e es) p h (suc j) k =
     let z : p + suc j * n ≡ p + length l + j * n = rw e (omega arith) in
-    rw z (holds-piece y n ls es (p + length l) (holds-right y p l (flat ls) h refl) j (le-of-suc-le-suc k))
+    rw z (holds-piece y n ls es (p + length l) (holds-right y p l (flatten ls) h refl) j (le-of-suc-le-suc k))
 
 -- ---- table
 pub length-tableBytes : (s c : ℕ) (payload : List ℕ) → length (tableBytes s c payload) ≡ tableHeaderLength + length payload
@@ -135,8 +135,8 @@ length-entryBytes : (e : Entry) → length (entryBytes e) ≡ entryLength
 unfolding entryBytes
 length-entryBytes e = simp length-layout
 
-length-payload : (es : List Entry) → length (flat (map entryBytes es)) ≡ entryLength * length es
-length-payload es = let e = length-flat entryLength (map entryBytes es) (all-image entryBytes length-entryBytes es) in let l = length-map es entryBytes in omega arith
+length-payload : (es : List Entry) → length (flatten (map entryBytes es)) ≡ entryLength * length es
+length-payload es = let e = length-flatten entryLength (map entryBytes es) (all-image entryBytes length-entryBytes es) in let l = length-map es entryBytes in omega arith
 
 pub length-indexBytes : (es : List Entry) → length (indexBytes es) ≡ indexHeaderLength + entryLength * length es
 unfolding indexBytes indexHeader
@@ -151,18 +151,18 @@ entry-written y p e k h =
     let e8 : field y (p + 8) 8 ≡ e .offset .0 = holds-num y p _ [] h′ 2 8 (e .offset .0) (lit< tt) refl (k .offset) in
     λ i. record { blockType = (ap (λ m. field y m 4) (sym (add-zero p)) ∙ e0) i; dataType = e4 i; offset = record { 0 = e8 i } }
 
-entries-written : (y : List ℕ) (p : ℕ) (es : List Entry) → All EntryFits es → Holds y p (flat (map entryBytes es)) → entriesFrom y (length es) p ≡ es
-unfolding entriesFrom flat
+entries-written : (y : List ℕ) (p : ℕ) (es : List Entry) → All EntryFits es → Holds y p (flatten (map entryBytes es)) → entriesFrom y (length es) p ≡ es
+unfolding entriesFrom flatten
 entries-written y p _ done h = refl
 entries-written y p _ (more {a = e} {l = es} k ks) h =
-    let rest : List ℕ = flat (map entryBytes es) in
+    let rest : List ℕ = flatten (map entryBytes es) in
     let h1 : Holds y p (entryBytes e) = holds-left y p (entryBytes e) rest h in
     let h2 : Holds y (p + entryLength) rest = holds-right y p (entryBytes e) rest h (rw length-entryBytes) in
     λ i. entry-written y p e k h1 i ∷ entries-written y (p + entryLength) es ks h2 i
 
 module _ (y : List ℕ) (o : ℕ) (es : List Entry) (h : Holds y o (indexBytes es)) where
   abbrev indexPayload : List ℕ
-  indexPayload = flat (map entryBytes es)
+  indexPayload = flatten (map entryBytes es)
 
   index-count : length es < 256 ^ 8 → entryCount y o ≡ length es
   unfolding indexBytes indexHeader entryCount

@@ -1,7 +1,7 @@
 -- "*Commit* takes buffer, `used`, an address list, a sector size, the sectors' bytes one after another, and a time." The old disc is the
 -- image `img`, opened as `t`; a commit opens it at o, its header's index offset. "An empty list is allowed."
 use mathlib.Core.Bool.{Bool, true, false, not}
-use mathlib.Core.List.{List, [], _∷_, _++_, map}
+use mathlib.Core.List.{List, [], _∷_, _++_, map, flatten}
 use mathlib.Core.Option.{Option, none, some, orElse}
 use Prim.Native.Nat.{ℕ, zero, suc, _+_, _*_, _^_, max}
 use lib.ListN.{length, take, drop, getD}
@@ -11,7 +11,6 @@ use Rattle.format.specs.declared.Pointer.{Pointer}
 use Rattle.format.specs.declared.Verdict.{Verdict}
 use Rattle.format.specs.declared.Verdict.the-variants.{Passes, Refuses}
 use Rattle.format.specs.Tests.{same, differs, below, atLeast, _or_, _and_, choose}
-use Rattle.format.specs.Lists.{flat}
 use Rattle.format.specs.Refusals.{refusal, row, _then_, firstRefusal}
 use Rattle.format.specs.Layouts.{DBLK, DDT*, CKSM, tag, indexOffset, entries, indexBytes, blockBytes, tableBytes, tableEntryLength, encode}
 use Rattle.format.specs.Opening.{isType, isUserData, Opened, opened, openVerdict}
@@ -159,7 +158,7 @@ tableEntryBytes shift (some p) = toLe tableEntryLength (encode shift p)
 unfoldable pub newTable : List (Option Pointer) → List ℕ
 newTable ps =
     let shift = shiftFor (largestItem ps) in
-    tableBytes shift (length ps) (flat (map (tableEntryBytes shift) ps))
+    tableBytes shift (length ps) (flatten (map (tableEntryBytes shift) ps))
 
 -- ---- "The index holds the old entries in order, the table's entry replaced in its place, every 'CKSM' entry left out .., and the
 -- new data block's entry (dataType 1) last."
@@ -174,7 +173,7 @@ keptEntries table (e ∷ es) = choose (isType CKSM e) (keptEntries table es) (ke
 -- "one data block if anything is stored", and its entry
 unfoldable pub newBlock : ℕ → List (List ℕ) → List ℕ
 newBlock size [] = []
-newBlock size (i ∷ is) = blockBytes size (flat (i ∷ is))
+newBlock size (i ∷ is) = blockBytes size (flatten (i ∷ is))
 
 unfoldable pub newBlockEntry : ℕ → List (List ℕ) → List Entry
 newBlockEntry block [] = []

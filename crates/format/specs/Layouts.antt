@@ -1,7 +1,7 @@
 -- Layouts: the identifiers, each record's fields and the record as it is written, and what a table entry means.
 -- "All little-endian and packed; 'at' counts from the start of the record. The image is the first `used` bytes of a lent buffer."
 -- `field img (b + 8) 4` is the 4-byte field at 8 of the record that stands at b.
-use mathlib.Core.List.{List, [], _∷_, _++_, map}
+use mathlib.Core.List.{List, [], _∷_, _++_, map, flatten}
 use Prim.Native.Nat.{ℕ, zero, suc, _+_, _*_, _/_, _%_, _^_}
 use lib.ListN.{length}
 use Rattle.crc64.specs.Crc.{crcOf}
@@ -9,7 +9,6 @@ use Rattle.fields.specs.Bytes.{part, field, fromLe}
 use Rattle.fields.specs.Layout.{num, raw, layout}
 use Rattle.format.specs.declared.Entry.{Entry}
 use Rattle.format.specs.declared.Pointer.{Pointer}
-use Rattle.format.specs.Lists.{flat}
 
 -- ---- identifiers, by the codes of their letters
 abbrev pub AARUFRMT : List ℕ
@@ -97,7 +96,7 @@ unfoldable pub indexHeader : ℕ → List ℕ → List ℕ
 indexHeader count payload = layout (raw IDX2 ∷ num 8 count ∷ num 8 (crcOf payload) ∷ [])
 
 unfoldable pub indexBytes : List Entry → List ℕ
-indexBytes es = let payload = flat (map entryBytes es) in indexHeader (length es) payload ++ payload
+indexBytes es = let payload = flatten (map entryBytes es) in indexHeader (length es) payload ++ payload
 
 -- ---- Data block, 36: 'DBLK' at 0; type 4 (2); compression 6 (2); sectorSize 8 (4); cmpLength 12 (4); length 16 (4);
 -- cmpCrc64 20 (8); crc64 28 (8). "Payload follows its header at once."

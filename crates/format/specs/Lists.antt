@@ -1,5 +1,5 @@
 -- Lists, as the definitions speak of them.
-use mathlib.Core.List.{List, [], _∷_, _++_}
+use mathlib.Core.List.{List, [], _∷_}
 use Prim.Native.Nat.{ℕ, _<_}
 
 -- every member of a list is so
@@ -20,8 +20,3 @@ pub data Only {A : Type 0} (P : A → Type 0) (a : A) : List A → Type 0 where
 -- what a lent slice of bytes holds
 abbrev pub IsBytes : List ℕ → Type 0
 IsBytes l = All (λ (b : ℕ). b < 256) l
-
--- lists, one after another
-unfoldable pub flat : List (List ℕ) → List ℕ
-flat [] = []
-flat (l ∷ ls) = l ++ flat ls
