@@ -1,9 +1,31 @@
-// Internal: bytes in a lent slice. Little-endian numbers are read and written; runs of bytes are copied, cleared and
-// compared. Offsets and counts are u64, as in the format.
+// Internal: bytes in a lent slice. Little-endian numbers are read and written; runs of bytes are taken, copied, cleared
+// and compared. Offsets and counts are u64, as in the format.
 ghost use mathlib.Core.Path.{_≡_};
-ghost use Prim.Native.Nat.{_+_, _≤_};
+ghost use Prim.Native.Nat.{_+_, _-_, _≤_};
 ghost use lib.ListN.{length, replicate};
 ghost use Rattle.fields.specs.Bytes.{part, field, toLe, overwrite, equal};
+
+// How many bytes lie from `at` to the end, none if `at` is past it. A test for "past the end" by `room` adds nothing that
+// could wrap: n bytes at `at` lie past the end exactly if `room(s, at) < n`, for n above 0.
+pub fn room(s: &[u8], at: u64) -> u64
+    ensures { λ r. ⌜ r ≡ length (now (s .entry)) - at ⌝ }
+{
+    let length = s.len() as u64;
+    if length < at {
+        return 0;
+    }
+    length - at
+}
+
+// The n bytes from `at`.
+pub fn part<'a>(s: &'a [u8], at: u64, n: u64) -> &'a [u8]
+    requires { ⌜ at + n ≤ length (now s) ⌝ }
+    ensures { λ r. ⌜ now r ≡ part (now (s .entry)) at n ⌝ }
+{
+    let start = at as usize;
+    let end = (at + n) as usize;
+    &s[start..end]
+}
 
 // The number in the k bytes from `at`, the lowest first.
 pub fn get(s: &[u8], at: u64, k: u64) -> u64

@@ -1,5 +1,6 @@
 pub mod Tests
 pub mod Refusals
+pub mod Chains
 pub mod Lists
 pub mod Checks
 pub mod Named

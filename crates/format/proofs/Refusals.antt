@@ -44,6 +44,10 @@ pub row-refuses : (b : Bool) (r : Refusal) → b ≡ true → row b r ≡ Refuse
 unfolding row
 row-refuses b r e = rw e
 
+pub row-passes : (b : Bool) (r : Refusal) → b ≡ false → row b r ≡ Passes
+unfolding row
+row-passes b r e = rw e
+
 pub then-refuses : (v w : Verdict) (r : Refusal) → v ≡ Refuses r → (v then w) ≡ Refuses r
 unfolding _then_
 then-refuses v w r p = rw p
@@ -76,3 +80,8 @@ pub answer-accepted : {A : Type 0} (v : Verdict) (a b : A) → answer v a ≡ ac
 unfolding answer
 answer-accepted Passes a b e = (refl, cc)
 answer-accepted (Refuses r) a b e = let z : _≡_ {A = ℕ} 0 1 = cc in absurd (omega arith)
+
+pub answer-refused : {A : Type 0} (v : Verdict) (a : A) (r : Refusal) → answer v a ≡ refused r → v ≡ Refuses r
+unfolding answer
+answer-refused Passes a r e = let z : _≡_ {A = ℕ} 0 1 = cc in absurd (omega arith)
+answer-refused (Refuses q) a r e = cc

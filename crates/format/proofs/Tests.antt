@@ -3,7 +3,7 @@ use mathlib.Core.Bool.{Bool, true, false, not, true≢false}
 use mathlib.Core.Logic.{_≢_, _⊎_, ⊎-elim, inl, inr, _↔_, Iff·trans}
 use mathlib.Core.Path.{_≡_, refl, sym, ap, _∙_}
 use Prim.Native.Nat.{ℕ, _≤_, _<_}
-use borrow.Author.Tests.{ltb-true, ltb-false, leb-false, eqb-true, eqb-false, not-false, le-ltb, le-leb, lt-leb, eq-eqb, ne-eqb}
+use borrow.Author.Tests.{ltb-true, ltb-false, leb-false, eqb-true, eqb-false, not-false, lt-ltb, le-ltb, le-leb, lt-leb, eq-eqb, ne-eqb}
 use Rattle.format.specs.Tests.{same, differs, below, atLeast, _or_, _and_, choose}
 
 pub on-or-off : (b : Bool) → (b ≡ true) ⊎ (b ≡ false)
@@ -23,6 +23,10 @@ module _ (a b : ℕ) where
   unfolding below
   below-on h = ltb-true a b h
 
+  pub below-true : a < b → below a b ≡ true
+  unfolding below
+  below-true h = lt-ltb a b h
+
   pub atLeast-true : b ≤ a → atLeast a b ≡ true
   unfolding atLeast
   atLeast-true h = le-leb b a h
@@ -34,6 +38,10 @@ module _ (a b : ℕ) where
   pub same-true : a ≡ b → same a b ≡ true
   unfolding same
   same-true h = eq-eqb a b h
+
+  pub differs-true : a ≢ b → differs a b ≡ true
+  unfolding differs
+  differs-true h = ap not (ne-eqb a b h)
 
 module _ {a b : ℕ} where
   pub below-iff : (below a b ≡ false) ↔ (b ≤ a)

@@ -12,6 +12,7 @@ use Rattle.format.specs.Lists.{All, Any, Only, IsBytes}
 use Rattle.format.specs.Refusals.{Answer, refused, accepted}
 use Rattle.format.specs.Layouts.{DBLK, DDT*, CKSM, tag, indexOffset, entries, blockHeaderLength, sectorSize, tableHeaderLength, tableShift, tableCount, tableEntryLength}
 use Rattle.format.specs.Reading.{read}
+use Rattle.format.specs.Answers.{bytesRead}
 use Rattle.format.specs.Writing.{placed}
 use Rattle.format.specs.Creating.{create}
 use Rattle.format.specs.Committing.{commit}
@@ -49,6 +50,10 @@ pub record NamesItem (img : List ℕ) (a : ℕ) (sector : List ℕ) : Type 0 whe
 
 abbrev pub Demand2Reading : Type 0
 Demand2Reading = (img : List ℕ) (a : ℕ) (sector : List ℕ) → (read img a ≡ accepted sector) ↔ NamesItem img a sector
+
+-- the same of what the call hands out: some bytes exactly if the address names an item, and then that item's; else none
+abbrev pub Demand2Returned : Type 0
+Demand2Returned = (img : List ℕ) (a : ℕ) (sector : List ℕ) → ((bytesRead (read img a) ≡ sector) × (sector ≢ [])) ↔ NamesItem img a sector
 
 -- ---- Demand 2, committing: an accepted commit makes the named sectors read as handed in and every other sector read as before.
 -- A disc that read as `before`, after such a commit reads as `later`

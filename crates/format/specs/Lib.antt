@@ -4,6 +4,7 @@ pub mod Refusals
 pub mod Layouts
 pub mod Opening
 pub mod Reading
+pub mod Answers
 pub mod Facts
 pub mod Writing
 pub mod Creating

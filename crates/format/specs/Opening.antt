@@ -115,3 +115,7 @@ opened img o = openedAt img (tableAt img o)
 
 unfoldable pub opening : List ℕ → Answer Opened
 opening img = answer (openVerdict img (indexOffset img)) (opened img (indexOffset img))
+
+-- how many sectors an image has
+unfoldable pub sectorCount : List ℕ → Answer ℕ
+sectorCount img = answer (openVerdict img (indexOffset img)) (opened img (indexOffset img) .count)

@@ -40,6 +40,18 @@ pub struct Place {
     pub size: u64,
 }
 
+// What asking for the number of sectors answers.
+pub enum Counted {
+    Sectors(u64),
+    Refused(Refusal),
+}
+
+// What locating a sector answers.
+pub enum Located {
+    At(Place),
+    Refused(Refusal),
+}
+
 // What a call that writes answers: how many bytes of the buffer the image has, and where its index is.
 pub struct Placed {
     pub used: u64,

@@ -1,0 +1,24 @@
+-- What the answer of each public call says in 01's terms: "If an answer is an enum, a definition gives this paper's number and values for
+-- each of its cases. The promises use that definition."
+use mathlib.Core.List.{List, []}
+use Prim.Native.Nat.{ℕ}
+use Rattle.format.specs.declared.Counted.{Counted}
+use Rattle.format.specs.declared.Counted.the-variants as count
+use Rattle.format.specs.declared.Located.{Located}
+use Rattle.format.specs.declared.Located.the-variants as locate
+use Rattle.format.specs.declared.Place.{Place}
+use Rattle.format.specs.Refusals.{Answer, refused, accepted}
+
+unfoldable pub counted : Counted → Answer ℕ
+counted (count.Sectors n) = accepted n
+counted (count.Refused r) = refused r
+
+unfoldable pub located : Located → Answer Place
+located (locate.At p) = accepted p
+located (locate.Refused r) = refused r
+
+-- A read hands out a part of the lent image, and no answer holds a part and a number both. So a refused read hands out the empty part, which
+-- is no sector (a sector size of 0 is 25), and its number is that of `locate`.
+unfoldable pub bytesRead : Answer (List ℕ) → List ℕ
+bytesRead (accepted sector) = sector
+bytesRead (refused r) = []
