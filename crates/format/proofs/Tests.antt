@@ -86,6 +86,15 @@ unfolding _or_
 or-true-right true b p = refl
 or-true-right false b p = p
 
+-- the last of several tests decides
+pub or-rest : {a : Bool} (b : Bool) → a ≡ false → (a or b) ≡ b
+unfolding _or_
+or-rest b p = rw p
+
+pub and-rest : {a : Bool} (b : Bool) → a ≡ true → (a and b) ≡ b
+unfolding _and_
+and-rest b p = rw p
+
 pub and-on : (a b : Bool) → (a and b) ≡ true → (a ≡ true) × (b ≡ true)
 unfolding _and_
 and-on true b h = (refl, h)

@@ -1,0 +1,13 @@
+-- `opening::not_written` meets its contract. Assumes nothing.
+use borrow.Author.Needs.{needs}
+use Rattle.format.specs.Tests.{same}
+use Rattle.format.specs.Reading.{notWritten}
+use Rattle.opening.proofs.not_written.Statement.{statement}
+use Rattle.opening.proofs.not_written.Tie as tie
+
+returns : tie.Need-returns
+unfolding notWritten same
+returns c = rw (c .table-entry .ensures)
+
+pub not-written-spec : {M : Type 1} → statement M
+not-written-spec = tie.close (tie.spec (λ c κs. search needs) returns)
