@@ -5,7 +5,7 @@ use mathlib.Core.List.{List, [], _∷_}
 use mathlib.Core.Logic.{_⊎_, inl, inr}
 use mathlib.Core.Path.{_≡_, refl, sym, ap, _∙_}
 use Prim.Native.Nat.{ℕ, zero, suc, _+_, _*_, _≤_, _<_}
-use native.Mathlib.Nat.{le-trans, le-refl, mul-le-mul-right, div-mul-le-self, suc-mul}
+use native.Mathlib.Nat.{le-trans, le-refl}
 use native.Mathlib.Omega.{arith}
 use lib.Dec.{lit≤}
 use lib.ListN.{length, getD}
@@ -23,7 +23,7 @@ use Rattle.format.specs.Reading.{tableEntry, notWritten, pointerAt, has,
 use Rattle.format.specs.Facts.{Identified, HeaderOk, IndexOk, EntryOk, TableOk, ItemOk}
 use Rattle.format.proofs.Tests.{on-or-off, below-on, below-iff}
 use Rattle.format.proofs.Lists.{all-map, all-head}
-use Rattle.format.proofs.Checks.{read-20, read-21, read-bytes, OpenOk, PointerOk, SectorOk, AddressOk, Sound}
+use Rattle.format.proofs.Checks.{read-20, read-21, read-bytes, OpenOk, PointerOk, SectorOk, AddressOk, Sound, item-inside}
 use Rattle.format.proofs.Named.{offsets-all, has-all}
 
 -- places below the header's index offset, or past the header
@@ -157,7 +157,7 @@ module _ (x y : List ℕ) (g : Agree x y) where
       let s : ℕ = sectorSize x b in
       let head : b + blockHeaderLength ≤ length x = k .block .head in
       let fits : b + blockHeaderLength + blockLength x b ≤ length x = k .block .fits in
-      let inside : p .item .0 * s + s ≤ blockLength x b = rw suc-mul at (le-trans (mul-le-mul-right s (k .item)) (div-mul-le-self (blockLength x b) s)) in
+      let inside : p .item .0 * s + s ≤ blockLength x b = item-inside x b (p .item .0) k in
       let e : s ≡ sectorSize y b = field-rest (b + 8) 4 (omega arith) (omega arith) in
       part-rest (b + blockHeaderLength + p .item .0 * s) s (omega arith) (omega arith) ∙ ap (λ n. part y (b + blockHeaderLength + p .item .0 * n) n) e
 

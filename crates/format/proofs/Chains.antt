@@ -32,6 +32,12 @@ stops v e = sym (then-refuses _ v _ (sym e))
 pub goes : {u v w : Verdict} → Passes ≡ u → w ≡ v → w ≡ (u then v)
 goes e h = h ∙ sym (then-rest _ _ (sym e))
 
+-- a chain whose last check passes
+pub ends : (v : Verdict) {w : Verdict} → Passes ≡ w → v ≡ (v then w)
+unfolding _then_
+ends Passes e = e
+ends (Refuses r) e = refl
+
 -- ---- answers
 module _ {A : Type 0} where
   pub refuses : {v : Verdict} {r : Refusal} (x : A) → Refuses r ≡ v → refused r ≡ answer v x

@@ -4,6 +4,7 @@ use mathlib.Core.List.{List, [], _∷_, cons-ne-nil}
 use mathlib.Core.Logic.{_≢_, _⊎_, ⊎-elim, ⊎-map, inl, inr, _↔_, Iff·rfl, Iff·trans}
 use mathlib.Core.Path.{_≡_, refl, sym, ap, _∙_, subst}
 use Prim.Native.Nat.{ℕ, zero, suc, _+_, _*_, _≤_, _<_}
+use native.Mathlib.Nat.{le-trans, mul-le-mul-right, div-mul-le-self, suc-mul}
 use native.Mathlib.Omega.{arith}
 use lib.ListN.{length, take, getD}
 use Rattle.format.specs.declared.Entry.{Entry}
@@ -13,7 +14,7 @@ use Rattle.format.specs.declared.Verdict.the-variants.{Passes, Refuses}
 use Rattle.format.specs.Tests.{same}
 use Rattle.format.specs.Lists.{All, done, more}
 use Rattle.format.specs.Refusals.{refusal, row, refused, accepted}
-use Rattle.format.specs.Layouts.{DBLK, DDT*, indexOffset, applicationLength, entryLength, entryAt, entriesFrom, entries}
+use Rattle.format.specs.Layouts.{DBLK, DDT*, indexOffset, applicationLength, entryLength, entryAt, entriesFrom, entries, blockLength, sectorSize}
 use Rattle.format.specs.Opening.{lacks, headerVerdict, indexVerdict, entryVerdict, entriesVerdict, offsetsOf, oneOf, oneVerdict, tableAt, tableMalformed, sumsDiffer, tableVerdict, openVerdict, Opened, opened}
 use Rattle.format.specs.Reading.{notWritten, pointerAt, has, blockMalformed, blockVerdict, itemVerdict, sectorVerdict, itemBytes, readVerdict, readAt}
 use Rattle.format.specs.Writing.{mostSectors, largestSize, mostAddresses, longestBuffer, bufferVerdict}
@@ -119,6 +120,11 @@ unfolding itemVerdict sumsDiffer
 item-ok img p =
     facts (then-iff (block-ok img (p .block .0)) (then-iff (row-iff _ atLeast-iff) (row-iff _ (or-iff differs-iff differs-iff))))
     (λ (a, (b, (c, d))). record { block = a; item = b; cmpSum = c; sum = d }) (λ k. (k .block, (k .item, (k .cmpSum, k .sum))))
+
+-- an item lies in its block's payload
+pub item-inside : (img : List ℕ) (b i : ℕ) → ItemOk img b i → i * sectorSize img b + sectorSize img b ≤ blockLength img b
+item-inside img b i k =
+    rw suc-mul at (le-trans (mul-le-mul-right (sectorSize img b) (k .item)) (div-mul-le-self (blockLength img b) (sectorSize img b)))
 
 item-not-21 : (img : List ℕ) (p : Pointer) → ¬ Gives 21 (itemVerdict img p)
 unfolding itemVerdict blockVerdict

@@ -8,6 +8,7 @@ use lib.ListN.{getD}
 use Rattle.format.specs.declared.Refusal.{Refusal}
 use Rattle.format.specs.declared.Verdict.{Verdict}
 use Rattle.format.specs.declared.Verdict.the-variants.{Passes, Refuses}
+use Rattle.format.specs.Tests.{choose}
 use Rattle.format.specs.Refusals.{refusal, _then_, refused, accepted, answer}
 use Rattle.format.specs.Layouts.{DDT*, entryLength, entryAt, entriesFrom, entries}
 use Rattle.format.specs.Opening.{entryVerdict, entriesVerdict, isUserData, offsetsOf, oneOf, oneVerdict, tableAt}
@@ -39,15 +40,20 @@ module _ (img : List ℕ) (left p : ℕ) {v : Verdict} (all : entriesVerdict img
 
 -- ---- the offsets of one kind of block
 module _ (letters img : List ℕ) (left p : ℕ) where
-  pub offsets-yes : 0 < left → isUserData letters (entryAt img p) ≡ true
-      → offsetsOf letters (entriesFrom img left p) ≡ entryAt img p .offset .0 ∷ offsetsOf letters (entriesFrom img (left - 1) (p + entryLength))
+  pub offsets-next : 0 < left → offsetsOf letters (entriesFrom img left p)
+      ≡ choose (isUserData letters (entryAt img p))
+      (entryAt img p .offset .0 ∷ offsetsOf letters (entriesFrom img (left - 1) (p + entryLength)))
+      (offsetsOf letters (entriesFrom img (left - 1) (p + entryLength)))
   unfolding entriesFrom offsetsOf
-  offsets-yes h e = ap (λ (k : ℕ). offsetsOf letters (entriesFrom img k p)) (step left h) ∙ choose-true _ _ _ e
+  offsets-next h = ap (λ (k : ℕ). offsetsOf letters (entriesFrom img k p)) (step left h)
 
-  pub offsets-no : 0 < left → isUserData letters (entryAt img p) ≡ false
+  offsets-yes : 0 < left → isUserData letters (entryAt img p) ≡ true
+      → offsetsOf letters (entriesFrom img left p) ≡ entryAt img p .offset .0 ∷ offsetsOf letters (entriesFrom img (left - 1) (p + entryLength))
+  offsets-yes h e = offsets-next h ∙ choose-true _ _ _ e
+
+  offsets-no : 0 < left → isUserData letters (entryAt img p) ≡ false
       → offsetsOf letters (entriesFrom img left p) ≡ offsetsOf letters (entriesFrom img (left - 1) (p + entryLength))
-  unfolding entriesFrom offsetsOf
-  offsets-no h e = ap (λ (k : ℕ). offsetsOf letters (entriesFrom img k p)) (step left h) ∙ choose-false _ _ _ e
+  offsets-no h e = offsets-next h ∙ choose-false _ _ _ e
 
   pub offsets-done : left ≤ 0 → offsetsOf letters (entriesFrom img left p) ≡ []
   unfolding entriesFrom offsetsOf

@@ -1,0 +1,34 @@
+-- A block that is known to be intact: what is left to check of a pointer into it, and where the knowledge comes from.
+use mathlib.Core.Bool.{true}
+use mathlib.Core.List.{List}
+use mathlib.Core.Logic.{⊎-elim, inl, inr}
+use mathlib.Core.Path.{_≡_, sym, subst}
+use Prim.Native.Nat.{ℕ, _/_}
+use Rattle.format.specs.declared.Entry.{Entry}
+use Rattle.format.specs.declared.Pointer.{Pointer}
+use Rattle.format.specs.Tests.{same, differs, atLeast, _and_}
+use Rattle.format.specs.Refusals.{refusal, row}
+use Rattle.format.specs.Layouts.{indexOffset, entries, blockLength, sectorSize}
+use Rattle.format.specs.Opening.{Opened, sumsDiffer}
+use Rattle.format.specs.Reading.{pointerAt, itemVerdict}
+use Rattle.format.proofs.Tests.{never, not-iff, same-on, differs-iff, or-iff, and-on}
+use Rattle.format.proofs.Checks.{block-ok, SectorOk}
+use Rattle.format.proofs.Chains.{on, on-last, goes, ends}
+use Rattle.sectors.specs.Found.{Intact, Known, pointerVerdict}
+
+pub known-intact : (img : List ℕ) (b k : ℕ) → Known img k → (differs k 0 and same b k) ≡ true → Intact img b
+known-intact img b k known e =
+    let both = and-on (differs k 0) (same b k) e in
+    ⊎-elim (λ z. absurd (never (both .0) (differs-iff .1 z))) (λ i. subst (Intact img) (sym (same-on b k (both .1))) i) known
+
+-- of the item's checks only that of its number is left
+pub known-verdict : (img : List ℕ) (p : Pointer) → Intact img (p .block .0)
+    → row (atLeast (p .item .0) (blockLength img (p .block .0) / sectorSize img (p .block .0))) (refusal 26) ≡ pointerVerdict img p
+unfolding pointerVerdict itemVerdict sumsDiffer
+known-verdict img p k =
+    on _ (not-iff .1 (k .indexed))
+    (goes (sym (block-ok img (p .block .0) .1 (k .block))) (ends _ (on-last _ (or-iff differs-iff differs-iff .1 (k .cmpSum, k .sum)))))
+
+-- a sector that was given
+pub sector-known : (img : List ℕ) (t : Opened) (a : ℕ) → SectorOk img (entries img (indexOffset img)) t a → Known img (pointerAt img t a .block .0)
+sector-known img t a k = inr (record { indexed = k .named; block = k .item .block; cmpSum = k .item .cmpSum; sum = k .item .sum })

@@ -1,0 +1,3 @@
+mod Indexed
+pub mod Known
+pub mod Places

@@ -1,0 +1,42 @@
+-- A sector's place by what finding it answers.
+use mathlib.Core.List.{List}
+use mathlib.Core.Path.{_≡_, sym, ap, _∙_}
+use Prim.Native.Nat.{ℕ}
+use Rattle.format.specs.declared.Pointer.{Pointer}
+use Rattle.format.specs.declared.Refusal.{Refusal}
+use Rattle.format.specs.Refusals.{refused, accepted, answer}
+use Rattle.format.specs.Layouts.{indexOffset, entries}
+use Rattle.format.specs.Opening.{Opened, opening}
+use Rattle.format.specs.Reading.{pointerAt, sectorVerdict, placeOf, readVerdict, locate}
+use Rattle.format.specs.Facts.{ItemOk}
+use Rattle.format.proofs.Refusals.{answer-passes, answer-refuses, answer-accepted, answer-refused, then-rest}
+use Rattle.format.proofs.Checks.{SectorOk, sector-ok, open-ok}
+use Rattle.opening.proofs.Accepted.{opens, opened-is}
+
+-- ---- in an image that opens to t
+module _ (img : List ℕ) (t : Opened) (e : opening img ≡ accepted t) (a : ℕ) where
+  verdict : readVerdict img (indexOffset img) a ≡ sectorVerdict img (entries img (indexOffset img)) t a
+  unfolding readVerdict
+  verdict =
+      then-rest _ _ (open-ok img (indexOffset img) .1 (opens img t e))
+      ∙ ap (λ (u : Opened). sectorVerdict img (entries img (indexOffset img)) u a) (opened-is img t e)
+
+  pub locate-refused : (r : Refusal) → refused r ≡ answer (sectorVerdict img (entries img (indexOffset img)) t a) (pointerAt img t a) → refused r ≡ locate img a
+  unfolding locate
+  locate-refused r f = sym (answer-refuses _ _ r (verdict ∙ answer-refused _ _ r (sym f)))
+
+  module _ (p : Pointer) (f : accepted p ≡ answer (sectorVerdict img (entries img (indexOffset img)) t a) (pointerAt img t a)) where
+    pub found-ok : SectorOk img (entries img (indexOffset img)) t a
+    found-ok = sector-ok img _ t a .0 (answer-accepted _ _ p (sym f) .0)
+
+    pub found-is : pointerAt img t a ≡ p
+    found-is = answer-accepted _ _ p (sym f) .1
+
+    pub found-item : ItemOk img (p .block .0) (p .item .0)
+    found-item = rw (← found-is) (found-ok .item)
+
+    pub locate-found : accepted (placeOf img p) ≡ locate img a
+    unfolding locate
+    locate-found =
+        ap (λ (q : Pointer). accepted (placeOf img q)) (sym (ap (λ (u : Opened). pointerAt img u a) (opened-is img t e) ∙ found-is))
+        ∙ sym (answer-passes _ _ (verdict ∙ answer-accepted _ _ p (sym f) .0))

@@ -1,0 +1,57 @@
+-- `sectors::find` meets its contract. Assumes nothing.
+use native.Mathlib.Omega.{arith}
+use borrow.Author.Needs.{needs}
+use Rattle.format.specs.Reading.{sectorVerdict}
+use Rattle.format.proofs.Tests.{atLeast-true, atLeast-iff}
+use Rattle.format.proofs.Checks.{open-ok}
+use Rattle.format.proofs.Chains.{stop, on, refuses, accepts, by}
+use Rattle.opening.proofs.Accepted.{opens}
+use Rattle.sectors.specs.Found.{found, pointerVerdict}
+use Rattle.sectors.proofs.find.Statement.{statement}
+use Rattle.sectors.proofs.find.Tie as tie
+
+returns : tie.Need-returns
+unfolding sectorVerdict found
+returns c = refuses _ (stop _ (atLeast-true _ _ (omega arith)))
+
+returns-2 : tie.Need-returns-2
+unfolding sectorVerdict found
+returns-2 c =
+    refuses _ (on _ (atLeast-iff .1 (omega arith)) (stop _ (by (c .before .not-written .ensures) (c .if2 .taken))))
+
+pointer-verdict-requires : tie.Need-pointer-verdict-requires
+pointer-verdict-requires c κs = (open-ok _ _ .1 (opens _ _ (c .before .before .before .before .before .before .before .pre .0)), c .before .before .before .before .before .before .before .pre .1)
+
+returns-3 : tie.Need-returns-3
+unfolding sectorVerdict found pointerVerdict
+returns-3 c =
+    let p = c .before .before .before .before in
+    refuses _
+    (on _ (atLeast-iff .1 (omega arith))
+    (on _ (by (p .before .before .not-written .ensures) (p .before .if2 .left))
+    (rw (p .pointer-at .ensures) at (by (c .before .v .given .1) (c .before .before .before .pointer-verdict .ensures)))))
+
+returns-4 : tie.Need-returns-4
+unfolding sectorVerdict found pointerVerdict
+returns-4 c =
+    let p = c .before .before .before in
+    accepts
+    (on _ (atLeast-iff .1 (omega arith))
+    (on _ (by (p .before .before .not-written .ensures) (p .before .if2 .left))
+    (rw (p .pointer-at .ensures) at (by (c .enum-told .given .1) (c .before .before .pointer-verdict .ensures)))))
+    (p .pointer-at .ensures)
+
+pub find-spec : {M : Type 1} → statement M
+find-spec =
+    tie.close
+    (tie.spec
+    (λ c κs. search needs)
+    returns
+    (λ c κs. search needs)
+    returns-2
+    (λ c κs. search needs)
+    pointer-verdict-requires
+    (λ c. search needs)
+    returns-3
+    (λ c. search needs)
+    returns-4)

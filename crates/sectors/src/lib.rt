@@ -1,0 +1,226 @@
+// Internal: one sector of an opened image, checks 20 to 27 of document 01 in its order.
+//
+// Cost of finding one: at most one pass over the index, for the block's entry, and one over the block, for its checksum.
+ghost use mathlib.Core.Path.{_≡_};
+ghost use Prim.Native.Nat.{_+_, _*_, _/_, _≤_};
+ghost use lib.ListN.{length};
+ghost use Rattle.format.specs.declared.Verdict.the-variants.{Passes};
+ghost use Rattle.format.specs.Tests.{same, differs, atLeast, _and_};
+ghost use Rattle.format.specs.Refusals.{refusal, row, accepted, answer};
+ghost use Rattle.format.specs.Layouts.{DBLK, indexOffset, indexHeaderLength, entryCount, entryLength, entries, blockLength, sectorSize};
+ghost use Rattle.format.specs.Opening.{isUserData, offsetsOf, openVerdict, opening};
+ghost use Rattle.format.specs.Reading.{has, pointerAt, blockMalformed, blockVerdict, itemVerdict, sectorVerdict, placeOf, locate};
+ghost use Rattle.format.specs.Facts.{BlockOk, ItemOk};
+ghost use Rattle.format.specs.Answers.{located};
+ghost use Rattle.opening.specs.Answers.{contents};
+ghost use Rattle.sectors.specs.Found.{found, Known, pointerVerdict};
+use fields::get;
+use fields::part;
+use fields::room;
+use format::ByteOffset;
+use format::Entry;
+use format::Located;
+use format::Place;
+use format::Pointer;
+use format::Refusal;
+use format::SectorAddress;
+use format::Verdict;
+use opening::Opened;
+
+// The identifier 'DBLK', as the number that its letters make.
+const DATA_BLOCK: u64 = 0x4b4c_4244;
+
+// What finding a sector answers: its block and item.
+pub enum Found {
+    At(Pointer),
+    Refused(Refusal),
+}
+
+// The entry names a data block at b, of user data.
+fn names_block(e: Entry, b: ByteOffset) -> bool
+    ensures { λ r. ⌜ r ≡ (isUserData DBLK e and same (e .offset .0) (b .0)) ⌝ }
+{
+    if opening::is_user_data(e, DATA_BLOCK) {
+        let offset = e.offset;
+        if offset.0 == b.0 {
+            return true;
+        }
+    }
+    false
+}
+
+// The index at o names a data block at b. At most one pass over its entries.
+fn is_indexed(s: &[u8], o: ByteOffset, b: ByteOffset) -> bool
+    requires { ⌜ o .0 + indexHeaderLength + entryLength * entryCount (now s) (o .0) ≤ length (now s) ⌝ }
+    ensures { λ r. ⌜ r ≡ has (b .0) (offsetsOf DBLK (entries (now (s .entry)) (o .0))) ⌝ }
+{
+    let index = o.0;
+    let mut left = get(s, index + 4, 8);
+    let mut p = index + 20;
+    // an iteration for each entry, up to the first that names the block
+    while 0 < left {
+        if names_block(opening::entry(s, ByteOffset(p)), b) {
+            return true;
+        }
+        p += 16;
+        left -= 1;
+    }
+    false
+}
+
+// The block at b: check 25.
+fn block_malformed(s: &[u8], b: ByteOffset) -> bool
+    requires { ⌜ b .0 + 36 ≤ length (now s) ⌝ }
+    ensures { λ r. ⌜ r ≡ blockMalformed (now (s .entry)) (b .0) ⌝ }
+{
+    let block = b.0;
+    if get(s, block + 4, 2) != 1 {
+        return true;
+    }
+    let size = get(s, block + 8, 4);
+    if size == 0 {
+        return true;
+    }
+    let length = get(s, block + 16, 4);
+    if get(s, block + 12, 4) != length {
+        return true;
+    }
+    if length % size != 0 {
+        return true;
+    }
+    false
+}
+
+// The block at b: checks 23 to 25, and 23 of its payload.
+fn block_verdict(s: &[u8], b: ByteOffset) -> Verdict
+    ensures { λ r. ⌜ r ≡ blockVerdict (now (s .entry)) (b .0) ⌝ }
+{
+    let block = b.0;
+    if room(s, block) < 36 {
+        return Verdict::Refuses(Refusal { number: 23 });
+    }
+    if get(s, block + 6, 2) != 0 {
+        return Verdict::Refuses(Refusal { number: 24 });
+    }
+    if block_malformed(s, b) {
+        return Verdict::Refuses(Refusal { number: 25 });
+    }
+    if room(s, block + 36) < get(s, block + 16, 4) {
+        return Verdict::Refuses(Refusal { number: 23 });
+    }
+    Verdict::Passes
+}
+
+// The item of p, in a block that passed: check 26.
+fn number_verdict(s: &[u8], p: Pointer) -> Verdict
+    requires { ⌜ BlockOk (now s) (p .block .0) ⌝ }
+    ensures { λ r. ⌜ r ≡ row (atLeast (p .item .0) (blockLength (now (s .entry)) (p .block .0) / sectorSize (now (s .entry)) (p .block .0))) (refusal 26) ⌝ }
+{
+    let b = p.block;
+    let block = b.0;
+    let item = p.item;
+    let length = get(s, block + 16, 4);
+    let size = get(s, block + 8, 4);
+    if length / size <= item.0 {
+        return Verdict::Refuses(Refusal { number: 26 });
+    }
+    Verdict::Passes
+}
+
+// The item of p: checks 23 to 27. One pass over the block for its checksum.
+fn item_verdict(s: &[u8], p: Pointer) -> Verdict
+    ensures { λ r. ⌜ r ≡ itemVerdict (now (s .entry)) p ⌝ }
+{
+    let b = p.block;
+    let v = block_verdict(s, b);
+    if let Verdict::Refuses(r) = v {
+        return Verdict::Refuses(r);
+    }
+    let w = number_verdict(s, p);
+    if let Verdict::Refuses(r) = w {
+        return Verdict::Refuses(r);
+    }
+    let block = b.0;
+    let length = get(s, block + 16, 4);
+    if opening::sums_differ(
+        part(s, block + 36, length),
+        get(s, block + 20, 8),
+        get(s, block + 28, 8),
+    ) {
+        return Verdict::Refuses(Refusal { number: 27 });
+    }
+    Verdict::Passes
+}
+
+// b is the block that is known. No block is at 0: that stands for none.
+fn is_known(b: ByteOffset, known: ByteOffset) -> bool
+    ensures { λ r. ⌜ r ≡ (differs (known .0) 0 and same (b .0) (known .0)) ⌝ }
+{
+    if known.0 == 0 {
+        return false;
+    }
+    if b.0 != known.0 {
+        return false;
+    }
+    true
+}
+
+// What p points to: checks 22 to 27. Of the block that is known only the item's number is looked at.
+fn pointer_verdict(s: &[u8], p: Pointer, known: ByteOffset) -> Verdict
+    requires { ⌜ (openVerdict (now s) (indexOffset (now s)) ≡ Passes) × Known (now s) (known .0) ⌝ }
+    ensures { λ r. ⌜ r ≡ pointerVerdict (now (s .entry)) p ⌝ }
+{
+    let b = p.block;
+    if is_known(b, known) {
+        return number_verdict(s, p);
+    }
+    if is_indexed(s, ByteOffset(get(s, 48, 8)), b) {
+        return item_verdict(s, p);
+    }
+    Verdict::Refuses(Refusal { number: 22 })
+}
+
+// The sector at address a of an opened image: checks 20 to 27. A caller that goes from address to address hands in the block
+// of the last sector it found, whose checks are then not made again; ByteOffset(0) is none.
+pub fn find(s: &[u8], t: Opened, a: SectorAddress, known: ByteOffset) -> Found
+    requires { ⌜ (opening (now s) ≡ accepted (contents t)) × Known (now s) (known .0) ⌝ }
+    ensures { λ r. ⌜ found r ≡ answer (sectorVerdict (now (s .entry)) (entries (now (s .entry)) (indexOffset (now (s .entry)))) (contents t) (a .0)) (pointerAt (now (s .entry)) (contents t) (a .0)) ⌝ }
+{
+    if opening::count(t) <= a.0 {
+        return Found::Refused(Refusal { number: 20 });
+    }
+    if opening::not_written(s, t, a) {
+        return Found::Refused(Refusal { number: 21 });
+    }
+    let p = opening::pointer_at(s, t, a);
+    let v = pointer_verdict(s, p, known);
+    if let Verdict::Refuses(r) = v {
+        return Found::Refused(r);
+    }
+    Found::At(p)
+}
+
+// Where the item of p lies.
+pub fn place(s: &[u8], p: Pointer) -> Place
+    requires { ⌜ ItemOk (now s) (p .block .0) (p .item .0) ⌝ }
+    ensures { λ r. ⌜ r ≡ placeOf (now (s .entry)) p ⌝ }
+{
+    let b = p.block;
+    let block = b.0;
+    let item = p.item;
+    let size = get(s, block + 8, 4);
+    let start = ByteOffset(block + 36 + item.0 * size);
+    Place { start, size }
+}
+
+// Where the sector at address a of an opened image lies.
+pub fn locate(s: &[u8], t: Opened, a: SectorAddress) -> Located
+    requires { ⌜ opening (now s) ≡ accepted (contents t) ⌝ }
+    ensures { λ r. ⌜ located r ≡ locate (now (s .entry)) (a .0) ⌝ }
+{
+    let f = find(s, t, a, ByteOffset(0));
+    match f {
+        Found::Refused(r) => Located::Refused(r),
+        Found::At(p) => Located::At(place(s, p)),
+    }
+}
