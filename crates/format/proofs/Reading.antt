@@ -1,16 +1,21 @@
 -- Demand 2 for reading: a read answers bytes exactly if the address names an intact item, and those bytes are the item's.
 use mathlib.Core.List.{List, [], _∷_}
 use mathlib.Core.Path.{_≡_, refl, sym, ap, _∙_}
-use Prim.Native.Nat.{ℕ}
-use Rattle.format.specs.Refusals.{accepted}
-use Rattle.format.specs.Layouts.{DBLK, DDT*, indexOffset, entries, decode, tableShift}
+use mathlib.Core.Logic.{_≢_}
+use Prim.Native.Nat.{ℕ, _+_, _*_}
+use native.Mathlib.Omega.{arith}
+use lib.ListN.{length}
+use Rattle.fields.proofs.Overwrite.{length-part}
+use Rattle.format.specs.Refusals.{Answer, refused, accepted}
+use Rattle.format.specs.Layouts.{DBLK, DDT*, indexOffset, entries, blockHeaderLength, sectorSize, decode, tableShift}
 use Rattle.format.specs.Opening.{offsetsOf, tableAt, Opened, openedAt, opened}
 use Rattle.format.specs.Reading.{tableEntry, notWritten, pointerAt, placeOf, itemBytes, readAt, read}
+use Rattle.format.specs.Answers.{bytesRead}
 use Rattle.format.specs.Committing.{itemOf}
-use Rattle.format.specs.Demands.{NamesItem, Demand2Reading}
+use Rattle.format.specs.Demands.{NamesItem, Demand2Reading, Demand2Returned}
 use Rattle.format.proofs.Tests.{same-iff}
 use Rattle.format.proofs.Refusals.{answer-accepted}
-use Rattle.format.proofs.Checks.{tableAt-only, read-ok, OpenOk, SectorOk, read-bytes}
+use Rattle.format.proofs.Checks.{tableAt-only, item-inside, read-ok, OpenOk, SectorOk, read-bytes}
 use Rattle.format.proofs.Named.{named, only-named}
 
 module _ (img : List ℕ) (a : ℕ) (sector : List ℕ) where
@@ -94,3 +99,25 @@ module _ (img : List ℕ) (a : ℕ) (sector : List ℕ) where
 
 pub demand-2-reading : Demand2Reading
 demand-2-reading img a sector = (forth img a sector, back img a sector)
+
+-- ---- the same of what the call hands out
+-- no sector is empty
+some : (img : List ℕ) (a : ℕ) (sector : List ℕ) → NamesItem img a sector → sector ≢ []
+some img a sector n e =
+    let k = n .itemOk in
+    let b : ℕ = n .block in
+    let i : ℕ = n .item in
+    let l = length-part img (b + blockHeaderLength + i * sectorSize img b) (sectorSize img b) (omega (arith, item-inside img b i k, k .block .fits)) in
+    k .block .size (sym l ∙ ap length (n .bytes ∙ e))
+
+given : (img : List ℕ) (a : ℕ) (sector : List ℕ) (r : Answer (List ℕ)) → read img a ≡ r → bytesRead r ≡ sector → sector ≢ [] → read img a ≡ accepted sector
+unfolding bytesRead
+given img a sector (accepted l) q e s = q ∙ ap accepted e
+given img a sector (refused r) q e s = absurd (s (sym e))
+
+pub demand-2-returned : Demand2Returned
+unfolding bytesRead
+demand-2-returned img a sector = (
+  (λ (e, s). demand-2-reading img a sector .0 (given img a sector (read img a) refl e s)),
+  λ n. (ap bytesRead (demand-2-reading img a sector .1 n), some img a sector n),
+)

@@ -1,42 +1,23 @@
+-- `aaru::locate` meets its contract. Assumes nothing.
 use borrow.Author.Needs.{needs}
+use mathlib.Core.Path.{sym, ap, _∙_}
+use Rattle.format.specs.Answers.{located}
+use Rattle.format.proofs.Answers.{locate-unopened}
+use Rattle.opening.specs.Answers.{outcome}
 use Rattle.aaru.proofs.locate.Statement.{statement}
 use Rattle.aaru.proofs.locate.Tie as tie
-use Rattle.aaru.proofs.locate.Reads as reads
-use Rattle.aaru.proofs.locate.Lts as lts
-use Rattle.opening.proofs.open.Reads as open-reads
-use Rattle.sectors.proofs.locate.Reads as locate-reads
 
--- src/lib.rt:27:9
-open-requires : tie.Need-open-requires
-open-requires c κs = search needs
-
--- src/lib.rt:29:26
-enum-known-opened : tie.Need-enum-known-opened
-enum-known-opened c = search needs
-
--- src/lib.rt:30:24
-enum-known-opened-2 : tie.Need-enum-known-opened-2
-enum-known-opened-2 c = search needs
-
--- src/lib.rt:30:30
 locate-requires : tie.Need-locate-requires
-locate-requires c κs = ?
+unfolding outcome
+locate-requires c κs = sym (c .before .before .before .«open» .ensures) ∙ ap outcome (c .before .opened2 .given .1)
 
--- src/lib.rt:24:1
 returns : tie.Need-returns
-returns c = ?
+unfolding located outcome
+returns c = locate-unopened _ _ _ (ap outcome (sym (c .before .opened .given .1)) ∙ c .before .before .before .«open» .ensures)
 
--- src/lib.rt:24:1
 returns-2 : tie.Need-returns-2
-returns-2 c = search needs
+returns-2 c = c .locate .ensures
 
 pub locate-spec : {M : Type 1} → statement M
 locate-spec =
-    tie.close
-    (tie.spec
-    open-requires
-    enum-known-opened
-    enum-known-opened-2
-    locate-requires
-    returns
-    returns-2)
+    tie.close (tie.spec (λ c κs. search needs) (λ c. search needs) (λ c. search needs) locate-requires returns returns-2)

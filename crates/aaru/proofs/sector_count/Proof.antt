@@ -1,36 +1,23 @@
+-- `aaru::sector_count` meets its contract. Assumes nothing.
 use borrow.Author.Needs.{needs}
+use mathlib.Core.Path.{sym, ap, _∙_}
+use Rattle.format.specs.Refusals.{accepted}
+use Rattle.format.specs.Answers.{counted}
+use Rattle.format.proofs.Answers.{count-refused, count-opened}
+use Rattle.opening.specs.Answers.{outcome}
 use Rattle.aaru.proofs.sector_count.Statement.{statement}
 use Rattle.aaru.proofs.sector_count.Tie as tie
-use Rattle.aaru.proofs.sector_count.Reads as reads
-use Rattle.aaru.proofs.sector_count.Lts as lts
-use Rattle.opening.proofs.count.Reads as count-reads
-use Rattle.opening.proofs.open.Reads as open-reads
 
--- src/lib.rt:15:9
-open-requires : tie.Need-open-requires
-open-requires c κs = search needs
-
--- src/lib.rt:17:26
-enum-known-opened : tie.Need-enum-known-opened
-enum-known-opened c = search needs
-
--- src/lib.rt:18:24
-enum-known-opened-2 : tie.Need-enum-known-opened-2
-enum-known-opened-2 c = search needs
-
--- src/lib.rt:18:47
-count-requires : tie.Need-count-requires
-count-requires c κs = search needs
-
--- src/lib.rt:12:1
 returns : tie.Need-returns
-returns c = ?
+unfolding counted outcome
+returns c = count-refused _ _ (ap outcome (sym (c .before .opened .given .1)) ∙ c .before .before .before .«open» .ensures)
 
--- src/lib.rt:12:1
 returns-2 : tie.Need-returns-2
-returns-2 c = ?
+unfolding counted outcome
+returns-2 c =
+    ap accepted (c .count .ensures)
+    ∙ count-opened _ _ (ap outcome (sym (c .before .before .opened2 .given .1)) ∙ c .before .before .before .before .«open» .ensures)
 
 pub sector-count-spec : {M : Type 1} → statement M
 sector-count-spec =
-    tie.close
-    (tie.spec open-requires enum-known-opened enum-known-opened-2 count-requires returns returns-2)
+    tie.close (tie.spec (λ c κs. search needs) (λ c. search needs) (λ c. search needs) (λ c κs. search needs) returns returns-2)

@@ -1,0 +1,70 @@
+-- The answers of the public calls: different answers say different things, and what one call answers fixes what the others do.
+use mathlib.Core.List.{List, []}
+use mathlib.Core.Path.{_≡_, refl, sym, ap, _∙_}
+use Prim.Native.Nat.{ℕ, _+_, _≤_}
+use native.Mathlib.Omega.{arith}
+use lib.ListN.{length}
+use Rattle.fields.specs.Bytes.{part}
+use Rattle.format.specs.declared.Counted.{Counted}
+use Rattle.format.specs.declared.Counted.the-variants as count
+use Rattle.format.specs.declared.Located.{Located}
+use Rattle.format.specs.declared.Located.the-variants as place
+use Rattle.format.specs.declared.Place.{Place}
+use Rattle.format.specs.declared.Refusal.{Refusal}
+use Rattle.format.specs.Refusals.{refused, accepted}
+use Rattle.format.specs.Layouts.{indexOffset}
+use Rattle.format.specs.Opening.{Opened, opening, sectorCount}
+use Rattle.format.specs.Reading.{pointerAt, placeOf, itemBytes, readVerdict, readAt, read, locate}
+use Rattle.format.specs.Answers.{counted, located, bytesRead}
+use Rattle.format.proofs.Refusals.{answer-passes, answer-refuses, answer-accepted, answer-refused, then-refuses}
+use Rattle.format.proofs.Checks.{read-ok, item-inside}
+
+pub counted-distinct : (x y : Counted) → counted x ≡ counted y → x ≡ y
+unfolding counted
+counted-distinct (count.Sectors n) (count.Sectors m) e = cc
+counted-distinct (count.Sectors n) (count.Refused r) e = let z : _≡_ {A = ℕ} 0 1 = cc in absurd (omega arith)
+counted-distinct (count.Refused r) (count.Sectors n) e = let z : _≡_ {A = ℕ} 0 1 = cc in absurd (omega arith)
+counted-distinct (count.Refused r) (count.Refused q) e = cc
+
+pub located-distinct : (x y : Located) → located x ≡ located y → x ≡ y
+unfolding located
+located-distinct (place.At p) (place.At q) e = cc
+located-distinct (place.At p) (place.Refused r) e = let z : _≡_ {A = ℕ} 0 1 = cc in absurd (omega arith)
+located-distinct (place.Refused r) (place.At p) e = let z : _≡_ {A = ℕ} 0 1 = cc in absurd (omega arith)
+located-distinct (place.Refused r) (place.Refused q) e = cc
+
+-- ---- by what opening answers
+module _ (img : List ℕ) where
+  pub count-refused : (r : Refusal) → refused r ≡ opening img → refused r ≡ sectorCount img
+  unfolding opening sectorCount
+  count-refused r e = sym (answer-refuses _ _ r (answer-refused _ _ r (sym e)))
+
+  pub count-opened : (t : Opened) → accepted t ≡ opening img → accepted (t .count) ≡ sectorCount img
+  unfolding opening sectorCount
+  count-opened t e =
+      let q = answer-accepted _ _ t (sym e) in
+      sym (answer-passes _ _ (q .0) ∙ ap (λ (u : Opened). accepted (u .count)) (q .1))
+
+  pub locate-unopened : (r : Refusal) (a : ℕ) → refused r ≡ opening img → refused r ≡ locate img a
+  unfolding opening locate readVerdict
+  locate-unopened r a e = sym (answer-refuses _ _ r (then-refuses _ _ r (answer-refused _ _ r (sym e))))
+
+-- ---- by what locating answers: a read hands out the part that `locate` names, which lies in the image, and none where it refuses
+module _ (img : List ℕ) (a : ℕ) where
+  pub read-refused : (r : Refusal) → refused r ≡ locate img a → bytesRead (read img a) ≡ []
+  unfolding locate read readAt bytesRead
+  read-refused r e = ap bytesRead (answer-refuses _ _ r (answer-refused _ _ r (sym e)))
+
+  module _ (p : Place) (e : accepted p ≡ locate img a) where
+    pub read-located : bytesRead (read img a) ≡ part img (p .start .0) (p .size)
+    unfolding locate read readAt itemBytes bytesRead
+    read-located =
+        let q = answer-accepted _ _ p (sym e) in
+        ap bytesRead (answer-passes _ _ (q .0)) ∙ ap (λ (z : Place). part img (z .start .0) (z .size)) (q .1)
+
+    pub place-inside : p .start .0 + p .size ≤ length img
+    unfolding locate placeOf
+    place-inside =
+        let q = answer-accepted _ _ p (sym e) in
+        let k = read-ok img (indexOffset img) a .0 (q .0) .sector .item in
+        rw (← q .1) (omega (arith, item-inside _ _ _ k, k .block .fits))
