@@ -3,9 +3,12 @@ ghost use mathlib.Core.Path.{_≡_};
 ghost use Rattle.format.specs.Opening.{sectorCount};
 ghost use Rattle.format.specs.Reading.{locate, read};
 ghost use Rattle.format.specs.Answers.{counted, located, bytesRead};
-use format::Counted;
-use format::Located;
-use format::SectorAddress;
+pub use format::ByteOffset;
+pub use format::Counted;
+pub use format::Located;
+pub use format::Place;
+pub use format::Refusal;
+pub use format::SectorAddress;
 use opening::Opening;
 
 // How many sectors the image has, or why it does not open: 1 to 14.
