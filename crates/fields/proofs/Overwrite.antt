@@ -4,18 +4,30 @@ use mathlib.Core.Path.{_≡_, refl, sym, ap, _∙_}
 use mathlib.Core.Logic.{_⊎_, inl, inr, ⊎-elim}
 use mathlib.Core.List.{List, [], _∷_, _++_, append-assoc}
 use Prim.Native.Nat.{ℕ, suc, _+_, _≤_, _<_}
-use native.Mathlib.Nat.{add-assoc}
+use native.Mathlib.Nat.{add-assoc, add-zero}
 use native.Mathlib.Numerals.{add-one}
 use native.Mathlib.Omega.{arith}
-use lib.ListN.{length, take, drop, getD, set, length-take, length-drop}
-use lib.Seq.{length-sets, sets-eq, getD-set-other, getD-take, getD-drop, ext-getD, take-at, drop-at, length-take-le, drop-cons}
+use lib.ListN.{length, take, drop, getD, set, length-take, length-drop, length-set}
+use lib.Seq.{length-sets, set-out, sets-eq, getD-set-other, getD-take, getD-drop, ext-getD, take-at, drop-at, length-take-le, drop-cons}
 use Rattle.fields.specs.Bytes.{part, overwrite}
 
--- ---- length, nothing, one byte, the three pieces
+-- ---- length, past the end, one after the other, nothing, one byte, the three pieces
 
 pub length-overwrite : (s : List ℕ) (at : ℕ) (new : List ℕ) → length (overwrite s at new) ≡ length s
 unfolding overwrite
 length-overwrite s at new = length-sets s at new
+
+-- past the end nothing is written
+pub overwrite-out : (s : List ℕ) (at : ℕ) (new : List ℕ) → length s ≤ at → overwrite s at new ≡ s
+unfolding overwrite
+overwrite-out s at [] h = refl
+overwrite-out s at (x ∷ xs) h = overwrite-out (set s at x) (suc at) xs (simp length-set (omega arith)) ∙ set-out s at x h
+
+-- two runs of bytes, one after the other
+pub overwrite-then : (s : List ℕ) (at : ℕ) (x y : List ℕ) → overwrite (overwrite s at x) (at + length x) y ≡ overwrite s at (x ++ y)
+unfolding overwrite
+overwrite-then s at [] y = rw add-zero
+overwrite-then s at (b ∷ x) y = let e : at + suc (length x) ≡ suc at + length x = omega arith in rw e (overwrite-then (set s at b) (suc at) x y)
 
 pub overwrite-nil : (s : List ℕ) (at : ℕ) → overwrite s at [] ≡ s
 unfolding overwrite

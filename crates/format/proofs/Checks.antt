@@ -1,5 +1,5 @@
 -- Each group of checks passes exactly if its facts hold. Nobody else opens a chain of checks.
-use mathlib.Core.Bool.{true, false, not}
+use mathlib.Core.Bool.{Bool, true, false, not}
 use mathlib.Core.List.{List, [], _∷_, cons-ne-nil}
 use mathlib.Core.Logic.{_≢_, _⊎_, ⊎-elim, ⊎-map, inl, inr, _↔_, Iff·rfl, Iff·trans}
 use mathlib.Core.Path.{_≡_, refl, sym, ap, _∙_, subst}
@@ -126,14 +126,17 @@ pub item-inside : (img : List ℕ) (b i : ℕ) → ItemOk img b i → i * sector
 item-inside img b i k =
     rw suc-mul at (le-trans (mul-le-mul-right (sectorSize img b) (k .item)) (div-mul-le-self (blockLength img b) (sectorSize img b)))
 
-item-not-21 : (img : List ℕ) (p : Pointer) → ¬ Gives 21 (itemVerdict img p)
+-- the numbers that an item's checks give are among 23 to 27
+pub item-not : (n : ℕ) → ((m : ℕ) → 23 ≤ m → m ≤ 27 → m ≢ n) → (img : List ℕ) (p : Pointer) → ¬ Gives n (itemVerdict img p)
 unfolding itemVerdict blockVerdict
-item-not-21 img p =
-    then-not _ _ 21
-    (then-not _ _ 21 (row-not _ (refusal 23) 21 (omega arith))
-    (then-not _ _ 21 (row-not _ (refusal 24) 21 (omega arith))
-    (then-not _ _ 21 (row-not _ (refusal 25) 21 (omega arith)) (row-not _ (refusal 23) 21 (omega arith)))))
-    (then-not _ _ 21 (row-not _ (refusal 26) 21 (omega arith)) (row-not _ (refusal 27) 21 (omega arith)))
+item-not n out img p =
+    then-not _ _ n
+    (then-not _ _ n (number _ 23 (omega arith) (omega arith))
+    (then-not _ _ n (number _ 24 (omega arith) (omega arith)) (then-not _ _ n (number _ 25 (omega arith) (omega arith)) (number _ 23 (omega arith) (omega arith)))))
+    (then-not _ _ n (number _ 26 (omega arith) (omega arith)) (number _ 27 (omega arith) (omega arith)))
+  where
+    number : (b : Bool) (m : ℕ) → 23 ≤ m → m ≤ 27 → ¬ Gives n (row b (refusal m))
+    number b m h k = row-not b (refusal m) n (out m h k)
 
 other-than-21 : (v : Verdict) → (otherThan21 v ≡ Passes) ↔ (Gives 21 v ⊎ (v ≡ Passes))
 unfolding otherThan21 Gives
@@ -173,7 +176,7 @@ module _ (img : List ℕ) (es : List Entry) (t : Opened) (a : ℕ) where
       other : notWritten img t a ≡ false → ¬ Gives 21 (sectorVerdict img es t a)
       other q e =
           then-not (row (not (has (pointerAt img t a .block .0) (offsetsOf DBLK es))) (refusal 22)) (itemVerdict img (pointerAt img t a)) 21
-          (row-not _ (refusal 22) 21 (omega arith)) (item-not-21 img (pointerAt img t a))
+          (row-not _ (refusal 22) 21 (omega arith)) (item-not 21 (λ m h k e. omega arith) img (pointerAt img t a))
           (rw (then-rest _ _ (row-iff (refusal 20) atLeast-iff .1 h), then-rest _ _ (row-iff (refusal 21) Iff·rfl .1 q)) at e)
 
   -- a commit passes an address exactly if it is not written or its sector is good

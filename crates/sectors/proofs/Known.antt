@@ -1,18 +1,17 @@
--- A block that is known to be intact: what is left to check of a pointer into it, and where the knowledge comes from.
+-- A block that is known to be intact: what is left to check of a pointer into it.
 use mathlib.Core.Bool.{true}
 use mathlib.Core.List.{List}
-use mathlib.Core.Logic.{⊎-elim, inl, inr}
+use mathlib.Core.Logic.{⊎-elim}
 use mathlib.Core.Path.{_≡_, sym, subst}
 use Prim.Native.Nat.{ℕ, _/_}
-use Rattle.format.specs.declared.Entry.{Entry}
 use Rattle.format.specs.declared.Pointer.{Pointer}
 use Rattle.format.specs.Tests.{same, differs, atLeast, _and_}
 use Rattle.format.specs.Refusals.{refusal, row}
-use Rattle.format.specs.Layouts.{indexOffset, entries, blockLength, sectorSize}
-use Rattle.format.specs.Opening.{Opened, sumsDiffer}
-use Rattle.format.specs.Reading.{pointerAt, itemVerdict}
+use Rattle.format.specs.Layouts.{blockLength, sectorSize}
+use Rattle.format.specs.Opening.{sumsDiffer}
+use Rattle.format.specs.Reading.{itemVerdict}
 use Rattle.format.proofs.Tests.{never, not-iff, same-on, differs-iff, or-iff, and-on}
-use Rattle.format.proofs.Checks.{block-ok, SectorOk}
+use Rattle.format.proofs.Checks.{block-ok}
 use Rattle.format.proofs.Chains.{on, on-last, goes, ends}
 use Rattle.sectors.specs.Found.{Intact, Known, pointerVerdict}
 
@@ -28,7 +27,3 @@ unfolding pointerVerdict itemVerdict sumsDiffer
 known-verdict img p k =
     on _ (not-iff .1 (k .indexed))
     (goes (sym (block-ok img (p .block .0) .1 (k .block))) (ends _ (on-last _ (or-iff differs-iff differs-iff .1 (k .cmpSum, k .sum)))))
-
--- a sector that was given
-pub sector-known : (img : List ℕ) (t : Opened) (a : ℕ) → SectorOk img (entries img (indexOffset img)) t a → Known img (pointerAt img t a .block .0)
-sector-known img t a k = inr (record { indexed = k .named; block = k .item .block; cmpSum = k .item .cmpSum; sum = k .item .sum })

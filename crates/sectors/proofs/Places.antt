@@ -1,5 +1,6 @@
--- A sector's place by what finding it answers.
+-- A sector's place, and what is known of its block, by what finding it answers.
 use mathlib.Core.List.{List}
+use mathlib.Core.Logic.{inr}
 use mathlib.Core.Path.{_≡_, sym, ap, _∙_}
 use Prim.Native.Nat.{ℕ}
 use Rattle.format.specs.declared.Pointer.{Pointer}
@@ -12,6 +13,7 @@ use Rattle.format.specs.Facts.{ItemOk}
 use Rattle.format.proofs.Refusals.{answer-passes, answer-refuses, answer-accepted, answer-refused, then-rest}
 use Rattle.format.proofs.Checks.{SectorOk, sector-ok, open-ok}
 use Rattle.opening.proofs.Accepted.{opens, opened-is}
+use Rattle.sectors.specs.Found.{Known}
 
 -- ---- in an image that opens to t
 module _ (img : List ℕ) (t : Opened) (e : opening img ≡ accepted t) (a : ℕ) where
@@ -26,14 +28,20 @@ module _ (img : List ℕ) (t : Opened) (e : opening img ≡ accepted t) (a : ℕ
   locate-refused r f = sym (answer-refuses _ _ r (verdict ∙ answer-refused _ _ r (sym f)))
 
   module _ (p : Pointer) (f : accepted p ≡ answer (sectorVerdict img (entries img (indexOffset img)) t a) (pointerAt img t a)) where
-    pub found-ok : SectorOk img (entries img (indexOffset img)) t a
+    found-ok : SectorOk img (entries img (indexOffset img)) t a
     found-ok = sector-ok img _ t a .0 (answer-accepted _ _ p (sym f) .0)
 
-    pub found-is : pointerAt img t a ≡ p
+    found-is : pointerAt img t a ≡ p
     found-is = answer-accepted _ _ p (sym f) .1
 
     pub found-item : ItemOk img (p .block .0) (p .item .0)
     found-item = rw (← found-is) (found-ok .item)
+
+    -- its block is known from then on
+    pub found-known : Known img (p .block .0)
+    found-known =
+        let k = found-item in
+        inr (record { indexed = rw (← found-is) (found-ok .named); block = k .block; cmpSum = k .cmpSum; sum = k .sum })
 
     pub locate-found : accepted (placeOf img p) ≡ locate img a
     unfolding locate

@@ -31,9 +31,15 @@ use opening::Opened;
 const DATA_BLOCK: u64 = 0x4b4c_4244;
 
 // What finding a sector answers: its block and item.
-pub enum Found {
+enum Found {
     At(Pointer),
     Refused(Refusal),
+}
+
+// Where a sector lies, and a block that is known to be intact: then, or from before. ByteOffset(0) is none.
+pub struct Near {
+    pub located: Located,
+    pub known: ByteOffset,
 }
 
 // The entry names a data block at b, of user data.
@@ -152,7 +158,7 @@ fn item_verdict(s: &[u8], p: Pointer) -> Verdict
     Verdict::Passes
 }
 
-// b is the block that is known. No block is at 0: that stands for none.
+// b is the block that is known.
 fn is_known(b: ByteOffset, known: ByteOffset) -> bool
     ensures { λ r. ⌜ r ≡ (differs (known .0) 0 and same (b .0) (known .0)) ⌝ }
 {
@@ -180,9 +186,8 @@ fn pointer_verdict(s: &[u8], p: Pointer, known: ByteOffset) -> Verdict
     Verdict::Refuses(Refusal { number: 22 })
 }
 
-// The sector at address a of an opened image: checks 20 to 27. A caller that goes from address to address hands in the block
-// of the last sector it found, whose checks are then not made again; ByteOffset(0) is none.
-pub fn find(s: &[u8], t: Opened, a: SectorAddress, known: ByteOffset) -> Found
+// The sector at address a of an opened image: checks 20 to 27. Of the block that is known only the item's number is looked at.
+fn find(s: &[u8], t: Opened, a: SectorAddress, known: ByteOffset) -> Found
     requires { ⌜ (opening (now s) ≡ accepted (contents t)) × Known (now s) (known .0) ⌝ }
     ensures { λ r. ⌜ found r ≡ answer (sectorVerdict (now (s .entry)) (entries (now (s .entry)) (indexOffset (now (s .entry)))) (contents t) (a .0)) (pointerAt (now (s .entry)) (contents t) (a .0)) ⌝ }
 {
@@ -201,7 +206,7 @@ pub fn find(s: &[u8], t: Opened, a: SectorAddress, known: ByteOffset) -> Found
 }
 
 // Where the item of p lies.
-pub fn place(s: &[u8], p: Pointer) -> Place
+fn place(s: &[u8], p: Pointer) -> Place
     requires { ⌜ ItemOk (now s) (p .block .0) (p .item .0) ⌝ }
     ensures { λ r. ⌜ r ≡ placeOf (now (s .entry)) p ⌝ }
 {
@@ -213,14 +218,33 @@ pub fn place(s: &[u8], p: Pointer) -> Place
     Place { start, size }
 }
 
-// Where the sector at address a of an opened image lies.
+// Where the sector at address a of an opened image lies. A caller that goes from address to address hands in the block that
+// the last answer left known, so that neighbours in one block cost one pass over the index and the block, not one each.
+pub fn locate_near(s: &[u8], t: Opened, a: SectorAddress, known: ByteOffset) -> Near
+    requires { ⌜ (opening (now s) ≡ accepted (contents t)) × Known (now s) (known .0) ⌝ }
+    ensures { λ r. ⌜ (located (r .located) ≡ locate (now (s .entry)) (a .0)) × Known (now (s .entry)) (r .known .0) ⌝ }
+{
+    let f = find(s, t, a, known);
+    match f {
+        Found::Refused(r) => Near {
+            located: Located::Refused(r),
+            known,
+        },
+        Found::At(p) => {
+            let block = p.block;
+            Near {
+                located: Located::At(place(s, p)),
+                known: block,
+            }
+        }
+    }
+}
+
+// The same of one address.
 pub fn locate(s: &[u8], t: Opened, a: SectorAddress) -> Located
     requires { ⌜ opening (now s) ≡ accepted (contents t) ⌝ }
     ensures { λ r. ⌜ located r ≡ locate (now (s .entry)) (a .0) ⌝ }
 {
-    let f = find(s, t, a, ByteOffset(0));
-    match f {
-        Found::Refused(r) => Located::Refused(r),
-        Found::At(p) => Located::At(place(s, p)),
-    }
+    let near = locate_near(s, t, a, ByteOffset(0));
+    near.located
 }

@@ -1,0 +1,58 @@
+-- The whole text of every input fits a buffer of 139,264 bytes (8,192 lines of 17): an image of at most 65,536 bytes has at most 8,185
+-- sectors, so an address has at most 4 digits, and a place and a size at most 5.
+-- Assumes nothing.
+use mathlib.Core.List.{List, _++_}
+use mathlib.Core.Path.{_≡_, refl, sym}
+use Prim.Native.Nat.{ℕ, zero, suc, _+_, _*_, _≤_, _<_}
+use native.Mathlib.Omega.{arith}
+use lib.ListN.{length, length-append}
+use Rattle.format.specs.declared.Place.{Place}
+use Rattle.format.specs.Refusals.{Answer, refused, accepted}
+use Rattle.format.specs.Opening.{sectorCount}
+use Rattle.format.specs.Reading.{locate}
+use Rattle.format.proofs.Tests.{below-iff, choose-cases}
+use Rattle.format.proofs.Answers.{place-inside}
+use Rattle.listing.specs.Listing.{head, line, linesFrom, lines, imageText, longestInput, listing}
+use Rattle.listing.proofs.Decimal.{length-decimal}
+use Rattle.listing.proofs.Short.{count-refusal, locate-refusal, count-short}
+
+abbrev pub longestText : ℕ
+longestText = 139264
+
+module _ (img : List ℕ) (short : length img ≤ longestInput) where
+  line-fits : (a : ℕ) → a < 10000 → (x : Answer Place) → locate img a ≡ x → length (line a x) ≤ 17
+  unfolding line
+  line-fits a b (accepted p) e =
+      let i = place-inside img a p (sym e) in
+      let u = length-decimal 3 a b in
+      let v = length-decimal 4 (p .start .0) (omega arith) in
+      let w = length-decimal 4 (p .size) (omega arith) in
+      simp length-append (omega arith)
+  line-fits a b (refused r) e =
+      let u = length-decimal 3 a b in
+      let v = length-decimal 1 (r .number) (locate-refusal img a r e) in
+      simp length-append (omega arith)
+
+  lines-fit : (k a : ℕ) → a + k ≤ 10000 → length (linesFrom img k a) ≤ k * 17
+  unfolding linesFrom
+  lines-fit zero a b = omega arith
+  lines-fit (suc k) a b =
+      let u = line-fits a (omega arith) (locate img a) refl in
+      let v = lines-fit k (suc a) (omega arith) in
+      simp length-append (omega arith)
+
+  image-fits : (x : Answer ℕ) → sectorCount img ≡ x → length (head x ++ lines img x) ≤ longestText
+  unfolding head lines
+  image-fits (accepted n) e =
+      let c = count-short img n e in
+      let u = length-decimal 3 n (omega arith) in
+      let v = lines-fit n 0 (omega arith) in
+      simp length-append (omega arith)
+  image-fits (refused r) e =
+      let u = length-decimal 1 (r .number) (count-refusal img r e) in
+      simp length-append (omega arith)
+
+pub listing-fits : (input : List ℕ) → length (listing input) ≤ longestText
+unfolding listing imageText
+listing-fits input =
+    choose-cases (λ (l : List ℕ). length l ≤ longestText) _ _ _ (λ e. omega arith) (λ e. image-fits input (below-iff .0 e) (sectorCount input) refl)

@@ -1,0 +1,5 @@
+pub mod Decimal
+pub mod Writes
+pub mod Pieces
+pub mod Short
+pub mod Fits
