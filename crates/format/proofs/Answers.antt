@@ -1,5 +1,5 @@
 -- The answers of the public calls: different answers say different things, and what one call answers fixes what the others do.
-use mathlib.Core.List.{List, []}
+use mathlib.Core.List.{List}
 use mathlib.Core.Path.{_≡_, refl, sym, ap, _∙_}
 use Prim.Native.Nat.{ℕ, _+_, _≤_}
 use native.Mathlib.Omega.{arith}
@@ -11,11 +11,14 @@ use Rattle.format.specs.declared.Located.{Located}
 use Rattle.format.specs.declared.Located.the-variants as place
 use Rattle.format.specs.declared.Place.{Place}
 use Rattle.format.specs.declared.Refusal.{Refusal}
-use Rattle.format.specs.Refusals.{refused, accepted}
+use Rattle.format.specs.declared.Verdict.{Verdict}
+use Rattle.format.specs.declared.Verdict.the-variants.{Passes, Refuses}
+use Rattle.format.specs.Refusals.{refused, accepted, answer}
 use Rattle.format.specs.Layouts.{indexOffset}
 use Rattle.format.specs.Opening.{Opened, opening, sectorCount}
-use Rattle.format.specs.Reading.{pointerAt, placeOf, itemBytes, readVerdict, readAt, read, locate}
-use Rattle.format.specs.Answers.{counted, located, bytesRead}
+use Rattle.format.specs.Reading.{placeOf, itemBytes, readVerdict, readAt, read, locate}
+use Rattle.format.specs.Answers.{counted, located, bytesRead, partAt}
+use Rattle.format.specs.Demands.{ReadIsLocated}
 use Rattle.format.proofs.Refusals.{answer-passes, answer-refuses, answer-accepted, answer-refused, then-refuses}
 use Rattle.format.proofs.Checks.{read-ok, item-inside}
 
@@ -49,22 +52,20 @@ module _ (img : List ℕ) where
   unfolding opening locate readVerdict
   locate-unopened r a e = sym (answer-refuses _ _ r (then-refuses _ _ r (answer-refused _ _ r (sym e))))
 
--- ---- by what locating answers: a read hands out the part that `locate` names, which lies in the image, and none where it refuses
-module _ (img : List ℕ) (a : ℕ) where
-  pub read-refused : (r : Refusal) → refused r ≡ locate img a → bytesRead (read img a) ≡ []
-  unfolding locate read readAt bytesRead
-  read-refused r e = ap bytesRead (answer-refuses _ _ r (answer-refused _ _ r (sym e)))
+-- ---- reading and locating
+same-part : (img : List ℕ) (p : Place) (v : Verdict) → bytesRead (answer v (part img (p .start .0) (p .size))) ≡ partAt img (answer v p)
+unfolding bytesRead partAt answer
+same-part img p Passes = refl
+same-part img p (Refuses r) = refl
 
-  module _ (p : Place) (e : accepted p ≡ locate img a) where
-    pub read-located : bytesRead (read img a) ≡ part img (p .start .0) (p .size)
-    unfolding locate read readAt itemBytes bytesRead
-    read-located =
-        let q = answer-accepted _ _ p (sym e) in
-        ap bytesRead (answer-passes _ _ (q .0)) ∙ ap (λ (z : Place). part img (z .start .0) (z .size)) (q .1)
+pub read-is-located : ReadIsLocated
+unfolding read readAt locate itemBytes
+read-is-located img a = same-part img _ (readVerdict img (indexOffset img) a)
 
-    pub place-inside : p .start .0 + p .size ≤ length img
-    unfolding locate placeOf
-    place-inside =
-        let q = answer-accepted _ _ p (sym e) in
-        let k = read-ok img (indexOffset img) a .0 (q .0) .sector .item in
-        rw (← q .1) (omega (arith, item-inside _ _ _ k, k .block .fits))
+-- a located sector lies in the image
+pub place-inside : (img : List ℕ) (a : ℕ) (p : Place) → accepted p ≡ locate img a → p .start .0 + p .size ≤ length img
+unfolding locate placeOf
+place-inside img a p e =
+    let q = answer-accepted _ _ p (sym e) in
+    let k = read-ok img (indexOffset img) a .0 (q .0) .sector .item in
+    rw (← q .1) (omega (arith, item-inside _ _ _ k, k .block .fits))

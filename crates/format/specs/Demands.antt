@@ -11,8 +11,8 @@ use Rattle.format.specs.declared.Refusal.{Refusal}
 use Rattle.format.specs.Lists.{All, Any, Only, IsBytes}
 use Rattle.format.specs.Refusals.{Answer, refused, accepted}
 use Rattle.format.specs.Layouts.{DBLK, DDT*, CKSM, tag, indexOffset, entries, blockHeaderLength, sectorSize, tableHeaderLength, tableShift, tableCount, tableEntryLength}
-use Rattle.format.specs.Reading.{read}
-use Rattle.format.specs.Answers.{bytesRead}
+use Rattle.format.specs.Reading.{read, locate}
+use Rattle.format.specs.Answers.{bytesRead, partAt}
 use Rattle.format.specs.Writing.{placed}
 use Rattle.format.specs.Creating.{create}
 use Rattle.format.specs.Committing.{commit}
@@ -54,6 +54,10 @@ Demand2Reading = (img : List ℕ) (a : ℕ) (sector : List ℕ) → (read img a 
 -- the same of what the call hands out: some bytes exactly if the address names an item, and then that item's; else none
 abbrev pub Demand2Returned : Type 0
 Demand2Returned = (img : List ℕ) (a : ℕ) (sector : List ℕ) → ((bytesRead (read img a) ≡ sector) × (sector ≢ [])) ↔ NamesItem img a sector
+
+-- and it is the part that `locate` names, none exactly where `locate` refuses
+abbrev pub ReadIsLocated : Type 0
+ReadIsLocated = (img : List ℕ) (a : ℕ) → bytesRead (read img a) ≡ partAt img (locate img a)
 
 -- ---- Demand 2, committing: an accepted commit makes the named sectors read as handed in and every other sector read as before.
 -- A disc that read as `before`, after such a commit reads as `later`

@@ -5,8 +5,8 @@ use denote.Ref.{now}
 use Rattle.fields.specs.Bytes.{part}
 use Rattle.format.specs.Refusals.{accepted}
 use Rattle.format.specs.Reading.{locate}
-use Rattle.format.specs.Answers.{located}
-use Rattle.format.proofs.Answers.{read-refused, read-located, place-inside}
+use Rattle.format.specs.Answers.{located, partAt}
+use Rattle.format.proofs.Answers.{read-is-located, place-inside}
 use Rattle.aaru.proofs.read.Statement.{statement}
 use Rattle.aaru.proofs.read.Tie as tie
 
@@ -17,14 +17,16 @@ given c = ap located (sym (c .l .given .1)) ∙ c .before .before .locate .ensur
 part-requires-2 : tie.Need-part-requires-2
 part-requires-2 c κs = place-inside _ _ _ (given (c .before .before))
 
+-- what is read is the part that `locate` names
 returns : tie.Need-returns
-unfolding part located
+unfolding part located partAt
 returns c =
-    c .part .ensures
-    ∙ sym (read-refused _ _ _ (ap located (sym (c .before .enum-told .given .1)) ∙ c .before .before .before .locate .ensures))
+    let l = ap located (sym (c .before .enum-told .given .1)) ∙ c .before .before .before .locate .ensures in
+    c .part .ensures ∙ ap (partAt _) l ∙ sym (read-is-located _ _)
 
 returns-2 : tie.Need-returns-2
-returns-2 c = c .part2 .ensures ∙ sym (read-located _ _ _ (given (c .before .before .before)))
+unfolding partAt
+returns-2 c = c .part2 .ensures ∙ ap (partAt _) (given (c .before .before .before)) ∙ sym (read-is-located _ _)
 
 pub read-spec : {M : Type 1} → statement M
 read-spec =
