@@ -1,49 +1,19 @@
 // Runs cases through the compiled code, and prints what they give, a line each. The file stdout has what they should give: the
 // published check value, and numbers and bytes as document 01 lays them out.
 ghost use Prim.Native.Nat.{_≤_, _<_};
-use libc::STDOUT_FILENO;
+use lines::bytes_line;
+use lines::hex_line;
+use lines::same_line;
 
-// All 64 bits one: where a checksum starts.
+mod lines; // the printed lines
+mod disc; // the discs that the cases read
+mod worked_disc; // P1 to P5, P9, P10
+mod opening_cases; // checks 1 to 14
+mod reading_cases; // checks 20 to 27
+mod listing_cases; // the text of the listing program
+
+// All 64 bits one: where a checksum starts, and the largest number of 8 bytes.
 const ONES: u64 = 0xffff_ffff_ffff_ffff;
-
-fn text(s: &[u8]) {
-    io::write_all(STDOUT_FILENO, s);
-}
-
-// A name and a number of 64 bits, in hexadecimal.
-fn hex_line(name: &[u8], n: u64) {
-    text(name);
-    text(b": ");
-    io::print_hex(STDOUT_FILENO, n, 16);
-    text(b"\n");
-}
-
-// A name, and whether two numbers that should be the same are.
-fn same_line(name: &[u8], a: u64, b: u64) {
-    text(name);
-    if a == b {
-        text(b": same\n");
-    } else {
-        text(b": NOT THE SAME\n");
-    }
-}
-
-fn wide(x: u8) -> u64 {
-    x as u64
-}
-
-// A name and eight bytes, in hexadecimal.
-fn bytes_line(name: &[u8], s: &[u8; 8]) {
-    text(name);
-    text(b":");
-    let mut i: usize = 0;
-    while i < 8 {
-        text(b" ");
-        io::print_hex(STDOUT_FILENO, wide(s[i]), 2);
-        i += 1;
-    }
-    text(b"\n");
-}
 
 // How many of the `rest` bytes the next part has.
 fn part(rest: usize, size: usize) -> usize
@@ -130,4 +100,9 @@ fn main() {
     checksums();
     identifiers();
     fields_of_each_width();
+    let mut image = [0u8; 512];
+    worked_disc::all(&mut image);
+    opening_cases::all(&mut image);
+    reading_cases::all(&mut image);
+    listing_cases::all(&mut image);
 }

@@ -1,17 +1,17 @@
--- `cases::bytes_line` is safe and ends. Assumes nothing.
+-- `cases::lines::disc_lines` is safe and ends. Assumes nothing.
 use Prim.Native.Nat.{_≤_, _-_}
 use native.Mathlib.Omega.{arith}
-use Rattle.cases.proofs.bytes_line.Statement.{statement}
-use Rattle.cases.proofs.bytes_line.Tie as tie
+use Rattle.cases.proofs.lines.disc_lines.Statement.{statement}
+use Rattle.cases.proofs.lines.disc_lines.Tie as tie
 
 abbrev Inv-loop : tie.InvT-loop
-Inv-loop name s i₀ t5 t6 i = i ≤ 8
+Inv-loop name image used address₀ t5 t6 t7 address = address ≤ 4
 
 abbrev μ-loop : tie.MeasureT-loop
-μ-loop name s i₀ t5 t6 i = 8 - i
+μ-loop name image used address₀ t5 t6 t7 address = 4 - address
 
-pub bytes-line-spec : {M : Type 1} → statement M
-bytes-line-spec =
+pub disc-lines-spec : {M : Type 1} → statement M
+disc-lines-spec =
     tie.close
     (tie.spec
     Inv-loop
@@ -20,14 +20,14 @@ bytes-line-spec =
     (λ c. omega arith)
     (λ c κs. omega arith)
     (λ c. omega arith)
-    (λ c. omega arith)
     (λ c κs. omega arith)
     (λ c. omega arith)
     (λ c κs. omega arith)
     (λ c κs. omega arith)
-    (λ c. omega arith)
-    (λ c. omega arith)
-    (λ c. omega arith)
+    (λ c κs. omega arith)
     (λ c. omega arith)
     (λ c κs. omega arith)
+    (λ c. omega arith)
+    (λ c. omega arith)
+    (λ c. omega arith)
     (λ c. omega arith))
