@@ -86,14 +86,10 @@ unfolding _or_
 or-true-right true b p = refl
 or-true-right false b p = p
 
--- the last of several tests decides
+-- where the first says no, the rest decides
 pub or-rest : {a : Bool} (b : Bool) → a ≡ false → (a or b) ≡ b
 unfolding _or_
 or-rest b p = rw p
-
-pub and-rest : {a : Bool} (b : Bool) → a ≡ true → (a and b) ≡ b
-unfolding _and_
-and-rest b p = rw p
 
 pub and-on : (a b : Bool) → (a and b) ≡ true → (a ≡ true) × (b ≡ true)
 unfolding _and_

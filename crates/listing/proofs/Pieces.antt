@@ -2,7 +2,7 @@
 -- the whole.
 -- Assumes nothing.
 use mathlib.Core.List.{List, _++_, append-assoc, append-nil}
-use mathlib.Core.Path.{_≡_, sym, ap}
+use mathlib.Core.Path.{_≡_, ap}
 use Prim.Native.Nat.{ℕ, zero, suc, _+_, _≤_, _<_}
 use native.Mathlib.Nat.{add-zero, zero-add}
 use native.Mathlib.Numerals.{add-one}

@@ -1,12 +1,12 @@
 -- What an accepted opening leaves to be used: the places that reading looks at lie inside the image.
 use mathlib.Core.List.{List}
-use mathlib.Core.Path.{_≡_, refl, sym, ap, _∙_}
+use mathlib.Core.Path.{_≡_}
 use Prim.Native.Nat.{ℕ, _+_, _*_, _≤_}
 use native.Mathlib.Omega.{arith}
 use lib.ListN.{length}
 use Rattle.format.specs.Refusals.{accepted}
 use Rattle.format.specs.Layouts.{indexOffset, tableHeaderLength, tableEntryLength}
-use Rattle.format.specs.Opening.{Opened, openVerdict, openedAt, opened, opening}
+use Rattle.format.specs.Opening.{Opened, openedAt, opened, opening}
 use Rattle.format.proofs.Refusals.{answer-accepted}
 use Rattle.format.proofs.Checks.{OpenOk, open-ok}
 
