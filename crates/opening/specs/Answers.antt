@@ -1,12 +1,9 @@
 -- What the answers of this crate say in the terms of the definitions.
-use Prim.Native.Nat.{ℕ}
 use Rattle.format.specs.Refusals.{Answer, refused, accepted}
 use Rattle.format.specs.Opening as format
 use Rattle.opening.specs.declared.Opened.{Opened}
 use Rattle.opening.specs.declared.Opening.{Opening}
 use Rattle.opening.specs.declared.Opening.the-variants as opening
-use Rattle.opening.specs.declared.Named.{Named}
-use Rattle.opening.specs.declared.Named.the-variants as named
 
 -- what the opened image holds
 abbrev pub contents : Opened → format.Opened
@@ -15,7 +12,3 @@ contents t = record { table = t .table .0; count = t .count; shift = t .shift }
 unfoldable pub outcome : Opening → Answer format.Opened
 outcome (opening.Opens t) = accepted (contents t)
 outcome (opening.Refused r) = refused r
-
-unfoldable pub onlyOne : Named → Answer ℕ
-onlyOne (named.One t) = accepted (t .0)
-onlyOne (named.Refused r) = refused r

@@ -8,7 +8,7 @@ use Rattle.format.specs.Layouts.{entryLength, entryAt, entriesFrom}
 use Rattle.format.specs.Opening.{isUserData, offsetsOf}
 use Rattle.format.specs.Reading.{has}
 use Rattle.format.proofs.Tests.{or-rest}
-use Rattle.opening.proofs.Entries.{offsets-next, offsets-done}
+use Rattle.index.proofs.Entries.{offsets-next, offsets-done}
 
 has-choose : (x y : ℕ) (l : List ℕ) (n : Bool) → has x (choose n (y ∷ l) l) ≡ ((n and same y x) or has x l)
 unfolding has choose _and_ _or_

@@ -25,6 +25,8 @@ use format::Pointer;
 use format::Refusal;
 use format::SectorAddress;
 use format::Verdict;
+use index::entry;
+use index::is_user_data;
 use opening::Opened;
 
 // The identifier 'DBLK', as the number that its letters make.
@@ -46,7 +48,7 @@ pub struct Near {
 fn names_block(e: Entry, b: ByteOffset) -> bool
     ensures { λ r. ⌜ r ≡ (isUserData DBLK e and same (e .offset .0) (b .0)) ⌝ }
 {
-    if opening::is_user_data(e, DATA_BLOCK) {
+    if is_user_data(e, DATA_BLOCK) {
         let offset = e.offset;
         if offset.0 == b.0 {
             return true;
@@ -65,7 +67,7 @@ fn is_indexed(s: &[u8], o: ByteOffset, b: ByteOffset) -> bool
     let mut p = index + 20;
     // an iteration for each entry, up to the first that names the block
     while 0 < left {
-        if names_block(opening::entry(s, ByteOffset(p)), b) {
+        if names_block(entry(s, ByteOffset(p)), b) {
             return true;
         }
         p += 16;

@@ -10,7 +10,8 @@ use Rattle.format.specs.Opening.{indexVerdict, entriesVerdict, openVerdict, ope
 use Rattle.format.proofs.Refusals.{answer-accepted, answer-refused}
 use Rattle.format.proofs.Checks.{index-ok}
 use Rattle.format.proofs.Chains.{stops, goes, refuses, answers, by}
-use Rattle.opening.specs.Answers.{outcome, onlyOne}
+use Rattle.index.specs.Tables.{onlyOne}
+use Rattle.opening.specs.Answers.{outcome}
 use Rattle.opening.proofs.open_index.Statement.{statement}
 use Rattle.opening.proofs.open_index.Tie as tie
 

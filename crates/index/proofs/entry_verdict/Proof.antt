@@ -1,11 +1,11 @@
--- `opening::entry_verdict` meets its contract. Assumes nothing.
+-- `index::entry_verdict` meets its contract. Assumes nothing.
 use borrow.Author.Needs.{needs}
 use native.Mathlib.Omega.{arith}
 use Rattle.format.specs.Opening.{entryVerdict}
 use Rattle.format.proofs.Tests.{below-true, below-iff, differs-true, differs-iff, or-iff, or-true-left, or-true-right}
 use Rattle.format.proofs.Chains.{stop, on, stop-last, on-last}
-use Rattle.opening.proofs.entry_verdict.Statement.{statement}
-use Rattle.opening.proofs.entry_verdict.Tie as tie
+use Rattle.index.proofs.entry_verdict.Statement.{statement}
+use Rattle.index.proofs.entry_verdict.Tie as tie
 
 returns : tie.Need-returns
 unfolding entryVerdict

@@ -1,4 +1,4 @@
--- `opening::entries_verdict` meets its contract. The invariant: what is left gives what all gives. Assumes nothing.
+-- `index::entries_verdict` meets its contract. The invariant: what is left gives what all gives. Assumes nothing.
 use mathlib.Core.Path.{_≡_}
 use Prim.Native.Nat.{_+_, _*_, _≤_}
 use borrow.Author.Needs.{needs}
@@ -6,9 +6,9 @@ use native.Mathlib.Omega.{arith}
 use lib.ListN.{length}
 use Rattle.format.specs.Layouts.{indexHeaderLength, entryCount, entryLength}
 use Rattle.format.specs.Opening.{entriesVerdict}
-use Rattle.opening.proofs.Entries.{verdict-stops, verdict-goes, verdict-done}
-use Rattle.opening.proofs.entries_verdict.Statement.{statement}
-use Rattle.opening.proofs.entries_verdict.Tie as tie
+use Rattle.index.proofs.Entries.{verdict-stops, verdict-goes, verdict-done}
+use Rattle.index.proofs.entries_verdict.Statement.{statement}
+use Rattle.index.proofs.entries_verdict.Tie as tie
 
 abbrev Inv-loop : tie.InvT-loop
 Inv-loop s index left₀ p₀ left p =

@@ -1,11 +1,11 @@
--- `opening::header_verdict` meets its contract. Assumes nothing.
+-- `index::header_verdict` meets its contract. Assumes nothing.
 use borrow.Author.Needs.{needs}
 use native.Mathlib.Omega.{arith}
 use Rattle.format.specs.Opening.{headerVerdict, lacks}
 use Rattle.format.proofs.Tests.{below-true, below-iff, differs-true, differs-iff}
 use Rattle.format.proofs.Chains.{stop, on, stop-last, on-last}
-use Rattle.opening.proofs.header_verdict.Statement.{statement}
-use Rattle.opening.proofs.header_verdict.Tie as tie
+use Rattle.index.proofs.header_verdict.Statement.{statement}
+use Rattle.index.proofs.header_verdict.Tie as tie
 
 returns : tie.Need-returns
 unfolding headerVerdict

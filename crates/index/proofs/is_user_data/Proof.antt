@@ -1,10 +1,10 @@
--- `opening::is_user_data` meets its contract. Assumes nothing.
+-- `index::is_user_data` meets its contract. Assumes nothing.
 use mathlib.Core.Logic.{inl, inr}
 use mathlib.Core.Path.{sym}
 use native.Mathlib.Omega.{arith}
 use Rattle.format.proofs.Tests.{same-iff, same-true, and-iff, and-true}
-use Rattle.opening.proofs.is_user_data.Statement.{statement}
-use Rattle.opening.proofs.is_user_data.Tie as tie
+use Rattle.index.proofs.is_user_data.Statement.{statement}
+use Rattle.index.proofs.is_user_data.Tie as tie
 
 returns : tie.Need-returns
 returns c = sym (and-iff same-iff same-iff .1 (inl (λ e. omega arith)))

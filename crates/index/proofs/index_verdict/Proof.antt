@@ -1,4 +1,4 @@
--- `opening::index_verdict` meets its contract. Assumes nothing.
+-- `index::index_verdict` meets its contract. Assumes nothing.
 use borrow.Author.Needs.{needs}
 use native.Mathlib.Omega.{arith}
 use Rattle.fields.specs.Bytes.{fromLe}
@@ -6,8 +6,8 @@ use Rattle.format.specs.Layouts.{tag, entryCount}
 use Rattle.format.specs.Opening.{indexVerdict, lacks}
 use Rattle.format.proofs.Tests.{below-true, below-iff, differs-true, differs-iff, or-iff, or-true-left, or-true-right}
 use Rattle.format.proofs.Chains.{stop, on, stop-last, on-last}
-use Rattle.opening.proofs.index_verdict.Statement.{statement}
-use Rattle.opening.proofs.index_verdict.Tie as tie
+use Rattle.index.proofs.index_verdict.Statement.{statement}
+use Rattle.index.proofs.index_verdict.Tie as tie
 
 returns : tie.Need-returns
 unfolding indexVerdict

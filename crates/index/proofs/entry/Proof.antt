@@ -1,8 +1,8 @@
--- `opening::entry` meets its contract. Assumes nothing.
+-- `index::entry` meets its contract. Assumes nothing.
 use borrow.Author.Needs.{needs}
 use Rattle.format.specs.Layouts.{entryAt}
-use Rattle.opening.proofs.entry.Statement.{statement}
-use Rattle.opening.proofs.entry.Tie as tie
+use Rattle.index.proofs.entry.Statement.{statement}
+use Rattle.index.proofs.entry.Tie as tie
 
 returns : tie.Need-returns
 unfolding entryAt

@@ -1,4 +1,4 @@
--- `opening::one_table` meets its contract. The invariant: the table seen, before those that are left, are all. Assumes nothing.
+-- `index::one_table` meets its contract. The invariant: the table seen, before those that are left, are all. Assumes nothing.
 use mathlib.Core.Path.{_≡_, ap, _∙_}
 use Prim.Native.Nat.{_+_, _*_, _≤_}
 use borrow.Author.Needs.{needs}
@@ -11,10 +11,10 @@ use Rattle.format.specs.declared.Entry.{Entry}
 use Rattle.format.specs.Layouts.{DDT*, tag, entryCount, entryLength, entryAt, entriesFrom, entries}
 use Rattle.format.specs.Opening.{isType, isUserData, offsetsOf}
 use Rattle.format.proofs.Chains.{by}
-use Rattle.opening.specs.Answers.{onlyOne}
-use Rattle.opening.proofs.Entries.{seenBefore, one-second, one-first, one-skip, one-only, one-none}
-use Rattle.opening.proofs.one_table.Statement.{statement}
-use Rattle.opening.proofs.one_table.Tie as tie
+use Rattle.index.specs.Tables.{onlyOne}
+use Rattle.index.proofs.Entries.{seenBefore, one-second, one-first, one-skip, one-only, one-none}
+use Rattle.index.proofs.one_table.Statement.{statement}
+use Rattle.index.proofs.one_table.Tie as tie
 
 abbrev Inv-loop : tie.InvT-loop
 Inv-loop s index left₀ p₀ seen₀ table₀ left p seen table =

@@ -1,11 +1,11 @@
--- `opening::unknown` meets its contract. Assumes nothing.
+-- `index::unknown` meets its contract. Assumes nothing.
 use mathlib.Core.Logic.{inl, inr}
 use mathlib.Core.Path.{sym}
 use Rattle.fields.specs.Bytes.{fromLe}
 use Rattle.format.specs.Layouts.{tag}
 use Rattle.format.proofs.Tests.{differs-iff, differs-true, and-iff, and-true}
-use Rattle.opening.proofs.unknown.Statement.{statement}
-use Rattle.opening.proofs.unknown.Tie as tie
+use Rattle.index.proofs.unknown.Statement.{statement}
+use Rattle.index.proofs.unknown.Tie as tie
 
 returns : tie.Need-returns
 unfolding tag fromLe

@@ -1,0 +1,185 @@
+// Internal: an image's header and its index, checks 1 to 10 of document 01 in its order.
+//
+// Cost: the index is passed over three times, for its checksum, its entries and the table among them.
+ghost use mathlib.Core.Path.{_≡_};
+ghost use Prim.Native.Nat.{_+_, _*_, _≤_};
+ghost use lib.ListN.{length};
+ghost use Rattle.format.specs.Tests.{same, differs, _and_};
+ghost use Rattle.format.specs.Refusals.{answer};
+ghost use Rattle.format.specs.Layouts.{AARUFRMT, DICMFRMT, tag, indexHeaderLength, entryCount, entryLength, entryAt};
+ghost use Rattle.format.specs.Opening.{headerVerdict, indexVerdict, entryVerdict, entriesVerdict, oneVerdict, tableAt};
+ghost use Rattle.index.specs.Tables.{onlyOne};
+use crc64::checksum;
+use fields::get;
+use fields::part;
+use fields::room;
+use format::ByteOffset;
+use format::Entry;
+use format::Refusal;
+use format::Verdict;
+
+// The identifiers, as the numbers that their letters make.
+const AARUFRMT: u64 = 0x544d_5246_5552_4141;
+
+const DICMFRMT: u64 = 0x544d_5246_4d43_4944;
+
+const IDX2: u64 = 0x3258_4449;
+
+const DDT: u64 = 0x2a54_4444;
+
+// The one table that an index names.
+pub enum Named {
+    One(ByteOffset),
+    Refused(Refusal),
+}
+
+// The identifier is neither of the two that a header may have.
+fn unknown(identifier: u64) -> bool
+    ensures { λ r. ⌜ r ≡ (differs identifier (tag AARUFRMT) and differs identifier (tag DICMFRMT)) ⌝ }
+{
+    if identifier == AARUFRMT {
+        return false;
+    }
+    if identifier == DICMFRMT {
+        return false;
+    }
+    true
+}
+
+// The header: checks 1 to 3.
+pub fn header_verdict(s: &[u8]) -> Verdict
+    ensures { λ r. ⌜ r ≡ headerVerdict (now (s .entry)) ⌝ }
+{
+    if s.len() < 72 {
+        return Verdict::Refuses(Refusal { number: 1 });
+    }
+    if unknown(get(s, 0, 8)) {
+        return Verdict::Refuses(Refusal { number: 2 });
+    }
+    if get(s, 40, 1) != 2 {
+        return Verdict::Refuses(Refusal { number: 3 });
+    }
+    Verdict::Passes
+}
+
+// The index at o: checks 4 to 6. One pass over its entries for the checksum.
+pub fn index_verdict(s: &[u8], o: ByteOffset) -> Verdict
+    ensures { λ r. ⌜ r ≡ indexVerdict (now (s .entry)) (o .0) ⌝ }
+{
+    let index = o.0;
+    if index < 72 {
+        return Verdict::Refuses(Refusal { number: 4 });
+    }
+    if room(s, index) < 20 {
+        return Verdict::Refuses(Refusal { number: 4 });
+    }
+    if get(s, index, 4) != IDX2 {
+        return Verdict::Refuses(Refusal { number: 5 });
+    }
+    let entries = get(s, index + 4, 8);
+    if room(s, index + 20) / 16 < entries {
+        return Verdict::Refuses(Refusal { number: 4 });
+    }
+    if checksum(part(s, index + 20, 16 * entries)) != get(s, index + 12, 8) {
+        return Verdict::Refuses(Refusal { number: 6 });
+    }
+    Verdict::Passes
+}
+
+// The index entry at p.
+pub fn entry(s: &[u8], p: ByteOffset) -> Entry
+    requires { ⌜ p .0 + 16 ≤ length (now s) ⌝ }
+    ensures { λ r. ⌜ r ≡ entryAt (now (s .entry)) (p .0) ⌝ }
+{
+    let at = p.0;
+    let blockType = get(s, at, 4);
+    let dataType = get(s, at + 4, 4);
+    let offset = ByteOffset(get(s, at + 8, 8));
+    Entry {
+        blockType,
+        dataType,
+        offset,
+    }
+}
+
+// The index entry at p: checks 7 and 8.
+fn entry_verdict(s: &[u8], p: ByteOffset) -> Verdict
+    requires { ⌜ p .0 + 16 ≤ length (now s) ⌝ }
+    ensures { λ r. ⌜ r ≡ entryVerdict (now (s .entry)) (p .0) ⌝ }
+{
+    let e = entry(s, p);
+    let offset = e.offset;
+    let at = offset.0;
+    if at < 72 {
+        return Verdict::Refuses(Refusal { number: 7 });
+    }
+    if room(s, at) < 4 {
+        return Verdict::Refuses(Refusal { number: 7 });
+    }
+    if get(s, at, 4) != e.blockType {
+        return Verdict::Refuses(Refusal { number: 8 });
+    }
+    Verdict::Passes
+}
+
+// The entries of the index at o, each in turn. One pass over them.
+pub fn entries_verdict(s: &[u8], o: ByteOffset) -> Verdict
+    requires { ⌜ o .0 + indexHeaderLength + entryLength * entryCount (now s) (o .0) ≤ length (now s) ⌝ }
+    ensures { λ r. ⌜ r ≡ entriesVerdict (now (s .entry)) (entryCount (now (s .entry)) (o .0)) (o .0 + indexHeaderLength) ⌝ }
+{
+    let index = o.0;
+    let mut left = get(s, index + 4, 8);
+    let mut p = index + 20;
+    // an iteration for each entry
+    while 0 < left {
+        let v = entry_verdict(s, ByteOffset(p));
+        if let Verdict::Refuses(r) = v {
+            return Verdict::Refuses(r);
+        }
+        p += 16;
+        left -= 1;
+    }
+    Verdict::Passes
+}
+
+// The entry is for this kind of block, of user data.
+pub fn is_user_data(e: Entry, blockType: u64) -> bool
+    ensures { λ r. ⌜ r ≡ (same (e .blockType) blockType and same (e .dataType) 1) ⌝ }
+{
+    if e.blockType != blockType {
+        return false;
+    }
+    if e.dataType != 1 {
+        return false;
+    }
+    true
+}
+
+// The one table that the index at o names: checks 9 and 10. One pass over its entries.
+pub fn one_table(s: &[u8], o: ByteOffset) -> Named
+    requires { ⌜ o .0 + indexHeaderLength + entryLength * entryCount (now s) (o .0) ≤ length (now s) ⌝ }
+    ensures { λ r. ⌜ onlyOne r ≡ answer (oneVerdict (now (s .entry)) (o .0)) (tableAt (now (s .entry)) (o .0)) ⌝ }
+{
+    let index = o.0;
+    let mut left = get(s, index + 4, 8);
+    let mut p = index + 20;
+    let mut seen = false;
+    let mut table = ByteOffset(0);
+    // an iteration for each entry
+    while 0 < left {
+        let e = entry(s, ByteOffset(p));
+        p += 16;
+        left -= 1;
+        if is_user_data(e, DDT) {
+            if seen {
+                return Named::Refused(Refusal { number: 10 });
+            }
+            seen = true;
+            table = e.offset;
+        }
+    }
+    if seen {
+        return Named::One(table);
+    }
+    Named::Refused(Refusal { number: 9 })
+}
