@@ -6,7 +6,7 @@ use Rattle.format.specs.declared.Refusal.{Refusal}
 use Rattle.format.specs.declared.Verdict.{Verdict}
 use Rattle.format.specs.declared.Verdict.the-variants.{Passes, Refuses}
 use Rattle.format.specs.Refusals.{row, _then_, Answer, refused, accepted, answer}
-use Rattle.format.proofs.Refusals.{row-refuses, row-passes, then-refuses, then-rest, answer-passes, answer-refuses}
+use Rattle.format.proofs.Refusals.{row-refuses, row-passes, then-refuses, then-rest, then-assoc, answer-passes, answer-refuses}
 
 -- what a call answered, by what it ensures and by the branch that was taken on it
 pub by : {A : Type 0} {x y z : A} → x ≡ y → x ≡ z → y ≡ z
@@ -32,6 +32,10 @@ stops v e = sym (then-refuses _ v _ (sym e))
 pub goes : {u v w : Verdict} → Passes ≡ u → w ≡ v → w ≡ (u then v)
 goes e h = h ∙ sym (then-rest _ _ (sym e))
 
+-- the same of two chains that one function answered together
+pub stops-both : (u v w : Verdict) {r : Refusal} → Refuses r ≡ (u then v) → Refuses r ≡ (u then (v then w))
+stops-both u v w e = stops w e ∙ then-assoc u v w
+
 -- a chain whose last check passes
 pub ends : (v : Verdict) {w : Verdict} → Passes ≡ w → v ≡ (v then w)
 unfolding _then_
@@ -49,3 +53,6 @@ module _ {A : Type 0} where
   -- the rest of a chain, answered by another function
   pub answers : {u : Verdict} (v : Verdict) (x : A) {w : Answer A} → Passes ≡ u → w ≡ answer v x → w ≡ answer (u then v) x
   answers v x e h = h ∙ ap (λ (z : Verdict). answer z x) (sym (then-rest _ v (sym e)))
+
+  pub answers-both : (u v w : Verdict) (x : A) {z : Answer A} → Passes ≡ (u then v) → z ≡ answer w x → z ≡ answer (u then (v then w)) x
+  answers-both u v w x e h = answers w x e h ∙ ap (λ (y : Verdict). answer y x) (then-assoc u v w)

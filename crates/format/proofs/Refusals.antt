@@ -39,6 +39,12 @@ pub then-rest : (v w : Verdict) → v ≡ Passes → (v then w) ≡ w
 unfolding _then_
 then-rest v w p = rw p
 
+-- chains of chains
+pub then-assoc : (u v w : Verdict) → ((u then v) then w) ≡ (u then (v then w))
+unfolding _then_
+then-assoc Passes v w = refl
+then-assoc (Refuses r) v w = refl
+
 -- ---- the first refusal
 pub row-refuses : (b : Bool) (r : Refusal) → b ≡ true → row b r ≡ Refuses r
 unfolding row

@@ -1,9 +1,24 @@
--- What the search for the one table answers, in the terms of the definitions.
+-- What the search for the one table keeps and answers, in the terms of the definitions.
+use mathlib.Core.List.{List, _∷_}
 use Prim.Native.Nat.{ℕ}
-use Rattle.format.specs.Refusals.{Answer, refused, accepted}
+use lib.ListN.{getD}
+use Rattle.format.specs.Refusals.{Answer, refused, accepted, answer}
+use Rattle.format.specs.Opening.{oneOf}
+use Rattle.index.specs.declared.Tables.{Tables}
+use Rattle.index.specs.declared.Tables.the-variants as tables
 use Rattle.index.specs.declared.Named.{Named}
-use Rattle.index.specs.declared.Named.the-variants.{One, Refused}
+use Rattle.index.specs.declared.Named.the-variants as named
+
+-- checks 9 and 10 of a list of tables
+abbrev pub oneAnswer : List ℕ → Answer ℕ
+oneAnswer l = answer (oneOf l) (getD l 0 0)
+
+-- the tables seen, before those that are left; of more than one it does not matter which
+unfoldable pub before : Tables → List ℕ → List ℕ
+before tables.None l = l
+before (tables.One t) l = t .0 ∷ l
+before tables.More l = 0 ∷ 0 ∷ l
 
 unfoldable pub onlyOne : Named → Answer ℕ
-onlyOne (One t) = accepted (t .0)
-onlyOne (Refused r) = refused r
+onlyOne (named.One t) = accepted (t .0)
+onlyOne (named.Refused r) = refused r

@@ -1,14 +1,15 @@
 // Internal: an image's header and its index, checks 1 to 10 of document 01 in its order.
 //
-// Cost: the index is passed over three times, for its checksum, its entries and the table among them.
+// Cost: the index is passed over twice, for its checksum and for its entries.
+ghost use mathlib.Core.List.{List, _∷_};
 ghost use mathlib.Core.Path.{_≡_};
-ghost use Prim.Native.Nat.{_+_, _*_, _≤_};
+ghost use Prim.Native.Nat.{ℕ, _+_, _*_, _≤_};
 ghost use lib.ListN.{length};
-ghost use Rattle.format.specs.Tests.{same, differs, _and_};
-ghost use Rattle.format.specs.Refusals.{answer};
-ghost use Rattle.format.specs.Layouts.{AARUFRMT, DICMFRMT, tag, indexHeaderLength, entryCount, entryLength, entryAt};
-ghost use Rattle.format.specs.Opening.{headerVerdict, indexVerdict, entryVerdict, entriesVerdict, oneVerdict, tableAt};
-ghost use Rattle.index.specs.Tables.{onlyOne};
+ghost use Rattle.format.specs.Tests.{same, differs, _and_, choose};
+ghost use Rattle.format.specs.Refusals.{_then_, answer};
+ghost use Rattle.format.specs.Layouts.{AARUFRMT, DICMFRMT, DDT*, tag, indexHeaderLength, entryCount, entryLength, entryAt};
+ghost use Rattle.format.specs.Opening.{headerVerdict, indexVerdict, entryVerdict, entriesVerdict, isUserData, oneVerdict, tableAt};
+ghost use Rattle.index.specs.Tables.{before, oneAnswer, onlyOne};
 use crc64::checksum;
 use fields::get;
 use fields::part;
@@ -26,6 +27,13 @@ const DICMFRMT: u64 = 0x544d_5246_4d43_4944;
 const IDX2: u64 = 0x3258_4449;
 
 const DDT: u64 = 0x2a54_4444;
+
+// The tables among the index entries seen so far.
+enum Tables {
+    None,
+    One(ByteOffset),
+    More,
+}
 
 // The one table that an index names.
 pub enum Named {
@@ -102,12 +110,10 @@ pub fn entry(s: &[u8], p: ByteOffset) -> Entry
     }
 }
 
-// The index entry at p: checks 7 and 8.
-fn entry_verdict(s: &[u8], p: ByteOffset) -> Verdict
-    requires { ⌜ p .0 + 16 ≤ length (now s) ⌝ }
-    ensures { λ r. ⌜ r ≡ entryVerdict (now (s .entry)) (p .0) ⌝ }
+// An index entry: checks 7 and 8.
+fn entry_verdict(s: &[u8], e: Entry) -> Verdict
+    ensures { λ r. ⌜ ((p : ℕ) → e ≡ entryAt (now (s .entry)) p → r ≡ entryVerdict (now (s .entry)) p) ⌝ }
 {
-    let e = entry(s, p);
     let offset = e.offset;
     let at = offset.0;
     if at < 72 {
@@ -118,26 +124,6 @@ fn entry_verdict(s: &[u8], p: ByteOffset) -> Verdict
     }
     if get(s, at, 4) != e.blockType {
         return Verdict::Refuses(Refusal { number: 8 });
-    }
-    Verdict::Passes
-}
-
-// The entries of the index at o, each in turn. One pass over them.
-pub fn entries_verdict(s: &[u8], o: ByteOffset) -> Verdict
-    requires { ⌜ o .0 + indexHeaderLength + entryLength * entryCount (now s) (o .0) ≤ length (now s) ⌝ }
-    ensures { λ r. ⌜ r ≡ entriesVerdict (now (s .entry)) (entryCount (now (s .entry)) (o .0)) (o .0 + indexHeaderLength) ⌝ }
-{
-    let index = o.0;
-    let mut left = get(s, index + 4, 8);
-    let mut p = index + 20;
-    // an iteration for each entry
-    while 0 < left {
-        let v = entry_verdict(s, ByteOffset(p));
-        if let Verdict::Refuses(r) = v {
-            return Verdict::Refuses(r);
-        }
-        p += 16;
-        left -= 1;
     }
     Verdict::Passes
 }
@@ -155,31 +141,45 @@ pub fn is_user_data(e: Entry, blockType: u64) -> bool
     true
 }
 
-// The one table that the index at o names: checks 9 and 10. One pass over its entries.
+// The tables seen so far, and one more entry.
+fn with_entry(seen: Tables, e: Entry) -> Tables
+    ensures { λ r. ⌜ ((l : List ℕ) → oneAnswer (before r l) ≡ oneAnswer (before seen (choose (isUserData DDT* e) (e .offset .0 ∷ l) l))) ⌝ }
+{
+    if is_user_data(e, DDT) {
+        let offset = e.offset;
+        return match seen {
+            Tables::None => Tables::One(offset),
+            Tables::One(_) => Tables::More,
+            Tables::More => Tables::More,
+        };
+    }
+    seen
+}
+
+// The one table that the index at o names. Each entry is checked in turn, 7 and 8; then the tables among them, 9 and 10. One pass
+// over the entries.
 pub fn one_table(s: &[u8], o: ByteOffset) -> Named
     requires { ⌜ o .0 + indexHeaderLength + entryLength * entryCount (now s) (o .0) ≤ length (now s) ⌝ }
-    ensures { λ r. ⌜ onlyOne r ≡ answer (oneVerdict (now (s .entry)) (o .0)) (tableAt (now (s .entry)) (o .0)) ⌝ }
+    ensures { λ r. ⌜ onlyOne r ≡ answer (entriesVerdict (now (s .entry)) (entryCount (now (s .entry)) (o .0)) (o .0 + indexHeaderLength) then oneVerdict (now (s .entry)) (o .0)) (tableAt (now (s .entry)) (o .0)) ⌝ }
 {
     let index = o.0;
     let mut left = get(s, index + 4, 8);
     let mut p = index + 20;
-    let mut seen = false;
-    let mut table = ByteOffset(0);
+    let mut seen = Tables::None;
     // an iteration for each entry
     while 0 < left {
         let e = entry(s, ByteOffset(p));
+        let v = entry_verdict(s, e);
+        if let Verdict::Refuses(r) = v {
+            return Named::Refused(r);
+        }
+        seen = with_entry(seen, e);
         p += 16;
         left -= 1;
-        if is_user_data(e, DDT) {
-            if seen {
-                return Named::Refused(Refusal { number: 10 });
-            }
-            seen = true;
-            table = e.offset;
-        }
     }
-    if seen {
-        return Named::One(table);
+    match seen {
+        Tables::None => Named::Refused(Refusal { number: 9 }),
+        Tables::One(t) => Named::One(t),
+        Tables::More => Named::Refused(Refusal { number: 10 }),
     }
-    Named::Refused(Refusal { number: 9 })
 }

@@ -1,6 +1,6 @@
 // Internal: opening an image, checks 1 to 14 of document 01 in its order, and the opened image, which nothing else makes.
 //
-// Cost: three passes over the index and one over the table.
+// Cost: the index is passed over twice, for its checksum and for its entries, and the table once, for its checksum.
 ghost use mathlib.Core.Path.{_≡_};
 ghost use Prim.Native.Nat.{_+_, _≤_, _<_};
 ghost use lib.ListN.{length};
@@ -128,10 +128,6 @@ fn open_index(s: &[u8], o: ByteOffset) -> Opening
 {
     let v = index::index_verdict(s, o);
     if let Verdict::Refuses(r) = v {
-        return Opening::Refused(r);
-    }
-    let w = index::entries_verdict(s, o);
-    if let Verdict::Refuses(r) = w {
         return Opening::Refused(r);
     }
     let named = index::one_table(s, o);

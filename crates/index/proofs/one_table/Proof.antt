@@ -1,68 +1,64 @@
--- `index::one_table` meets its contract. The invariant: the table seen, before those that are left, are all. Assumes nothing.
-use mathlib.Core.Path.{_≡_, ap, _∙_}
+-- `index::one_table` meets its contract. The invariant: the entries that are left give what all give, and so do the tables seen with those that are left. Assumes nothing.
+use mathlib.Core.Path.{_≡_, sym, ap, _∙_}
 use Prim.Native.Nat.{_+_, _*_, _≤_}
 use borrow.Author.Needs.{needs}
 use native.Mathlib.Omega.{arith}
 use lib.ListN.{length}
-use denote.Ref.{now}
-use Rattle.fields.specs.Bytes.{fromLe}
-use Rattle.format.specs.Tests.{same, _and_}
-use Rattle.format.specs.declared.Entry.{Entry}
-use Rattle.format.specs.Layouts.{DDT*, tag, entryCount, entryLength, entryAt, entriesFrom, entries}
-use Rattle.format.specs.Opening.{isType, isUserData, offsetsOf}
-use Rattle.format.proofs.Chains.{by}
-use Rattle.index.specs.Tables.{onlyOne}
-use Rattle.index.proofs.Entries.{seenBefore, one-second, one-first, one-skip, one-only, one-none}
+use Rattle.format.specs.Layouts.{DDT*, indexHeaderLength, entryCount, entryLength, entriesFrom, entries}
+use Rattle.format.specs.Opening.{entriesVerdict, offsetsOf}
+use Rattle.format.proofs.Chains.{stops, refuses, answers, by}
+use Rattle.index.specs.Tables.{oneAnswer, before, onlyOne}
+use Rattle.index.proofs.Entries.{verdict-stops, verdict-goes, verdict-done, one-goes, one-none, one-single, one-many}
 use Rattle.index.proofs.one_table.Statement.{statement}
 use Rattle.index.proofs.one_table.Tie as tie
 
 abbrev Inv-loop : tie.InvT-loop
-Inv-loop s index left₀ p₀ seen₀ table₀ left p seen table =
+Inv-loop s index left₀ p₀ seen₀ left p seen =
     (p + entryLength * left ≤ length s)
-    × (seenBefore seen (table .0) (offsetsOf DDT* (entriesFrom s left p)) ≡ offsetsOf DDT* (entries s index))
+    × (entriesVerdict s left p ≡ entriesVerdict s (entryCount s index) (index + indexHeaderLength))
+    × (oneAnswer (before seen (offsetsOf DDT* (entriesFrom s left p))) ≡ oneAnswer (offsetsOf DDT* (entries s index)))
 
 abbrev μ-loop : tie.MeasureT-loop
-μ-loop s index left₀ p₀ seen₀ table₀ left p seen table = left
-
--- what the test of an entry says
-told : (c : tie.After-is-user-data Inv-loop μ-loop)
-    → c .is-user-data .result ≡ isUserData DDT* (entryAt (now (c .before .before .before .before .before .before .args .s)) (c .before .before .before .loop .p))
-unfolding isUserData isType tag fromLe
-told c =
-    c .is-user-data .ensures
-    ∙ ap (λ (e : Entry). same (e .blockType) 710165572 and same (e .dataType) 1) (c .before .entry .ensures)
+μ-loop s index left₀ p₀ seen₀ left p seen = left
 
 loop-holds : tie.Need-loop-holds Inv-loop μ-loop
-unfolding seenBefore entries entryCount
-loop-holds c = (omega arith, rw (c .get .ensures))
+unfolding before entries entryCount
+loop-holds c = (omega arith, rw (c .get .ensures), rw (c .get .ensures))
 
 returns : tie.Need-returns Inv-loop μ-loop
 unfolding onlyOne
 returns c =
-    one-second _ _ _ _ _ _ (c .before .before .before .before .before .loop .inv .1) (omega arith)
-    (by (told (c .before .before)) (c .before .if1 .taken)) (c .if2 .taken)
+    refuses _
+    (stops _
+    (verdict-stops _ _ _ (c .before .before .before .before .before .before .loop .inv .1) (omega arith)
+    (by (c .before .v .given .1) (c .before .before .before .entry-verdict .ensures _ (c .before .before .before .before .entry .ensures)))))
 
 loop-again : tie.Need-loop-again Inv-loop μ-loop
-loop-again c = (
-  omega arith,
-  rw (c .before .before .before .before .entry .ensures)
-      (one-first _ _ _ _ _ _ (c .before .before .before .before .before .before .loop .inv .1) (omega arith)
-      (by (told (c .before .before .before)) (c .before .before .if1 .taken)) (c .before .if2 .left)),
-)
-
-loop-again-2 : tie.Need-loop-again-2 Inv-loop μ-loop
-loop-again-2 c = (
-  omega arith,
-  one-skip _ _ _ _ _ _ (c .before .before .before .before .loop .inv .1) (omega arith) (by (told (c .before)) (c .if1 .left)),
-)
+loop-again c =
+    let l = c .before .before .before .before .before .before .loop .inv in
+    let e = c .before .before .before .before .entry .ensures in (
+      omega arith,
+      verdict-goes _ _ _ (l .1) (omega arith) (by (c .before .enum-told .given .1) (c .before .before .before .entry-verdict .ensures _ e)),
+      one-goes _ _ _ _ _ (l .2) _ (omega arith) (λ z. rw (← e) (c .with-entry .ensures z)),
+    )
 
 returns-2 : tie.Need-returns-2 Inv-loop μ-loop
 unfolding onlyOne
-returns-2 c = one-only _ _ _ _ _ _ (c .before .before .loop .inv .1) (omega arith) (c .if3 .taken)
+returns-2 c =
+    let l = c .before .before .before .loop .inv in
+    answers _ _ (verdict-done _ _ _ (l .1) (omega arith)) (one-none _ _ _ _ _ (l .2) (omega arith) (c .enum-told2 .given .1))
 
 returns-3 : tie.Need-returns-3 Inv-loop μ-loop
 unfolding onlyOne
-returns-3 c = one-none _ _ _ _ _ _ (c .before .before .loop .inv .1) (omega arith) (c .if3 .left)
+returns-3 c =
+    let l = c .before .before .before .before .loop .inv in
+    answers _ _ (verdict-done _ _ _ (l .1) (omega arith)) (one-single _ _ _ _ _ (l .2) _ (omega arith) (c .before .seen .given .1))
+
+returns-4 : tie.Need-returns-4 Inv-loop μ-loop
+unfolding onlyOne
+returns-4 c =
+    let l = c .before .before .before .loop .inv in
+    answers _ _ (verdict-done _ _ _ (l .1) (omega arith)) (one-many _ _ _ _ _ (l .2) (omega arith) (c .enum-told3 .given .1))
 
 pub one-table-spec : {M : Type 1} → statement M
 one-table-spec =
@@ -75,13 +71,18 @@ one-table-spec =
     (λ c. search needs)
     loop-holds
     (λ c κs. search needs)
+    (λ c κs. search needs)
     (λ c. search needs)
+    returns
     (λ c. search needs)
     (λ c κs. search needs)
-    returns
+    (λ c. search needs)
+    (λ c. search needs)
     (λ c. search needs)
     loop-again
     (λ c. search needs)
-    loop-again-2
+    (λ c. search needs)
+    (λ c. search needs)
     returns-2
-    returns-3)
+    returns-3
+    returns-4)

@@ -1,70 +1,50 @@
 -- `opening::open_index` meets its contract. Assumes nothing.
 use borrow.Author.Needs.{needs}
 use mathlib.Core.Path.{_≡_, sym, ap, _∙_}
-use Prim.Native.Nat.{_+_}
 use denote.Ref.{now}
 use Rattle.format.specs.declared.Verdict.the-variants.{Passes}
 use Rattle.format.specs.Facts.{IndexOk}
-use Rattle.format.specs.Layouts.{entryCount, indexHeaderLength}
-use Rattle.format.specs.Opening.{indexVerdict, entriesVerdict, openVerdict, opened}
+use Rattle.format.specs.Opening.{indexVerdict, openVerdict, opened}
 use Rattle.format.proofs.Refusals.{answer-accepted, answer-refused}
 use Rattle.format.proofs.Checks.{index-ok}
-use Rattle.format.proofs.Chains.{stops, goes, refuses, answers, by}
+use Rattle.format.proofs.Chains.{stops, stops-both, goes, refuses, answers, answers-both, by}
 use Rattle.index.specs.Tables.{onlyOne}
 use Rattle.opening.specs.Answers.{outcome}
 use Rattle.opening.proofs.open_index.Statement.{statement}
 use Rattle.opening.proofs.open_index.Tie as tie
 
--- what is known once each call has passed
+-- what is known once the index has passed
 index-passes : (c : tie.After-enum-told) → Passes ≡ indexVerdict (now (c .before .before .before .before .args .s)) (c .before .before .before .before .args .o .0)
 index-passes c = by (c .enum-told .given .1) (c .before .before .index-verdict .ensures)
 
 ok : (c : tie.After-enum-told) → IndexOk (now (c .before .before .before .before .args .s)) (c .before .before .before .before .args .o .0)
 ok c = index-ok _ _ .0 (sym (index-passes c))
 
-entries-pass : (c : tie.After-enum-told2) → let s = now (c .before .before .before .before .before .before .before .args .s) in
-    let o = c .before .before .before .before .before .before .before .args .o .0 in
-    Passes ≡ entriesVerdict s (entryCount s o) (o + indexHeaderLength)
-entries-pass c = by (c .enum-told2 .given .1) (c .before .before .entries-verdict .ensures)
-
 returns : tie.Need-returns
 unfolding openVerdict outcome
 returns c =
     refuses _ (goes (sym (c .before .before .before .before .before .pre)) (stops _ (by (c .before .v .given .1) (c .before .before .before .index-verdict .ensures))))
 
-entries-verdict-requires : tie.Need-entries-verdict-requires
-entries-verdict-requires c κs = ok c .fits
+one-table-requires : tie.Need-one-table-requires
+one-table-requires c κs = ok c .fits
 
 returns-2 : tie.Need-returns-2
-unfolding openVerdict outcome
+unfolding openVerdict outcome onlyOne
 returns-2 c =
     let d = c .before .before .before .before in
     refuses _
     (goes (sym (d .before .before .before .before .pre))
-    (goes (index-passes d) (stops _ (by (c .before .w .given .1) (c .before .before .before .entries-verdict .ensures)))))
-
-one-table-requires : tie.Need-one-table-requires
-one-table-requires c κs = ok (c .before .before .before) .fits
+    (goes (index-passes d)
+    (stops-both _ _ _ (sym (answer-refused _ _ _ (sym (ap onlyOne (sym (c .before .named .given .1)) ∙ c .before .before .before .one-table .ensures)))))))
 
 returns-3 : tie.Need-returns-3
-unfolding openVerdict outcome onlyOne
-returns-3 c =
-    let e = c .before .before .before .before in
-    let d = e .before .before .before in
-    refuses _
-    (goes (sym (d .before .before .before .before .pre))
-    (goes (index-passes d)
-    (goes (entries-pass e)
-    (stops _ (sym (answer-refused _ _ _ (sym (ap onlyOne (sym (c .before .named .given .1)) ∙ c .before .before .before .one-table .ensures))))))))
-
-returns-4 : tie.Need-returns-4
 unfolding openVerdict opened onlyOne
-returns-4 c =
-    let e = c .before .before .before .before .before in
-    let d = e .before .before .before in
+returns-3 c =
+    let d = c .before .before .before .before .before in
     let q = answer-accepted _ _ _ (sym (ap onlyOne (sym (c .before .before .named2 .given .1)) ∙ c .before .before .before .before .one-table .ensures)) in
     answers _ _ (sym (d .before .before .before .before .pre))
-    (answers _ _ (index-passes d) (answers _ _ (entries-pass e) (answers _ _ (sym (q .0)) (rw (q .1) (c .open-table .ensures)))))
+    (answers _ _ (index-passes d)
+    (answers-both _ _ _ _ (sym (q .0)) (rw (q .1) (c .open-table .ensures))))
 
 pub open-index-spec : {M : Type 1} → statement M
 open-index-spec =
@@ -74,13 +54,9 @@ open-index-spec =
     (λ c. search needs)
     returns
     (λ c. search needs)
-    entries-verdict-requires
-    (λ c. search needs)
-    returns-2
-    (λ c. search needs)
     one-table-requires
     (λ c. search needs)
     (λ c. search needs)
     (λ c κs. search needs)
-    returns-3
-    returns-4)
+    returns-2
+    returns-3)
