@@ -6,10 +6,10 @@ ghost use mathlib.Core.Path.{_≡_};
 ghost use Prim.Native.Nat.{ℕ, _+_, _*_, _≤_};
 ghost use lib.ListN.{length};
 ghost use Rattle.format.specs.Tests.{same, differs, _and_, choose};
-ghost use Rattle.format.specs.Refusals.{_then_, answer};
+ghost use Rattle.format.specs.Refusals.{answer};
 ghost use Rattle.format.specs.Layouts.{AARUFRMT, DICMFRMT, DDT*, tag, indexHeaderLength, entryCount, entryLength, entryAt};
-ghost use Rattle.format.specs.Opening.{headerVerdict, indexVerdict, entryVerdict, entriesVerdict, isUserData, oneVerdict, tableAt};
-ghost use Rattle.index.specs.Tables.{before, oneAnswer, onlyOne};
+ghost use Rattle.format.specs.Opening.{headerVerdict, indexVerdict, entryVerdict, isUserData, tableAt};
+ghost use Rattle.index.specs.Tables.{namedVerdict, oneAnswer, before, onlyOne};
 use crc64::checksum;
 use fields::get;
 use fields::part;
@@ -160,7 +160,7 @@ fn with_entry(seen: Tables, e: Entry) -> Tables
 // over the entries.
 pub fn one_table(s: &[u8], o: ByteOffset) -> Named
     requires { ⌜ o .0 + indexHeaderLength + entryLength * entryCount (now s) (o .0) ≤ length (now s) ⌝ }
-    ensures { λ r. ⌜ onlyOne r ≡ answer (entriesVerdict (now (s .entry)) (entryCount (now (s .entry)) (o .0)) (o .0 + indexHeaderLength) then oneVerdict (now (s .entry)) (o .0)) (tableAt (now (s .entry)) (o .0)) ⌝ }
+    ensures { λ r. ⌜ onlyOne r ≡ answer (namedVerdict (now (s .entry)) (o .0)) (tableAt (now (s .entry)) (o .0)) ⌝ }
 {
     let index = o.0;
     let mut left = get(s, index + 4, 8);

@@ -1,5 +1,5 @@
 -- `index::one_table` meets its contract. The invariant: the entries that are left give what all give, and so do the tables seen with those that are left. Assumes nothing.
-use mathlib.Core.Path.{_≡_, sym, ap, _∙_}
+use mathlib.Core.Path.{_≡_}
 use Prim.Native.Nat.{_+_, _*_, _≤_}
 use borrow.Author.Needs.{needs}
 use native.Mathlib.Omega.{arith}
