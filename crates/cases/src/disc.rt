@@ -1,9 +1,105 @@
-// The discs that the cases read, written record by record as document 01 lays them out, in a buffer of 512 bytes.
-ghost use Prim.Native.Nat.{_+_, _*_, _≤_};
-ghost use lib.ListN.{length};
+// The discs that the cases read, as document 01 lays them out, in a buffer of 512 bytes. Their checksums are numbers here, and
+// don't come from the code that is tested.
+ghost use Prim.Native.Nat.{_+_, _≤_};
 
 // Where the header is.
 pub const HEADER: u64 = 0;
+
+// The kinds of records, and below the widths of their fields: the header, an index of two entries, a table of three entries and
+// a data block of two items.
+const HD: u64 = 0;
+
+const IX: u64 = 1;
+
+const TB: u64 = 2;
+
+const DB: u64 = 3;
+
+const WIDTHS: [[u64; 13]; 4] = [
+    [8, 8, 8, 8, 8, 1, 1, 1, 1, 4, 8, 8, 8],
+    [4, 8, 8, 4, 4, 8, 4, 4, 8, 0, 0, 0, 0],
+    [4, 2, 2, 1, 8, 8, 8, 8, 8, 8, 8, 8, 0],
+    [4, 2, 2, 4, 4, 4, 8, 8, 4, 4, 0, 0, 0],
+];
+
+// The numbers that letters make.
+pub const AARU: u64 = 0x544d_5246_5552_4141; // AARUFRMT
+
+pub const IDX: u64 = 0x3258_4449; // IDX2
+
+pub const DDT: u64 = 0x2a54_4444; // DDT*
+
+const DBLK: u64 = 0x4b4c_4244;
+
+const AAAA: u64 = 0x4141_4141;
+
+const BBBB: u64 = 0x4242_4242;
+
+// Eight of the application's bytes: each is 7.
+const APP: u64 = 0x0707_0707_0707_0707;
+
+// The checksum of "AAAABBBB", and those of the index and of the table of each disc, in the order in which the discs stand below.
+const AB: u64 = 0x5d97_66a1_2101_fcdb;
+
+const I1: u64 = 0x3c43_4c2b_30b9_4064;
+
+const T1: u64 = 0xb696_82ec_4348_736c;
+
+const I2: u64 = 0x2696_f634_cf50_88a0;
+
+const T2: u64 = 0x3040_b57b_67e0_975a;
+
+const I3: u64 = 0x9193_cedc_a8d6_cd6c;
+
+const T3: u64 = 0x9026_6724_be41_e60b;
+
+const I4: u64 = 0xd546_36c3_f17c_7402;
+
+const T4: u64 = 0x0069_4660_2e8f_420d;
+
+const I5: u64 = 0x6c01_2a42_d103_4ba0;
+
+const T5: u64 = 0xbb5d_2f56_92ac_cbd5;
+
+// A disc is rows of a record's kind, its place and its numbers. What of the header no read looks at is what `format`'s worked
+// disc has.
+// P1: "table 72, index 145, used 181." Its index has one entry: the zeros of the second lie past the end.
+const P1: [[u64; 15]; 3] = [
+    [HD, 0, AARU, APP, APP, APP, APP, 2, 0, 1, 2, 3, 145, 4, 5],
+    [TB, 72, DDT, 1, 0, 0, 3, 24, 24, T1, T1, 0, 0, 0, 0],
+    [IX, 145, IDX, 1, I1, DDT, 1, 72, 0, 0, 0, 0, 0, 0, 0],
+];
+
+// P2, what is written over P1: "block 181, table 225, index 298, used 350, shift 1, entries 362, 0, 363."
+const P2: [[u64; 15]; 4] = [
+    [HD, 0, AARU, APP, APP, APP, APP, 2, 0, 1, 2, 3, 298, 4, 6],
+    [DB, 181, DBLK, 1, 0, 4, 8, 8, AB, AB, AAAA, BBBB, 0, 0, 0],
+    [TB, 225, DDT, 1, 0, 1, 3, 24, 24, T2, T2, 362, 0, 363, 0],
+    [IX, 298, IDX, 2, I2, DDT, 1, 225, DBLK, 1, 181, 0, 0, 0, 0],
+];
+
+// P3, what is written over P2: "no block, table 350, index 423, used 475, entries 362, 362, 363."
+const P3: [[u64; 15]; 3] = [
+    [HD, 0, AARU, APP, APP, APP, APP, 2, 0, 1, 2, 3, 423, 4, 7],
+    [TB, 350, DDT, 1, 0, 1, 3, 24, 24, T3, T3, 362, 362, 363, 0],
+    [IX, 423, IDX, 2, I3, DDT, 1, 350, DBLK, 1, 181, 0, 0, 0, 0],
+];
+
+// P2's sectors in 241 bytes: index 72, block 124, and the table last, at 168, where the image's end can cut it short.
+const TABLE_LAST: [[u64; 15]; 4] = [
+    [HD, 0, AARU, APP, APP, APP, APP, 2, 0, 1, 2, 3, 72, 4, 5],
+    [IX, 72, IDX, 2, I4, DDT, 1, 168, DBLK, 1, 124, 0, 0, 0, 0],
+    [DB, 124, DBLK, 1, 0, 4, 8, 8, AB, AB, AAAA, BBBB, 0, 0, 0],
+    [TB, 168, DDT, 1, 0, 1, 3, 24, 24, T4, T4, 248, 0, 249, 0],
+];
+
+// The same in another order: index 72, table 124, and the block last, at 197.
+const BLOCK_LAST: [[u64; 15]; 4] = [
+    [HD, 0, AARU, APP, APP, APP, APP, 2, 0, 1, 2, 3, 72, 4, 5],
+    [IX, 72, IDX, 2, I5, DDT, 1, 124, DBLK, 1, 197, 0, 0, 0, 0],
+    [TB, 124, DDT, 1, 0, 1, 3, 24, 24, T5, T5, 394, 0, 395, 0],
+    [DB, 197, DBLK, 1, 0, 4, 8, 8, AB, AB, AAAA, BBBB, 0, 0, 0],
+];
 
 // Writes a field of the record that starts there: 01's "at", the width and the number.
 pub fn set(image: &mut [u8; 512], start: u64, at: u64, width: u64, number: u64)
@@ -12,154 +108,56 @@ pub fn set(image: &mut [u8; 512], start: u64, at: u64, width: u64, number: u64)
     fields::put(image, start + at, width, number);
 }
 
-// Writes bytes, as an identifier.
-pub fn write(image: &mut [u8; 512], at: u64, bytes: &[u8])
-    requires { ⌜ at + length (now bytes) ≤ 512 ⌝ }
-{
-    fields::copy(image, at, bytes);
+// Writes a record's fields one after another. One that is wider than 8 bytes, or that starts in the buffer's last 7, is left out.
+fn record(image: &mut [u8; 512], widths: &[u64; 13], row: &[u64; 15]) {
+    let mut at = row[1];
+    let mut i: usize = 0;
+    // a turn for each field
+    while i < 13 {
+        let width = widths[i];
+        i += 1;
+        if at <= 504 {
+            if width <= 8 {
+                fields::put(image, at, width, row[i + 1]);
+                at += width;
+            }
+        }
+    }
 }
 
-// The checksum of n bytes.
-fn sum(image: &[u8; 512], at: u64, n: u64) -> u64
-    requires { ⌜ at + n ≤ 512 ⌝ }
-{
-    crc64::checksum(fields::part(image, at, n))
+// Writes records.
+fn records(image: &mut [u8; 512], rows: &[[u64; 15]]) {
+    let mut i: usize = 0;
+    // a turn for each record
+    while i < rows.len() {
+        let row = rows[i];
+        let kind = row[0] as usize;
+        i += 1;
+        if kind < 4 {
+            let widths = WIDTHS[kind];
+            record(image, &widths, &row);
+        }
+    }
 }
 
-// The header. What no read looks at is what `format`'s worked disc has.
-fn header(image: &mut [u8; 512], index: u64) {
-    write(image, HEADER, b"AARUFRMT");
-    write(image, 8, &[7u8; 32]); // application
-    set(image, HEADER, 40, 1, 2); // image major
-    set(image, HEADER, 41, 1, 0); // image minor
-    set(image, HEADER, 42, 1, 1); // application major
-    set(image, HEADER, 43, 1, 2); // application minor
-    set(image, HEADER, 44, 4, 3); // mediaType
-    set(image, HEADER, 48, 8, index); // indexOffset
-    set(image, HEADER, 56, 8, 4); // creationTime
-    set(image, HEADER, 64, 8, 5); // lastWrittenTime
-}
-
-// The header of an image that a commit left.
-fn committed(image: &mut [u8; 512], index: u64, time: u64) {
-    set(image, HEADER, 48, 8, index); // indexOffset
-    set(image, HEADER, 64, 8, time); // lastWrittenTime
-}
-
-// An index entry, for user data.
-fn entry(image: &mut [u8; 512], at: u64, block_type: &[u8; 4], offset: u64)
-    requires { ⌜ at + 16 ≤ 512 ⌝ }
-{
-    write(image, at, block_type);
-    set(image, at, 4, 4, 1); // dataType
-    set(image, at, 8, 8, offset);
-}
-
-// The header of an index of so many entries, with the checksum of those that follow it.
-pub fn seal_index(image: &mut [u8; 512], at: u64, entries: u64)
-    requires { ⌜ at + 20 + 16 * entries ≤ 512 ⌝ }
-{
-    write(image, at, b"IDX2");
-    set(image, at, 4, 8, entries);
-    let crc = sum(image, at + 20, 16 * entries);
-    set(image, at, 12, 8, crc);
-}
-
-// An index that names a table and a data block.
-fn index(image: &mut [u8; 512], at: u64, table: u64, block: u64)
-    requires { ⌜ at + 52 ≤ 512 ⌝ }
-{
-    entry(image, at + 20, b"DDT*", table);
-    entry(image, at + 36, b"DBLK", block);
-    seal_index(image, at, 2);
-}
-
-// The checksums of a table of three entries.
-pub fn seal_table(image: &mut [u8; 512], at: u64)
-    requires { ⌜ at + 73 ≤ 512 ⌝ }
-{
-    let crc = sum(image, at + 49, 24);
-    set(image, at, 33, 8, crc); // cmpCrc64
-    set(image, at, 41, 8, crc); // crc64
-}
-
-// The header of a table of three entries, but for its checksums.
-fn table_header(image: &mut [u8; 512], at: u64, shift: u64)
-    requires { ⌜ at + 73 ≤ 512 ⌝ }
-{
-    write(image, at, b"DDT*");
-    set(image, at, 4, 2, 1); // type
-    set(image, at, 6, 2, 0); // compression
-    set(image, at, 8, 1, shift);
-    set(image, at, 9, 8, 3); // entries
-    set(image, at, 17, 8, 24); // cmpLength
-    set(image, at, 25, 8, 24); // length
-}
-
-// A table of three entries.
-fn table(image: &mut [u8; 512], at: u64, shift: u64, entry0: u64, entry1: u64, entry2: u64)
-    requires { ⌜ at + 73 ≤ 512 ⌝ }
-{
-    table_header(image, at, shift);
-    set(image, at, 49, 8, entry0);
-    set(image, at, 57, 8, entry1);
-    set(image, at, 65, 8, entry2);
-    seal_table(image, at);
-}
-
-// The data block of "AAAABBBB" in sectors of 4 bytes.
-fn block(image: &mut [u8; 512], at: u64)
-    requires { ⌜ at + 44 ≤ 512 ⌝ }
-{
-    write(image, at, b"DBLK");
-    set(image, at, 4, 2, 1); // type
-    set(image, at, 6, 2, 0); // compression
-    set(image, at, 8, 4, 4); // sectorSize
-    set(image, at, 12, 4, 8); // cmpLength
-    set(image, at, 16, 4, 8); // length
-    write(image, at + 36, b"AAAABBBB");
-    let crc = sum(image, at + 36, 8);
-    set(image, at, 20, 8, crc); // cmpCrc64
-    set(image, at, 28, 8, crc); // crc64
-}
-
-// P1: "table 72, index 145, used 181."
 pub fn p1(image: &mut [u8; 512]) {
-    header(image, 145);
-    table(image, 72, 0, 0, 0, 0);
-    entry(image, 165, b"DDT*", 72);
-    seal_index(image, 145, 1);
+    records(image, &P1);
 }
 
-// P2: "block 181, table 225, index 298, used 350, shift 1, entries 362, 0, 363."
 pub fn p2(image: &mut [u8; 512]) {
     p1(image);
-    block(image, 181);
-    table(image, 225, 1, 362, 0, 363);
-    index(image, 298, 225, 181);
-    committed(image, 298, 6);
+    records(image, &P2);
 }
 
-// P3: "no block, table 350, index 423, used 475, entries 362, 362, 363."
 pub fn p3(image: &mut [u8; 512]) {
     p2(image);
-    table(image, 350, 1, 362, 362, 363);
-    index(image, 423, 350, 181);
-    committed(image, 423, 7);
+    records(image, &P3);
 }
 
-// P2's sectors in 241 bytes: index 72, block 124, and the table last, at 168, where the image's end can cut it short.
 pub fn table_last(image: &mut [u8; 512]) {
-    header(image, 72);
-    index(image, 72, 168, 124);
-    block(image, 124);
-    table(image, 168, 1, 248, 0, 249);
+    records(image, &TABLE_LAST);
 }
 
-// The same in another order: index 72, table 124, and the block last, at 197.
 pub fn block_last(image: &mut [u8; 512]) {
-    header(image, 72);
-    index(image, 72, 124, 197);
-    table(image, 124, 1, 394, 0, 395);
-    block(image, 197);
+    records(image, &BLOCK_LAST);
 }

@@ -55,22 +55,28 @@ fn refused(r: Refusal) {
     number(b"refused ", r.number as u64);
 }
 
-// A name, and the sector count of the image's first `used` bytes, or the refusal.
-pub fn count_line(name: &[u8], image: &[u8; 512], used: u64)
+// The sector count of the image's first `used` bytes, or the refusal.
+pub fn count(image: &[u8; 512], used: u64)
     requires { ⌜ used ≤ 512 ⌝ }
 {
-    text(name);
-    text(b": ");
     let answer = aaru::sector_count(fields::part(image, 0, used));
     match answer {
         Counted::Sectors(n) => number(b"sectors ", n),
         Counted::Refused(r) => refused(r),
     }
+}
+
+fn count_line(name: &[u8], image: &[u8; 512], used: u64)
+    requires { ⌜ used ≤ 512 ⌝ }
+{
+    text(name);
+    text(b": ");
+    count(image, used);
     text(b"\n");
 }
 
 // The place and the size of a sector of the image's first `used` bytes, or the refusal.
-fn place(image: &[u8; 512], used: u64, address: u64)
+pub fn place(image: &[u8; 512], used: u64, address: u64)
     requires { ⌜ used ≤ 512 ⌝ }
 {
     let answer = aaru::locate(fields::part(image, 0, used), SectorAddress(address));
@@ -82,16 +88,6 @@ fn place(image: &[u8; 512], used: u64, address: u64)
         }
         Located::Refused(r) => refused(r),
     }
-}
-
-// A name, and the place and the size of a sector, or the refusal.
-pub fn place_line(name: &[u8], image: &[u8; 512], used: u64, address: u64)
-    requires { ⌜ used ≤ 512 ⌝ }
-{
-    text(name);
-    text(b": ");
-    place(image, used, address);
-    text(b"\n");
 }
 
 // The bytes of a sector as text in quotes: none where the read is refused.

@@ -7,6 +7,7 @@ use lines::same_line;
 
 mod lines; // the printed lines
 mod disc; // the discs that the cases read
+mod script; // cases as rows of numbers
 mod worked_disc; // P1 to P5, P9, P10
 mod opening_cases; // checks 1 to 14
 mod reading_cases; // checks 20 to 27

@@ -1,13 +1,15 @@
 // Opening: for every two neighbours in document 01's order of checks an image to which both apply, and the number that it gives;
-// beside them what one check finds alone. Each case bends the disc `table_last`.
+// beside them what one check finds alone. Each script bends the disc `table_last`.
 use super::ONES;
-use super::disc::HEADER;
-use super::disc::seal_index;
-use super::disc::set;
+use super::disc::AARU;
+use super::disc::DDT;
+use super::disc::IDX;
 use super::disc::table_last;
-use super::disc::write;
-use super::lines::count_line;
-use super::lines::place_line;
+use super::script::COUNT;
+use super::script::CRC;
+use super::script::FRESH;
+use super::script::PLACE;
+use super::script::run;
 
 // Where its records are, and how many bytes it has.
 const INDEX: u64 = 72;
@@ -22,132 +24,224 @@ const TABLE: u64 = 168;
 
 const WHOLE: u64 = 241;
 
-fn accepted(image: &mut [u8; 512]) {
-    table_last(image);
-    count_line(b"index, block, table, in that order", image, WHOLE);
-    set(image, HEADER, 41, 1, 7); // image minor
-    count_line(b"minor version 7", image, WHOLE);
-    write(image, HEADER, b"DICMFRMT"); // identifier
-    count_line(b"identifier DICMFRMT", image, WHOLE);
-    set(image, TABLE, 8, 1, 32); // shift
-    count_line(b"shift 32", image, WHOLE);
+// Other letters, as numbers.
+const DICM: u64 = 0x544d_5246_4d43_4944; // DICMFRMT
+
+const AARX: u64 = 0x584d_5246_5552_4141; // AARUFRMX
+
+const INDX: u64 = 0x5844_4e49;
+
+const DDT2: u64 = 0x3254_4444;
+
+const DBLX: u64 = 0x584c_4244;
+
+const ACCEPTED_ROWS: [[u64; 3]; 7] = [
+    [WHOLE, COUNT, 0],
+    [41, 1, 7], // image minor
+    [WHOLE, COUNT, 0],
+    [0, 8, DICM], // identifier
+    [WHOLE, COUNT, 0],
+    [TABLE + 8, 1, 32], // shift
+    [WHOLE, COUNT, 0],
+];
+
+fn accepted(disc: &[u8; 512]) {
+    run(
+        disc,
+        b"index, block, table, in that order\n\
+          minor version 7\n\
+          identifier DICMFRMT\n\
+          shift 32\n",
+        &ACCEPTED_ROWS,
+    );
 }
 
-fn header_cases(image: &mut [u8; 512]) {
-    table_last(image);
-    count_line(b"1, no bytes", image, 0);
-    write(image, HEADER, b"AARUFRMX"); // identifier
-    count_line(b"1 before 2, 71 bytes of AARUFRMX", image, 71);
-    set(image, HEADER, 40, 1, 3); // image major
-    count_line(b"2 before 3, AARUFRMX, major version 3", image, WHOLE);
-    write(image, HEADER, b"AARUFRMT"); // identifier
-    set(image, HEADER, 48, 8, 71); // indexOffset
-    count_line(b"3 before 4, indexOffset 71", image, WHOLE);
-    set(image, HEADER, 40, 1, 2); // image major
-    count_line(b"4 before 5, indexOffset 71", image, WHOLE);
-    set(image, HEADER, 48, 8, 222); // indexOffset
-    count_line(b"4 before 5, index header past the end", image, WHOLE);
-    set(image, HEADER, 48, 8, ONES); // indexOffset
-    count_line(b"4, indexOffset 2^64 - 1, wraps to 19", image, WHOLE);
-    set(image, HEADER, 48, 8, 0x1_0000_0048); // indexOffset
-    count_line(b"4, indexOffset 2^32 + 72", image, WHOLE);
+const HEADER_ROWS: [[u64; 3]; 16] = [
+    [0, COUNT, 0],
+    [0, 8, AARX], // identifier
+    [71, COUNT, 0],
+    [40, 1, 3], // image major
+    [WHOLE, COUNT, 0],
+    [0, 8, AARU], // identifier
+    [48, 8, 71], // indexOffset
+    [WHOLE, COUNT, 0],
+    [40, 1, 2], // image major
+    [WHOLE, COUNT, 0],
+    [48, 8, 222], // indexOffset
+    [WHOLE, COUNT, 0],
+    [48, 8, ONES], // indexOffset
+    [WHOLE, COUNT, 0],
+    [48, 8, 0x1_0000_0048], // indexOffset
+    [WHOLE, COUNT, 0],
+];
+
+fn header_cases(disc: &[u8; 512]) {
+    run(
+        disc,
+        b"1, no bytes\n\
+          1 before 2, 71 bytes of AARUFRMX\n\
+          2 before 3, AARUFRMX, major version 3\n\
+          3 before 4, indexOffset 71\n\
+          4 before 5, indexOffset 71\n\
+          4 before 5, index header past the end\n\
+          4, indexOffset 2^64 - 1, wraps to 19\n\
+          4, indexOffset 2^32 + 72\n",
+        &HEADER_ROWS,
+    );
 }
 
-fn index_cases(image: &mut [u8; 512]) {
-    table_last(image);
-    write(image, INDEX, b"INDX");
-    set(image, INDEX, 4, 8, 10); // entries
-    count_line(b"5 before 4, INDX, entries past the end", image, WHOLE);
-    write(image, INDEX, b"IDX2");
-    count_line(b"4 before 6, entries past the end", image, WHOLE);
-    set(image, INDEX, 4, 8, 0x1000_0000_0000_0002); // entries
-    count_line(b"4, 2^60 + 2 entries, wrap to 2", image, WHOLE);
-    table_last(image);
-    set(image, BLOCK_ENTRY, 8, 8, 71); // offset
-    count_line(b"6 before 7, block's offset 71", image, WHOLE);
+const INDEX_ROWS: [[u64; 3]; 10] = [
+    [INDEX, 4, INDX], // identifier
+    [INDEX + 4, 8, 10], // entries
+    [WHOLE, COUNT, 0],
+    [INDEX, 4, IDX], // identifier
+    [WHOLE, COUNT, 0],
+    [INDEX + 4, 8, 0x1000_0000_0000_0002], // entries
+    [WHOLE, COUNT, 0],
+    FRESH,
+    [BLOCK_ENTRY + 8, 8, 71], // offset
+    [WHOLE, COUNT, 0],
+];
+
+fn index_cases(disc: &[u8; 512]) {
+    run(
+        disc,
+        b"5 before 4, INDX, entries past the end\n\
+          4 before 6, entries past the end\n\
+          4, 2^60 + 2 entries, wrap to 2\n\
+          6 before 7, block's offset 71\n",
+        &INDEX_ROWS,
+    );
 }
 
-fn entry_cases(image: &mut [u8; 512]) {
-    table_last(image);
-    set(image, BLOCK_ENTRY, 8, 8, 71); // offset
-    seal_index(image, INDEX, 2);
-    count_line(b"7 before 8, block's offset 71", image, WHOLE);
-    write(image, TABLE, b"DDT2");
-    count_line(b"8 before 7 of the next entry", image, WHOLE);
-    table_last(image);
-    set(image, BLOCK_ENTRY, 8, 8, 238); // offset
-    seal_index(image, INDEX, 2);
-    count_line(b"7 before 8, offset + 4 past the end", image, WHOLE);
-    table_last(image);
-    set(image, TABLE_ENTRY, 8, 8, ONES); // offset
-    seal_index(image, INDEX, 2);
-    count_line(b"7, table's offset 2^64 - 1, wraps to 3", image, WHOLE);
-    set(image, TABLE_ENTRY, 8, 8, 0x1_0000_00a8); // offset
-    seal_index(image, INDEX, 2);
-    count_line(b"7, table's offset 2^32 + 168", image, WHOLE);
+const ENTRY_ROWS: [[u64; 3]; 16] = [
+    [BLOCK_ENTRY + 8, 8, 71], // offset
+    [INDEX + 12, CRC, 32],
+    [WHOLE, COUNT, 0],
+    [TABLE, 4, DDT2], // identifier
+    [WHOLE, COUNT, 0],
+    FRESH,
+    [BLOCK_ENTRY + 8, 8, 238], // offset
+    [INDEX + 12, CRC, 32],
+    [WHOLE, COUNT, 0],
+    FRESH,
+    [TABLE_ENTRY + 8, 8, ONES], // offset
+    [INDEX + 12, CRC, 32],
+    [WHOLE, COUNT, 0],
+    [TABLE_ENTRY + 8, 8, 0x1_0000_00a8], // offset
+    [INDEX + 12, CRC, 32],
+    [WHOLE, COUNT, 0],
+];
+
+fn entry_cases(disc: &[u8; 512]) {
+    run(
+        disc,
+        b"7 before 8, block's offset 71\n\
+          8 before 7 of the next entry\n\
+          7 before 8, offset + 4 past the end\n\
+          7, table's offset 2^64 - 1, wraps to 3\n\
+          7, table's offset 2^32 + 168\n",
+        &ENTRY_ROWS,
+    );
 }
+
+const TABLE_ENTRY_ROWS: [[u64; 3]; 16] = [
+    [TABLE_ENTRY + 4, 4, 2], // dataType
+    [INDEX + 12, CRC, 32],
+    [WHOLE, COUNT, 0],
+    [BLOCK, 4, DBLX], // identifier
+    [WHOLE, COUNT, 0],
+    [INDEX + 4, 8, 0], // entries
+    [INDEX + 12, CRC, 0],
+    [WHOLE, COUNT, 0],
+    FRESH,
+    [BLOCK_ENTRY, 4, DDT], // blockType
+    [INDEX + 12, CRC, 32],
+    [WHOLE, COUNT, 0],
+    [BLOCK_ENTRY + 8, 8, TABLE], // offset
+    [INDEX + 12, CRC, 32],
+    [WHOLE, COUNT, 0],
+    [TABLE + 48, COUNT, 0],
+];
 
 // 9 excludes 10, and 11 too, as with no table there is no header. So both 9 and 10 follow 8, and 11 follows 10.
-fn table_entry_cases(image: &mut [u8; 512]) {
-    table_last(image);
-    set(image, TABLE_ENTRY, 4, 4, 2); // dataType
-    seal_index(image, INDEX, 2);
-    count_line(b"9, table's dataType 2", image, WHOLE);
-    write(image, BLOCK, b"DBLX");
-    count_line(b"8 before 9, no DBLK there", image, WHOLE);
-    seal_index(image, INDEX, 0);
-    count_line(b"9, no entries", image, WHOLE);
-    table_last(image);
-    write(image, BLOCK_ENTRY, b"DDT*");
-    seal_index(image, INDEX, 2);
-    count_line(b"8 before 10, block named as table", image, WHOLE);
-    set(image, BLOCK_ENTRY, 8, 8, TABLE); // offset
-    seal_index(image, INDEX, 2);
-    count_line(b"10, table named twice", image, WHOLE);
-    count_line(b"10 before 11, header past the end", image, TABLE + 48);
+fn table_entry_cases(disc: &[u8; 512]) {
+    run(
+        disc,
+        b"9, table's dataType 2\n\
+          8 before 9, no DBLK there\n\
+          9, no entries\n\
+          8 before 10, block named as table\n\
+          10, table named twice\n\
+          10 before 11, header past the end\n",
+        &TABLE_ENTRY_ROWS,
+    );
 }
+
+const TABLE_ROWS: [[u64; 3]; 13] = [
+    [TABLE + 6, 2, 1], // compression
+    [TABLE + 48, COUNT, 0],
+    [TABLE + 8, 1, 33], // shift
+    [WHOLE, COUNT, 0],
+    [TABLE + 6, 2, 0], // compression
+    [WHOLE - 1, COUNT, 0],
+    [TABLE + 8, 1, 1], // shift
+    [TABLE + 41, 8, 0], // crc64
+    [WHOLE - 1, COUNT, 0],
+    [WHOLE, PLACE, 3],
+    FRESH,
+    [TABLE + 33, 8, 0], // cmpCrc64
+    [WHOLE, COUNT, 0],
+];
 
 // From case to case the next fault is added, then the earlier one mended.
-fn table_cases(image: &mut [u8; 512]) {
-    table_last(image);
-    set(image, TABLE, 6, 2, 1); // compression
-    count_line(b"11 before 13, header past the end", image, TABLE + 48);
-    set(image, TABLE, 8, 1, 33); // shift
-    count_line(b"13 before 12, compression 1, shift 33", image, WHOLE);
-    set(image, TABLE, 6, 2, 0); // compression
-    count_line(b"12 before 11, shift 33, payload cut", image, WHOLE - 1);
-    set(image, TABLE, 8, 1, 1); // shift
-    set(image, TABLE, 41, 8, 0); // crc64
-    count_line(b"11 before 14, payload cut, crc64 0", image, WHOLE - 1);
-    place_line(b"14 before 20, crc64 0, address 3", image, WHOLE, 3);
-    table_last(image);
-    set(image, TABLE, 33, 8, 0); // cmpCrc64
-    count_line(b"14, cmpCrc64 0", image, WHOLE);
+fn table_cases(disc: &[u8; 512]) {
+    run(
+        disc,
+        b"11 before 13, header past the end\n\
+          13 before 12, compression 1, shift 33\n\
+          12 before 11, shift 33, payload cut\n\
+          11 before 14, payload cut, crc64 0\n\
+          14 before 20, crc64 0, address 3\n\
+          14, cmpCrc64 0\n",
+        &TABLE_ROWS,
+    );
 }
 
-// The lengths of a table of so many entries.
-fn set_lengths(image: &mut [u8; 512], entries: u64, length: u64) {
-    set(image, TABLE, 9, 8, entries);
-    set(image, TABLE, 17, 8, length); // cmpLength
-    set(image, TABLE, 25, 8, length);
-}
+const TABLE_LENGTH_ROWS: [[u64; 3]; 17] = [
+    [TABLE + 4, 2, 2], // type
+    [WHOLE, COUNT, 0],
+    FRESH,
+    [TABLE + 17, 8, 16], // cmpLength
+    [WHOLE, COUNT, 0],
+    [TABLE + 9, 8, 0x2000_0000_0000_0003], // entries
+    [TABLE + 17, 8, 24], // cmpLength
+    [TABLE + 25, 8, 24], // length
+    [WHOLE, COUNT, 0],
+    [TABLE + 9, 8, 0x1fff_ffff_ffff_ffff], // entries
+    [TABLE + 17, 8, 0xffff_ffff_ffff_fff8], // cmpLength
+    [TABLE + 25, 8, 0xffff_ffff_ffff_fff8], // length
+    [WHOLE, COUNT, 0],
+    [TABLE + 9, 8, 0x1fff_ffff], // entries
+    [TABLE + 17, 8, 0xffff_fff8], // cmpLength
+    [TABLE + 25, 8, 0xffff_fff8], // length
+    [WHOLE, COUNT, 0],
+];
 
-fn table_length_cases(image: &mut [u8; 512]) {
-    table_last(image);
-    set(image, TABLE, 4, 2, 2); // type
-    count_line(b"12, type 2", image, WHOLE);
-    table_last(image);
-    set(image, TABLE, 17, 8, 16); // cmpLength
-    count_line(b"12, cmpLength 16", image, WHOLE);
-    set_lengths(image, 0x2000_0000_0000_0003, 24);
-    count_line(b"12, 2^61 + 3 entries, wrap to 3", image, WHOLE);
-    set_lengths(image, 0x1fff_ffff_ffff_ffff, 0xffff_ffff_ffff_fff8);
-    count_line(b"11, length 2^64 - 8, wraps to 209", image, WHOLE);
-    set_lengths(image, 0x1fff_ffff, 0xffff_fff8);
-    count_line(b"11, length 2^32 - 8", image, WHOLE);
+fn table_length_cases(disc: &[u8; 512]) {
+    run(
+        disc,
+        b"12, type 2\n\
+          12, cmpLength 16\n\
+          12, 2^61 + 3 entries, wrap to 3\n\
+          11, length 2^64 - 8, wraps to 209\n\
+          11, length 2^32 - 8\n",
+        &TABLE_LENGTH_ROWS,
+    );
 }
 
 pub fn all(image: &mut [u8; 512]) {
+    table_last(image);
     accepted(image);
     header_cases(image);
     index_cases(image);
