@@ -1,5 +1,5 @@
-pub mod Decimal
+mod Decimal
 pub mod Writes
-pub mod Pieces
-pub mod Short
+mod Pieces
+mod Short
 pub mod Fits

@@ -1,4 +1,4 @@
-// Internal: opening an image, checks 1 to 14 of document 01 in its order, and the opened image, which nothing else makes.
+// Internal: opening an image, checks 1 to 14 of document 01 (1 to 10 by `index`), and the opened image, which nothing else makes.
 //
 // Cost: the index is passed over twice, for its checksum and for its entries, and the table once, for its checksum.
 ghost use mathlib.Core.Path.{_≡_};

@@ -1,3 +1,3 @@
 mod Indexed
-pub mod Known
-pub mod Places
+mod Known
+mod Places
