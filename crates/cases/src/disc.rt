@@ -112,7 +112,7 @@ pub fn set(image: &mut [u8; 512], start: u64, at: u64, width: u64, number: u64)
 fn record(image: &mut [u8; 512], widths: &[u64; 13], row: &[u64; 15]) {
     let mut at = row[1];
     let mut i: usize = 0;
-    // a turn for each field
+    // an iteration for each field
     while i < 13 {
         let width = widths[i];
         i += 1;
@@ -128,7 +128,7 @@ fn record(image: &mut [u8; 512], widths: &[u64; 13], row: &[u64; 15]) {
 // Writes records.
 fn records(image: &mut [u8; 512], rows: &[[u64; 15]]) {
     let mut i: usize = 0;
-    // a turn for each record
+    // an iteration for each record
     while i < rows.len() {
         let row = rows[i];
         let kind = row[0] as usize;

@@ -76,10 +76,10 @@ fn count_line(name: &[u8], image: &[u8; 512], used: u64)
 }
 
 // The place and the size of a sector of the image's first `used` bytes, or the refusal.
-pub fn place(image: &[u8; 512], used: u64, address: u64)
+pub fn place(image: &[u8; 512], used: u64, address: SectorAddress)
     requires { ⌜ used ≤ 512 ⌝ }
 {
-    let answer = aaru::locate(fields::part(image, 0, used), SectorAddress(address));
+    let answer = aaru::locate(fields::part(image, 0, used), address);
     match answer {
         Located::At(p) => {
             let start = p.start;
@@ -91,11 +91,11 @@ pub fn place(image: &[u8; 512], used: u64, address: u64)
 }
 
 // The bytes of a sector as text in quotes: none where the read is refused.
-fn quoted(image: &[u8; 512], used: u64, address: u64)
+fn quoted(image: &[u8; 512], used: u64, address: SectorAddress)
     requires { ⌜ used ≤ 512 ⌝ }
 {
     text(b" \"");
-    text(aaru::read(fields::part(image, 0, used), SectorAddress(address)));
+    text(aaru::read(fields::part(image, 0, used), address));
     text(b"\"");
 }
 
@@ -105,13 +105,13 @@ pub fn disc_lines(name: &[u8], image: &[u8; 512], used: u64)
 {
     count_line(name, image, used);
     let mut address: u64 = 0;
-    // four turns
+    // four iterations
     while address < 4 {
         text(name);
         number(b", address ", address);
         text(b": ");
-        place(image, used, address);
-        quoted(image, used, address);
+        place(image, used, SectorAddress(address));
+        quoted(image, used, SectorAddress(address));
         text(b"\n");
         address += 1;
     }

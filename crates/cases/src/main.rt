@@ -33,7 +33,7 @@ fn in_parts(s: &[u8], size: usize) -> u64
 {
     let mut register = ONES;
     let mut at: usize = 0;
-    // a turn for each part
+    // an iteration for each part
     while at < s.len() {
         let end = at + part(s.len() - at, size);
         register = crc64::update(register, &s[at..end]);

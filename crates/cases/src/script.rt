@@ -4,6 +4,7 @@ ghost use Prim.Native.Nat.{_+_, _≤_};
 use super::lines::count;
 use super::lines::place;
 use super::lines::text;
+use format::SectorAddress;
 
 // [at, CRC, n]: writes a checksum there, of the n bytes that follow it.
 pub const CRC: u64 = 16;
@@ -50,7 +51,7 @@ fn answer(image: &[u8; 512], used: u64, word: u64, address: u64) {
         if word == COUNT {
             count(image, used);
         } else {
-            place(image, used, address);
+            place(image, used, SectorAddress(address));
         }
     }
 }
@@ -58,7 +59,7 @@ fn answer(image: &[u8; 512], used: u64, word: u64, address: u64) {
 // Prints the line of `names` that starts there, and says where the next one does.
 fn name(names: &[u8], start: usize) -> usize {
     let mut end = start;
-    // a turn for each byte of the line
+    // an iteration for each byte of the line
     while end < names.len() {
         if names[end] == b'\n' {
             text(&names[start..end]);
@@ -99,7 +100,7 @@ pub fn run(disc: &[u8; 512], names: &[u8], rows: &[[u64; 3]]) {
     fields::copy(&mut image, 0, disc);
     let mut start: usize = 0;
     let mut i: usize = 0;
-    // a turn for each row
+    // an iteration for each row
     while i < rows.len() {
         let row = rows[i];
         start = step(&mut image, disc, names, start, &row);

@@ -1,24 +1,20 @@
 -- The answers of the public calls: different answers say different things, and what one call answers fixes what the others do.
 use mathlib.Core.List.{List}
-use mathlib.Core.Path.{_≡_, refl, sym, ap, _∙_}
+use mathlib.Core.Path.{_≡_, sym, ap, _∙_}
 use Prim.Native.Nat.{ℕ, _+_, _≤_}
 use native.Mathlib.Omega.{arith}
 use lib.ListN.{length}
-use Rattle.fields.specs.Bytes.{part}
 use Rattle.format.specs.declared.Counted.{Counted}
 use Rattle.format.specs.declared.Counted.the-variants as count
 use Rattle.format.specs.declared.Located.{Located}
 use Rattle.format.specs.declared.Located.the-variants as place
 use Rattle.format.specs.declared.Place.{Place}
 use Rattle.format.specs.declared.Refusal.{Refusal}
-use Rattle.format.specs.declared.Verdict.{Verdict}
-use Rattle.format.specs.declared.Verdict.the-variants.{Passes, Refuses}
-use Rattle.format.specs.Refusals.{refused, accepted, answer}
+use Rattle.format.specs.Refusals.{refused, accepted}
 use Rattle.format.specs.Layouts.{indexOffset}
 use Rattle.format.specs.Opening.{Opened, opening, sectorCount}
-use Rattle.format.specs.Reading.{placeOf, itemBytes, readVerdict, readAt, read, locate}
-use Rattle.format.specs.Answers.{counted, located, bytesRead, partAt}
-use Rattle.format.specs.Demands.{ReadIsLocated}
+use Rattle.format.specs.Reading.{placeOf, readVerdict, locate}
+use Rattle.format.specs.Answers.{counted, located}
 use Rattle.format.proofs.Refusals.{answer-passes, answer-refuses, answer-accepted, answer-refused, then-refuses}
 use Rattle.format.proofs.Checks.{read-ok, item-inside}
 
@@ -52,17 +48,7 @@ module _ (img : List ℕ) where
   unfolding opening locate readVerdict
   locate-unopened r a e = sym (answer-refuses _ _ r (then-refuses _ _ r (answer-refused _ _ r (sym e))))
 
--- ---- reading and locating
-same-part : (img : List ℕ) (p : Place) (v : Verdict) → bytesRead (answer v (part img (p .start .0) (p .size))) ≡ partAt img (answer v p)
-unfolding bytesRead partAt answer
-same-part img p Passes = refl
-same-part img p (Refuses r) = refl
-
-pub read-is-located : ReadIsLocated
-unfolding read readAt locate itemBytes
-read-is-located img a = same-part img _ (readVerdict img (indexOffset img) a)
-
--- a located sector lies in the image
+-- ---- a located sector lies in the image
 pub place-inside : (img : List ℕ) (a : ℕ) (p : Place) → accepted p ≡ locate img a → p .start .0 + p .size ≤ length img
 unfolding locate placeOf
 place-inside img a p e =

@@ -16,7 +16,7 @@ use Rattle.format.specs.Lists.{All, done, more}
 use Rattle.format.specs.Refusals.{refusal, row, refused, accepted}
 use Rattle.format.specs.Layouts.{DBLK, DDT*, indexOffset, applicationLength, entryLength, entryAt, entriesFrom, entries, blockLength, sectorSize}
 use Rattle.format.specs.Opening.{lacks, headerVerdict, indexVerdict, entryVerdict, entriesVerdict, offsetsOf, oneOf, oneVerdict, tableAt, tableMalformed, sumsDiffer, tableVerdict, openVerdict, Opened, opened}
-use Rattle.format.specs.Reading.{notWritten, pointerAt, has, blockMalformed, blockVerdict, itemVerdict, sectorVerdict, itemBytes, readVerdict, readAt}
+use Rattle.format.specs.Reading.{notWritten, pointerAt, has, blockMalformed, blockVerdict, itemVerdict, pointerVerdict, sectorVerdict, itemBytes, readVerdict, readAt}
 use Rattle.format.specs.Writing.{mostSectors, largestSize, mostAddresses, longestBuffer, bufferVerdict}
 use Rattle.format.specs.Creating.{createdUsed, createVerdict}
 use Rattle.format.specs.Committing.{rising, argumentsVerdict, anyOutside, otherThan21, sectorsVerdict, discVerdict, Appended, usedAfter, commitVerdict}
@@ -155,7 +155,7 @@ pub record SectorOk (img : List ℕ) (es : List Entry) (t : Opened) (a : ℕ) : 
 
 module _ (img : List ℕ) (es : List Entry) (t : Opened) (a : ℕ) where
   pub sector-ok : (sectorVerdict img es t a ≡ Passes) ↔ SectorOk img es t a
-  unfolding sectorVerdict
+  unfolding sectorVerdict pointerVerdict
   sector-ok =
       facts (then-iff (row-iff _ atLeast-iff) (then-iff (row-iff _ Iff·rfl) (then-iff (row-iff _ not-iff) (item-ok img (pointerAt img t a)))))
       (λ (b, (c, (d, e))). record { inside = b; written = c; named = d; item = e }) (λ k. (k .inside, (k .written, (k .named, k .item))))
@@ -170,7 +170,7 @@ module _ (img : List ℕ) (es : List Entry) (t : Opened) (a : ℕ) where
   sector-21 h e = then-rest _ _ (row-iff _ atLeast-iff .1 h) ∙ then-refuses _ _ _ (row-refuses _ _ e)
 
   gives-21 : a < t .count → Gives 21 (sectorVerdict img es t a) ↔ (notWritten img t a ≡ true)
-  unfolding sectorVerdict Gives
+  unfolding sectorVerdict pointerVerdict Gives
   gives-21 h = ((λ e. ⊎-elim (λ q. q) (λ q. absurd (other q e)) (on-or-off (notWritten img t a))), λ e. subst (Gives 21) (sym (sector-21 h e)) refl)
     where
       other : notWritten img t a ≡ false → ¬ Gives 21 (sectorVerdict img es t a)

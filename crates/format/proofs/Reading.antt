@@ -5,16 +5,20 @@ use mathlib.Core.Logic.{_≢_}
 use Prim.Native.Nat.{ℕ, _+_, _*_}
 use native.Mathlib.Omega.{arith}
 use lib.ListN.{length}
+use Rattle.fields.specs.Bytes.{part}
 use Rattle.fields.proofs.Overwrite.{length-part}
-use Rattle.format.specs.Refusals.{Answer, refused, accepted}
+use Rattle.format.specs.declared.Place.{Place}
+use Rattle.format.specs.declared.Verdict.{Verdict}
+use Rattle.format.specs.declared.Verdict.the-variants.{Passes, Refuses}
+use Rattle.format.specs.Refusals.{Answer, refused, accepted, answer}
 use Rattle.format.specs.Layouts.{DBLK, DDT*, indexOffset, entries, blockHeaderLength, sectorSize, decode, tableShift}
 use Rattle.format.specs.Opening.{offsetsOf, tableAt, Opened, openedAt, opened}
-use Rattle.format.specs.Reading.{tableEntry, notWritten, pointerAt, placeOf, itemBytes, readAt, read}
+use Rattle.format.specs.Reading.{tableEntry, notWritten, pointerAt, placeOf, itemBytes, readVerdict, readAt, read, locate}
 use Rattle.format.specs.Answers.{bytesRead}
 use Rattle.format.specs.Committing.{itemOf}
-use Rattle.format.specs.Demands.{NamesItem, Demand2Reading, Demand2Returned}
+use Rattle.format.specs.Demands.{NamesItem, Demand2Reading, Demand2Returned, partAt, ReadIsLocated}
 use Rattle.format.proofs.Tests.{same-iff}
-use Rattle.format.proofs.Refusals.{answer-accepted}
+use Rattle.format.proofs.Refusals.{answer-passes, answer-accepted}
 use Rattle.format.proofs.Checks.{tableAt-only, item-inside, read-ok, OpenOk, SectorOk, read-bytes}
 use Rattle.format.proofs.Named.{named, only-named}
 
@@ -120,4 +124,19 @@ unfolding bytesRead
 demand-2-returned img a sector = (
   (λ (e, s). demand-2-reading img a sector .0 (given img a sector (read img a) refl e s)),
   λ n. (ap bytesRead (demand-2-reading img a sector .1 n), some img a sector n),
+)
+
+-- ---- it is the part that `locate` names
+same-part : (img : List ℕ) (p : Place) (v : Verdict) → bytesRead (answer v (part img (p .start .0) (p .size))) ≡ partAt img (answer v p)
+unfolding bytesRead partAt answer
+same-part img p Passes = refl
+same-part img p (Refuses r) = refl
+
+pub read-is-located : ReadIsLocated
+unfolding read readAt locate itemBytes bytesRead
+read-is-located img a = (
+  same-part img _ (readVerdict img (indexOffset img) a),
+  λ p e.
+      let bytes = answer-passes _ (itemBytes img (pointerAt img (opened img (indexOffset img)) a)) (answer-accepted _ _ p e .0) in
+      rw bytes (some img a _ (demand-2-reading img a _ .0 bytes)),
 )

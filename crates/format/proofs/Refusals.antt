@@ -1,6 +1,6 @@
 -- Chains of checks: what it takes to pass, and what the first refusal is.
 use mathlib.Core.Bool.{Bool, true, false, true≢false}
-use mathlib.Core.Logic.{_≢_, ⊎-elim, _↔_}
+use mathlib.Core.Logic.{_≢_, ⊎-elim, _↔_, Iff·rfl}
 use mathlib.Core.Path.{_≡_, refl, subst}
 use Prim.Native.Nat.{ℕ, zero, suc, _+_, _≤_, _<_}
 use native.Mathlib.Nat.{eq-or-lt-of-le}
@@ -51,8 +51,7 @@ unfolding row
 row-refuses b r e = rw e
 
 pub row-passes : (b : Bool) (r : Refusal) → b ≡ false → row b r ≡ Passes
-unfolding row
-row-passes b r e = rw e
+row-passes b r e = row-iff r Iff·rfl .1 e
 
 pub then-refuses : (v w : Verdict) (r : Refusal) → v ≡ Refuses r → (v then w) ≡ Refuses r
 unfolding _then_

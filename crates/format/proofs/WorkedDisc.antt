@@ -9,7 +9,7 @@ use Rattle.format.specs.Tests.{same, differs, below, atLeast, _or_, _and
 use Rattle.format.specs.Refusals.{row, _then_, firstRefusal, answer}
 use Rattle.format.specs.Layouts.{tag, indexOffset, headerBytes, entryCount, entryAt, entriesFrom, entries, entryBytes, indexHeader, indexBytes, blockHeader, blockBytes, tableHeader, tableBytes, decode, encode}
 use Rattle.format.specs.Opening.{lacks, isType, isUserData, headerVerdict, indexVerdict, entryVerdict, entriesVerdict, offsetsOf, oneOf, oneVerdict, tableAt, tableMalformed, sumsDiffer, tableVerdict, openVerdict, openedAt, opened, opening}
-use Rattle.format.specs.Reading.{tableEntry, notWritten, pointerAt, has, blockMalformed, blockVerdict, itemVerdict, sectorVerdict, placeOf, itemBytes, readVerdict, readAt, read, locate}
+use Rattle.format.specs.Reading.{tableEntry, notWritten, pointerAt, has, blockMalformed, blockVerdict, itemVerdict, pointerVerdict, sectorVerdict, placeOf, itemBytes, readVerdict, readAt, read, locate}
 use Rattle.format.specs.Writing.{bufferVerdict, outcome, setHeader}
 use Rattle.format.specs.Creating.{createdIndexAt, createdUsed, createdBytes, createVerdict, create}
 use Rattle.format.specs.Committing.{pieces, firstWith, given, holdsSector, onDisc, amongStored, stepFor, storeOne, storeAll, oldPointer, newPointer, newPointers, itemOrZero, largestItem, shiftFrom, shiftFor, tableEntryBytes, newTable, keptEntry, keptEntries, newBlock, newBlockEntry, appendedFor, storedFor, pointersFor, appended, tableStart, indexStart, usedAfter, appendedBytes, rising, argumentsVerdict, anyOutside, otherThan21, sectorsVerdict, discVerdict, append, commitVerdict, commit}
@@ -17,5 +17,5 @@ use Rattle.format.specs.RollingBack.{rollbackVerdict, rollback}
 use Rattle.format.specs.WorkedDisc.{allHold, leaves, refusedWith, gives, liesAt, hasTable, workedDisc}
 
 pub worked-disc : T (allHold workedDisc)
-unfolding allHold leaves refusedWith gives liesAt hasTable bufferVerdict workedDisc crcOf part fromLe toLe field overwrite equal layout same differs below atLeast _or_ _and_ choose flatten pieces firstWith given row _then_ firstRefusal answer tag lacks indexOffset headerBytes entryCount entryAt entriesFrom entries isType isUserData entryBytes indexHeader indexBytes blockHeader blockBytes tableHeader tableBytes decode encode headerVerdict indexVerdict entryVerdict entriesVerdict offsetsOf oneOf oneVerdict tableAt tableMalformed sumsDiffer tableVerdict openVerdict openedAt opened opening tableEntry notWritten pointerAt has blockMalformed blockVerdict itemVerdict sectorVerdict placeOf itemBytes readVerdict readAt read locate outcome setHeader createdIndexAt createdUsed createdBytes createVerdict create holdsSector onDisc amongStored stepFor storeOne storeAll oldPointer orElse newPointer newPointers itemOrZero largestItem shiftFrom shiftFor tableEntryBytes newTable keptEntry keptEntries newBlock newBlockEntry appendedFor storedFor pointersFor appended tableStart indexStart usedAfter appendedBytes rising argumentsVerdict anyOutside otherThan21 sectorsVerdict discVerdict append commitVerdict commit rollbackVerdict rollback
+unfolding allHold leaves refusedWith gives liesAt hasTable bufferVerdict workedDisc crcOf part fromLe toLe field overwrite equal layout same differs below atLeast _or_ _and_ choose flatten pieces firstWith given row _then_ firstRefusal answer tag lacks indexOffset headerBytes entryCount entryAt entriesFrom entries isType isUserData entryBytes indexHeader indexBytes blockHeader blockBytes tableHeader tableBytes decode encode headerVerdict indexVerdict entryVerdict entriesVerdict offsetsOf oneOf oneVerdict tableAt tableMalformed sumsDiffer tableVerdict openVerdict openedAt opened opening tableEntry notWritten pointerAt has blockMalformed blockVerdict itemVerdict pointerVerdict sectorVerdict placeOf itemBytes readVerdict readAt read locate outcome setHeader createdIndexAt createdUsed createdBytes createVerdict create holdsSector onDisc amongStored stepFor storeOne storeAll oldPointer orElse newPointer newPointers itemOrZero largestItem shiftFrom shiftFor tableEntryBytes newTable keptEntry keptEntries newBlock newBlockEntry appendedFor storedFor pointersFor appended tableStart indexStart usedAfter appendedBytes rising argumentsVerdict anyOutside otherThan21 sectorsVerdict discVerdict append commitVerdict commit rollbackVerdict rollback
 worked-disc = tt

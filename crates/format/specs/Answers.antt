@@ -2,7 +2,6 @@
 -- each of its cases. The promises use that definition."
 use mathlib.Core.List.{List, []}
 use Prim.Native.Nat.{ℕ}
-use Rattle.fields.specs.Bytes.{part}
 use Rattle.format.specs.declared.Counted.{Counted}
 use Rattle.format.specs.declared.Counted.the-variants as count
 use Rattle.format.specs.declared.Located.{Located}
@@ -23,8 +22,3 @@ located (locate.Refused r) = refused r
 unfoldable pub bytesRead : Answer (List ℕ) → List ℕ
 bytesRead (accepted sector) = sector
 bytesRead (refused r) = []
-
--- the part of the image where a located sector lies
-unfoldable pub partAt : List ℕ → Answer Place → List ℕ
-partAt img (accepted p) = part img (p .start .0) (p .size)
-partAt img (refused r) = []

@@ -6,13 +6,14 @@ use Prim.Native.Nat.{ℕ, _+_, _*_, _/_, _%_, _^_, _<_}
 use lib.ListN.{length, take, getD}
 use Rattle.fields.specs.Bytes.{part, field}
 use Rattle.format.specs.declared.Entry.{Entry}
+use Rattle.format.specs.declared.Place.{Place}
 use Rattle.format.specs.declared.Placed.{Placed}
 use Rattle.format.specs.declared.Refusal.{Refusal}
 use Rattle.format.specs.Lists.{All, Any, Only, IsBytes}
 use Rattle.format.specs.Refusals.{Answer, refused, accepted}
 use Rattle.format.specs.Layouts.{DBLK, DDT*, CKSM, tag, indexOffset, entries, blockHeaderLength, sectorSize, tableHeaderLength, tableShift, tableCount, tableEntryLength}
 use Rattle.format.specs.Reading.{read, locate}
-use Rattle.format.specs.Answers.{bytesRead, partAt}
+use Rattle.format.specs.Answers.{bytesRead}
 use Rattle.format.specs.Writing.{placed}
 use Rattle.format.specs.Creating.{create}
 use Rattle.format.specs.Committing.{commit}
@@ -56,8 +57,13 @@ abbrev pub Demand2Returned : Type 0
 Demand2Returned = (img : List ℕ) (a : ℕ) (sector : List ℕ) → ((bytesRead (read img a) ≡ sector) × (sector ≢ [])) ↔ NamesItem img a sector
 
 -- and it is the part that `locate` names, none exactly where `locate` refuses
+unfoldable pub partAt : List ℕ → Answer Place → List ℕ
+partAt img (accepted p) = part img (p .start .0) (p .size)
+partAt img (refused r) = []
+
 abbrev pub ReadIsLocated : Type 0
-ReadIsLocated = (img : List ℕ) (a : ℕ) → bytesRead (read img a) ≡ partAt img (locate img a)
+ReadIsLocated =
+    (img : List ℕ) (a : ℕ) → (bytesRead (read img a) ≡ partAt img (locate img a)) × ((p : Place) → locate img a ≡ accepted p → bytesRead (read img a) ≢ [])
 
 -- ---- Demand 2, committing: an accepted commit makes the named sectors read as handed in and every other sector read as before.
 -- A disc that read as `before`, after such a commit reads as `later`

@@ -54,14 +54,17 @@ itemVerdict img p =
     then row (atLeast (p .item .0) (blockLength img b / sectorSize img b)) (refusal 26)
     then row (sumsDiffer (crcOf (blockPayload img b)) (blockCmpCrc64 img b) (blockCrc64 img b)) (refusal 27)
 
--- "address not below entries: 20; not written: 21; byte offset named by no index entry with blockType 'DBLK' and dataType 1: 22",
--- in an opened image whose index has the entries es
+-- what a pointer points to: "byte offset named by no index entry with blockType 'DBLK' and dataType 1: 22", where the index has the
+-- entries es, and the item's checks
+unfoldable pub pointerVerdict : List ℕ → List Entry → Pointer → Verdict
+pointerVerdict img es p = row (not (has (p .block .0) (offsetsOf DBLK es))) (refusal 22) then itemVerdict img p
+
+-- a sector of an opened image: "address not below entries: 20; not written: 21", and its pointer's checks
 unfoldable pub sectorVerdict : List ℕ → List Entry → Opened → ℕ → Verdict
 sectorVerdict img es t a =
     row (atLeast a (t .count)) (refusal 20)
     then row (notWritten img t a) (refusal 21)
-    then row (not (has (pointerAt img t a .block .0) (offsetsOf DBLK es))) (refusal 22)
-    then itemVerdict img (pointerAt img t a)
+    then pointerVerdict img es (pointerAt img t a)
 
 -- where an item lies
 unfoldable pub placeOf : List ℕ → Pointer → Place

@@ -25,6 +25,7 @@ before tables.None l = l
 before (tables.One t) l = t .0 ∷ l
 before tables.More l = 0 ∷ 0 ∷ l
 
+-- the one table's place, or the refusal
 unfoldable pub onlyOne : Named → Answer ℕ
 onlyOne (named.One t) = accepted (t .0)
 onlyOne (named.Refused r) = refused r

@@ -2,16 +2,19 @@
 -- sectors, so an address has at most 4 digits, and a place and a size at most 5.
 -- Assumes nothing.
 use mathlib.Core.List.{List, _++_}
-use mathlib.Core.Path.{_≡_, refl, sym}
+use mathlib.Core.Path.{_≡_, refl, sym, ap, _∙_}
 use Prim.Native.Nat.{ℕ, zero, suc, _+_, _*_, _≤_, _<_}
 use native.Mathlib.Omega.{arith}
-use lib.ListN.{length, length-append}
+use lib.ListN.{length, take, length-append}
+use lib.Seq.{length-take-le}
+use Rattle.fields.proofs.Overwrite.{length-overwrite}
 use Rattle.format.specs.declared.Place.{Place}
 use Rattle.format.specs.Refusals.{Answer, refused, accepted}
 use Rattle.format.specs.Opening.{sectorCount}
 use Rattle.format.specs.Reading.{locate}
 use Rattle.format.proofs.Tests.{below-iff, choose-cases}
 use Rattle.format.proofs.Answers.{place-inside}
+use Rattle.listing.specs.Buffer.{Writes, Prints}
 use Rattle.listing.specs.Listing.{head, line, linesFrom, lines, imageText, longestInput, listing}
 use Rattle.listing.proofs.Decimal.{length-decimal}
 use Rattle.listing.proofs.Short.{count-refusal, locate-refusal, count-short}
@@ -56,3 +59,16 @@ pub listing-fits : (input : List ℕ) → length (listing input) ≤ longestText
 unfolding listing imageText
 listing-fits input =
     choose-cases (λ (l : List ℕ). length l ≤ longestText) _ _ _ (λ e. omega arith) (λ e. image-fits input (below-iff .0 e) (sectorCount input) refl)
+
+-- so it is written whole
+pub listing-prints : {s t : List ℕ} {n : ℕ} (input : List ℕ) → length s ≡ longestText → Writes s 0 (listing input) t n → Prints s (listing input) t n
+listing-prints input l w = let f = listing-fits input in let e = w .place in record { bytes = w .bytes; whole = omega arith }
+
+-- what a caller needs to hand the text on
+pub prints-count : {s t : List ℕ} {n : ℕ} (input : List ℕ) → length s ≡ longestText → Prints s (listing input) t n → (n ≤ length t) × (n ≡ length (take n t))
+prints-count {s} {t} {n} input l w =
+    let f = listing-fits input in
+    let e = w .whole in
+    let k : length t ≡ length s = ap length (w .bytes) ∙ length-overwrite s 0 (listing input) in
+    let h : n ≤ length t = omega arith in
+    (h, sym (length-take-le n t h))

@@ -1,5 +1,5 @@
 mod Decimal
-pub mod Writes
+mod Writes
 mod Pieces
 mod Short
 pub mod Fits

@@ -12,7 +12,7 @@ use Rattle.format.specs.declared.Verdict.the-variants.{Refuses}
 use Rattle.format.specs.Refusals.{refusal, refused, accepted}
 use Rattle.format.specs.Layouts.{entryLength}
 use Rattle.format.specs.Opening.{opened, openedAt, headerVerdict, indexVerdict, entryVerdict, entriesVerdict, oneOf, oneVerdict, tableVerdict, openVerdict, sectorCount}
-use Rattle.format.specs.Reading.{sectorVerdict, readVerdict, locate}
+use Rattle.format.specs.Reading.{pointerVerdict, sectorVerdict, readVerdict, locate}
 use Rattle.format.proofs.Refusals.{Gives, row-not, then-not, answer-refused, answer-accepted}
 use Rattle.format.proofs.Checks.{open-ok, item-not}
 
@@ -60,7 +60,7 @@ module _ (n : ℕ) (big : 100 ≤ n) (img : List ℕ) where
       (then-not _ _ n (index-not o) (then-not _ _ n (entries-not _ _) (then-not _ _ n (one-not _) (table-not _))))
 
   read-not : (o a : ℕ) → ¬ Gives n (readVerdict img o a)
-  unfolding readVerdict sectorVerdict
+  unfolding readVerdict sectorVerdict pointerVerdict
   read-not o a =
       then-not _ _ n (open-not o)
       (then-not _ _ n (row-not _ (refusal 20) n (omega arith))

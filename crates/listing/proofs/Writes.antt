@@ -8,7 +8,7 @@ use native.Mathlib.Nat.{eq-zero-or-pos}
 use native.Mathlib.Numerals.{add-one}
 use native.Mathlib.Omega.{arith}
 use lib.ListN.{length, take, getD, set, length-append}
-use lib.Seq.{take-suc, take-all, length-take-le}
+use lib.Seq.{take-suc, take-all}
 use Rattle.fields.specs.Bytes.{overwrite}
 use Rattle.fields.proofs.Overwrite.{length-overwrite, overwrite-out, overwrite-then}
 use Rattle.listing.specs.Buffer.{Writes}
@@ -57,11 +57,3 @@ module _ {s t : List ℕ} {at p : ℕ} (x : List ℕ) (i : ℕ) (w : Writes s at
 
   pub writes-end : length x ≤ i → Writes s at x t p
   writes-end h = rw take-all at w
-
--- ---- what a caller needs to hand the text on
-pub writes-count : {s x t : List ℕ} {at p : ℕ} → Writes s at x t p → (p ≤ length t) × (p ≡ length (take p t))
-writes-count {s} {x} {t} {at} {p} w =
-    let e = w .place in
-    let l : length t ≡ length s = ap length (w .bytes) ∙ length-overwrite s at x in
-    let h : p ≤ length t = omega arith in
-    (h, sym (length-take-le p t h))

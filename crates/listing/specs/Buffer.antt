@@ -9,3 +9,8 @@ use Rattle.fields.specs.Bytes.{overwrite}
 pub record Writes (before : List ℕ) (at : ℕ) (text after : List ℕ) (next : ℕ) : Type 0 where
   pub bytes : after ≡ overwrite before at text
   pub place : next ≡ min (at + length text) (length before)
+
+-- a text written whole to the front of a buffer, and its length
+pub record Prints (before text after : List ℕ) (n : ℕ) : Type 0 where
+  pub bytes : after ≡ overwrite before 0 text
+  pub whole : n ≡ length text

@@ -8,7 +8,7 @@ ghost use lib.ListN.{length};
 ghost use Rattle.format.specs.Refusals.{accepted};
 ghost use Rattle.format.specs.Opening.{opening};
 ghost use Rattle.opening.specs.Answers.{contents};
-ghost use Rattle.listing.specs.Buffer.{Writes};
+ghost use Rattle.listing.specs.Buffer.{Writes, Prints};
 ghost use Rattle.listing.specs.Listing.{linesFrom, imageText, listing};
 use format::ByteOffset;
 use format::Counted;
@@ -16,7 +16,7 @@ use format::SectorAddress;
 use opening::Opened;
 use opening::Opening;
 
-// The lines of all addresses of an opened image. Neighbours in one block cost one pass over the index and the block.
+// The lines of all addresses of an opened image. Neighbours in one intact block cost one pass over the index and the block.
 fn address_lines(image: &[u8], t: Opened, out: &mut [u8], at: usize) -> usize
     requires { ⌜ (opening (now image) ≡ accepted (contents t)) × (at ≤ length (now out)) ⌝ }
     ensures { λ r. ⌜ Writes (now (out .entry)) at (linesFrom (now (image .entry)) (contents t .count) 0) (now (out .exit)) r ⌝ }
@@ -50,10 +50,10 @@ fn image_text(image: &[u8], out: &mut [u8]) -> usize
     }
 }
 
-// What the listing program prints for an input, written to the front of out; the answer is how many bytes that is. A text that
-// is longer than out is cut at its end; in 139,264 bytes every text has room (proofs/Fits).
-pub fn list(input: &[u8], out: &mut [u8]) -> usize
-    ensures { λ r. ⌜ Writes (now (out .entry)) 0 (listing (now (input .entry))) (now (out .exit)) r ⌝ }
+// What the listing program prints for an input, written to the front of out, which has room for every text; the answer is how
+// many bytes it is.
+pub fn list(input: &[u8], out: &mut [u8; 139264]) -> usize
+    ensures { λ r. ⌜ Prints (now (out .entry)) (listing (now (input .entry))) (now (out .exit)) r ⌝ }
 {
     if 65536 < input.len() {
         return text::write(out, 0, b"too long\n");

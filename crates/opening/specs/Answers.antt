@@ -9,6 +9,7 @@ use Rattle.opening.specs.declared.Opening.the-variants as opening
 abbrev pub contents : Opened → format.Opened
 contents t = record { table = t .table .0; count = t .count; shift = t .shift }
 
+-- what opening found, or the refusal
 unfoldable pub outcome : Opening → Answer format.Opened
 outcome (opening.Opens t) = accepted (contents t)
 outcome (opening.Refused r) = refused r

@@ -31,6 +31,7 @@ pub struct Opened {
     shift: u64,
 }
 
+// What opening answers.
 pub enum Opening {
     Opens(Opened),
     Refused(Refusal),

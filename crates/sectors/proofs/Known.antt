@@ -7,13 +7,13 @@ use Prim.Native.Nat.{ℕ, _/_}
 use Rattle.format.specs.declared.Pointer.{Pointer}
 use Rattle.format.specs.Tests.{same, differs, atLeast, _and_}
 use Rattle.format.specs.Refusals.{refusal, row}
-use Rattle.format.specs.Layouts.{blockLength, sectorSize}
+use Rattle.format.specs.Layouts.{indexOffset, entries, blockLength, sectorSize}
 use Rattle.format.specs.Opening.{sumsDiffer}
-use Rattle.format.specs.Reading.{itemVerdict}
+use Rattle.format.specs.Reading.{itemVerdict, pointerVerdict}
 use Rattle.format.proofs.Tests.{never, not-iff, same-on, differs-iff, or-iff, and-on}
 use Rattle.format.proofs.Checks.{block-ok}
 use Rattle.format.proofs.Chains.{on, on-last, goes, ends}
-use Rattle.sectors.specs.Found.{Intact, Known, pointerVerdict}
+use Rattle.sectors.specs.Found.{Intact, Known}
 
 pub known-intact : (img : List ℕ) (b k : ℕ) → Known img k → (differs k 0 and same b k) ≡ true → Intact img b
 known-intact img b k known e =
@@ -22,7 +22,7 @@ known-intact img b k known e =
 
 -- of the item's checks only that of its number is left
 pub known-verdict : (img : List ℕ) (p : Pointer) → Intact img (p .block .0)
-    → row (atLeast (p .item .0) (blockLength img (p .block .0) / sectorSize img (p .block .0))) (refusal 26) ≡ pointerVerdict img p
+    → row (atLeast (p .item .0) (blockLength img (p .block .0) / sectorSize img (p .block .0))) (refusal 26) ≡ pointerVerdict img (entries img (indexOffset img)) p
 unfolding pointerVerdict itemVerdict sumsDiffer
 known-verdict img p k =
     on _ (not-iff .1 (k .indexed))

@@ -1,27 +1,23 @@
 -- What this crate's answers say, and what its functions ask for.
-use mathlib.Core.Bool.{true, not}
+use mathlib.Core.Bool.{true}
 use mathlib.Core.List.{List}
 use mathlib.Core.Logic.{_⊎_}
 use mathlib.Core.Path.{_≡_}
 use Prim.Native.Nat.{ℕ}
 use Rattle.crc64.specs.Crc.{crcOf}
 use Rattle.format.specs.declared.Pointer.{Pointer}
-use Rattle.format.specs.declared.Verdict.{Verdict}
-use Rattle.format.specs.Refusals.{refusal, row, _then_, Answer, refused, accepted}
+use Rattle.format.specs.Refusals.{Answer, refused, accepted}
 use Rattle.format.specs.Layouts.{DBLK, indexOffset, entries, blockCmpCrc64, blockCrc64, blockPayload}
 use Rattle.format.specs.Opening.{offsetsOf}
-use Rattle.format.specs.Reading.{has, itemVerdict}
+use Rattle.format.specs.Reading.{has}
 use Rattle.format.specs.Facts.{BlockOk}
 use Rattle.sectors.specs.declared.Found.{Found}
 use Rattle.sectors.specs.declared.Found.the-variants.{At, Refused}
 
+-- a pointer, or the refusal
 unfoldable pub found : Found → Answer Pointer
 found (At p) = accepted p
 found (Refused r) = refused r
-
--- checks 22 to 27, of what a pointer points to
-unfoldable pub pointerVerdict : List ℕ → Pointer → Verdict
-pointerVerdict img p = row (not (has (p .block .0) (offsetsOf DBLK (entries img (indexOffset img))))) (refusal 22) then itemVerdict img p
 
 -- the index names a block at b, which passes all checks of a block
 pub record Intact (img : List ℕ) (b : ℕ) : Type 0 where

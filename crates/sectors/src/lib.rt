@@ -9,11 +9,11 @@ ghost use Rattle.format.specs.Tests.{same, differs, atLeast, _and_};
 ghost use Rattle.format.specs.Refusals.{refusal, row, accepted, answer};
 ghost use Rattle.format.specs.Layouts.{DBLK, indexOffset, indexHeaderLength, entryCount, entryLength, entries, blockLength, sectorSize};
 ghost use Rattle.format.specs.Opening.{isUserData, offsetsOf, openVerdict, opening};
-ghost use Rattle.format.specs.Reading.{has, pointerAt, blockMalformed, blockVerdict, itemVerdict, sectorVerdict, placeOf, locate};
+ghost use Rattle.format.specs.Reading.{has, pointerAt, blockMalformed, blockVerdict, itemVerdict, pointerVerdict, sectorVerdict, placeOf, locate};
 ghost use Rattle.format.specs.Facts.{BlockOk, ItemOk};
 ghost use Rattle.format.specs.Answers.{located};
 ghost use Rattle.opening.specs.Answers.{contents};
-ghost use Rattle.sectors.specs.Found.{found, Known, pointerVerdict};
+ghost use Rattle.sectors.specs.Found.{found, Known};
 use fields::get;
 use fields::part;
 use fields::room;
@@ -38,7 +38,8 @@ enum Found {
     Refused(Refusal),
 }
 
-// Where a sector lies, and a block that is known to be intact: then, or from before. ByteOffset(0) is none.
+// Where a sector lies, and a block that is known to be intact: the sector's, or where it is refused the one handed in.
+// ByteOffset(0) is none.
 pub struct Near {
     pub located: Located,
     pub known: ByteOffset,
@@ -176,7 +177,7 @@ fn is_known(b: ByteOffset, known: ByteOffset) -> bool
 // What p points to: checks 22 to 27. Of the block that is known only the item's number is looked at.
 fn pointer_verdict(s: &[u8], p: Pointer, known: ByteOffset) -> Verdict
     requires { ⌜ (openVerdict (now s) (indexOffset (now s)) ≡ Passes) × Known (now s) (known .0) ⌝ }
-    ensures { λ r. ⌜ r ≡ pointerVerdict (now (s .entry)) p ⌝ }
+    ensures { λ r. ⌜ r ≡ pointerVerdict (now (s .entry)) (entries (now (s .entry)) (indexOffset (now (s .entry)))) p ⌝ }
 {
     let b = p.block;
     if is_known(b, known) {
@@ -221,7 +222,7 @@ fn place(s: &[u8], p: Pointer) -> Place
 }
 
 // Where the sector at address a of an opened image lies. A caller that goes from address to address hands in the block that
-// the last answer left known, so that neighbours in one block cost one pass over the index and the block, not one each.
+// the last answer left known, so that neighbours in one intact block cost one pass over the index and the block, not one each.
 pub fn locate_near(s: &[u8], t: Opened, a: SectorAddress, known: ByteOffset) -> Near
     requires { ⌜ (opening (now s) ≡ accepted (contents t)) × Known (now s) (known .0) ⌝ }
     ensures { λ r. ⌜ (located (r .located) ≡ locate (now (s .entry)) (a .0)) × Known (now (s .entry)) (r .known .0) ⌝ }

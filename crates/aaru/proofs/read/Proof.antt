@@ -5,8 +5,10 @@ use denote.Ref.{now}
 use Rattle.fields.specs.Bytes.{part}
 use Rattle.format.specs.Refusals.{accepted}
 use Rattle.format.specs.Reading.{locate}
-use Rattle.format.specs.Answers.{located, partAt}
-use Rattle.format.proofs.Answers.{read-is-located, place-inside}
+use Rattle.format.specs.Answers.{located}
+use Rattle.format.specs.Demands.{partAt}
+use Rattle.format.proofs.Answers.{place-inside}
+use Rattle.format.proofs.Reading.{read-is-located}
 use Rattle.aaru.proofs.read.Statement.{statement}
 use Rattle.aaru.proofs.read.Tie as tie
 
@@ -22,11 +24,11 @@ returns : tie.Need-returns
 unfolding part located partAt
 returns c =
     let l = ap located (sym (c .before .enum-told .given .1)) ∙ c .before .before .before .locate .ensures in
-    c .part .ensures ∙ ap (partAt _) l ∙ sym (read-is-located _ _)
+    c .part .ensures ∙ ap (partAt _) l ∙ sym (read-is-located _ _ .0)
 
 returns-2 : tie.Need-returns-2
 unfolding partAt
-returns-2 c = c .part2 .ensures ∙ ap (partAt _) (given (c .before .before .before)) ∙ sym (read-is-located _ _)
+returns-2 c = c .part2 .ensures ∙ ap (partAt _) (given (c .before .before .before)) ∙ sym (read-is-located _ _ .0)
 
 pub read-spec : {M : Type 1} → statement M
 read-spec =

@@ -1,14 +1,15 @@
--- `list::main` meets its contract. Assumes nothing.
+-- `list::main` is safe: the listing answers how many bytes of the array its text has. Assumes nothing.
 use borrow.Author.Needs.{needs}
-use Rattle.listing.proofs.Writes.{writes-count}
+use native.Mathlib.Omega.{arith}
+use Rattle.listing.proofs.Fits.{prints-count}
 use Rattle.list.proofs.main.Statement.{statement}
 use Rattle.list.proofs.main.Tie as tie
 
 array-share-prefix-text : tie.Need-array-share-prefix-text
-array-share-prefix-text c = writes-count (c .before .list .ensures) .0
+array-share-prefix-text c = prints-count _ (omega arith) (c .list .ensures) .0
 
 slice-aggregate-write-all : tie.Need-slice-aggregate-write-all
-slice-aggregate-write-all c = writes-count (c .before .before .list .ensures) .1
+slice-aggregate-write-all c = prints-count _ (omega arith) (c .before .list .ensures) .1
 
 pub main-spec : {M : Type 1} → statement M
 main-spec =
@@ -16,7 +17,6 @@ main-spec =
     (tie.spec
     (λ c. search needs)
     (λ c κs. search needs)
-    (λ c. search needs)
     (λ c. search needs)
     (λ c. search needs)
     (λ c κs. search needs)

@@ -6,7 +6,7 @@ use Rattle.format.proofs.Tests.{atLeast-true, atLeast-iff}
 use Rattle.format.proofs.Checks.{open-ok}
 use Rattle.format.proofs.Chains.{stop, on, refuses, accepts, by}
 use Rattle.opening.proofs.Accepted.{opens}
-use Rattle.sectors.specs.Found.{found, pointerVerdict}
+use Rattle.sectors.specs.Found.{found}
 use Rattle.sectors.proofs.find.Statement.{statement}
 use Rattle.sectors.proofs.find.Tie as tie
 
@@ -23,7 +23,7 @@ pointer-verdict-requires : tie.Need-pointer-verdict-requires
 pointer-verdict-requires c κs = (open-ok _ _ .1 (opens _ _ (c .before .before .before .before .before .before .before .pre .0)), c .before .before .before .before .before .before .before .pre .1)
 
 returns-3 : tie.Need-returns-3
-unfolding sectorVerdict found pointerVerdict
+unfolding sectorVerdict found
 returns-3 c =
     let p = c .before .before .before .before in
     refuses _
@@ -32,7 +32,7 @@ returns-3 c =
     (rw (p .pointer-at .ensures) at (by (c .before .v .given .1) (c .before .before .before .pointer-verdict .ensures)))))
 
 returns-4 : tie.Need-returns-4
-unfolding sectorVerdict found pointerVerdict
+unfolding sectorVerdict found
 returns-4 c =
     let p = c .before .before .before in
     accepts

@@ -5,10 +5,11 @@ use mathlib.Core.Bool.{not}
 use mathlib.Core.Path.{ap, _∙_}
 use denote.Ref.{now}
 use Rattle.format.specs.Layouts.{indexOffset}
+use Rattle.format.specs.Reading.{pointerVerdict}
 use Rattle.format.proofs.Checks.{OpenOk, open-ok}
 use Rattle.format.proofs.Tests.{not-iff}
 use Rattle.format.proofs.Chains.{stop, on, by}
-use Rattle.sectors.specs.Found.{Intact, pointerVerdict}
+use Rattle.sectors.specs.Found.{Intact}
 use Rattle.sectors.proofs.Known.{known-intact, known-verdict}
 use Rattle.sectors.proofs.pointer_verdict.Statement.{statement}
 use Rattle.sectors.proofs.pointer_verdict.Tie as tie
