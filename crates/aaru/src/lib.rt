@@ -2,13 +2,19 @@
 ghost use mathlib.Core.Path.{_≡_};
 ghost use Rattle.format.specs.Opening.{sectorCount};
 ghost use Rattle.format.specs.Reading.{locate, read};
-ghost use Rattle.format.specs.Answers.{counted, located, bytesRead};
+ghost use Rattle.format.specs.Creating.{create};
+ghost use Rattle.format.specs.Committing.{commit};
+ghost use Rattle.format.specs.RollingBack.{rollback};
+ghost use Rattle.format.specs.Answers.{counted, located, bytesRead, answered};
 pub use format::ByteOffset;
 pub use format::Counted;
 pub use format::Located;
 pub use format::Place;
+pub use format::Placed;
 pub use format::Refusal;
 pub use format::SectorAddress;
+pub use format::Updated;
+use format::Verdict;
 use opening::Opening;
 
 // How many sectors the image has, or why it does not open: 1 to 14.
@@ -46,4 +52,79 @@ pub fn read<'a>(image: &'a [u8], a: SectorAddress) -> &'a [u8]
             fields::part(image, start.0, p.size)
         }
     }
+}
+
+// Makes a new image in the buffer, of `count` sectors that are not written: 31, 30, 33, 35. Later bytes stay as they are.
+pub fn create(
+    buffer: &mut [u8],
+    count: u64,
+    application: &[u8],
+    major: u8,
+    minor: u8,
+    mediaType: u32,
+    created: u64,
+    written: u64,
+) -> Updated
+    ensures { λ r. ⌜ answered r (now (buffer .exit)) ≡ create (now (buffer .entry)) count (now (application .entry)) major minor mediaType created written ⌝ }
+{
+    let v = arguments::create_verdict(buffer, count, application);
+    if let Verdict::Refuses(r) = v {
+        return Updated::Refused(r);
+    }
+    records::put_image(
+        buffer,
+        count,
+        application,
+        major,
+        minor,
+        mediaType,
+        created,
+        written,
+    );
+    Updated::To(Placed {
+        used: 157 + 8 * count,
+        index: ByteOffset(121 + 8 * count),
+    })
+}
+
+// Makes the named sectors read as handed in, one after another in `sectors`, and leaves all others: 31, 32, 30, 33, 34, opening's
+// numbers, 20, the sectors' numbers but 21, 35.
+pub fn commit(
+    buffer: &mut [u8],
+    used: u64,
+    addresses: &[u64],
+    size: u64,
+    sectors: &[u8],
+    time: u64,
+) -> Updated
+    ensures { λ r. ⌜ answered r (now (buffer .exit)) ≡ commit (now (buffer .entry)) used (now (addresses .entry)) size (now (sectors .entry)) time ⌝ }
+{
+    let v = arguments::commit_verdict(buffer, used, addresses, size, sectors);
+    if let Verdict::Refuses(r) = v {
+        return Updated::Refused(r);
+    }
+    let opened = opening::open(fields::part(buffer, 0, used));
+    match opened {
+        Opening::Refused(r) => Updated::Refused(r),
+        Opening::Opens(t) => appending::commit(buffer, used, t, addresses, size, sectors, time),
+    }
+}
+
+// Makes the disc read as it did when its index was at `offset`: 31, 32, then opening's numbers at that offset.
+pub fn rollback(buffer: &mut [u8], used: u64, offset: ByteOffset, time: u64) -> Updated
+    ensures { λ r. ⌜ answered r (now (buffer .exit)) ≡ rollback (now (buffer .entry)) used (offset .0) time ⌝ }
+{
+    let v = arguments::buffer_verdict(buffer, used);
+    if let Verdict::Refuses(r) = v {
+        return Updated::Refused(r);
+    }
+    let w = opening::open_verdict(fields::part(buffer, 0, used), offset);
+    if let Verdict::Refuses(r) = w {
+        return Updated::Refused(r);
+    }
+    records::set_header(buffer, offset, time);
+    Updated::To(Placed {
+        used,
+        index: offset,
+    })
 }

@@ -4,4 +4,4 @@ pub mod Numbers
 pub mod Holds
 pub mod Records
 pub mod Equal
-mod Compare
+pub mod Compare

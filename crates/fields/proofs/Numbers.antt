@@ -2,10 +2,11 @@
 use mathlib.Core.Path.{_≡_, refl, ap, _∙_}
 use mathlib.Core.List.{List, [], _∷_}
 use Prim.Native.Nat.{ℕ, zero, suc, _+_, _-_, _*_, _/_, _%_, _^_, _≤_, _<_}
-use native.Mathlib.Nat.{mod-add-div, div-lt-iff-lt-mul, pow-suc, pow-le-pow-right}
+use native.Mathlib.Nat.{one-mul, mod-add-div, mod-eq-of-lt, div-lt-iff-lt-mul, pow-suc, pow-le-pow-right}
 use native.Mathlib.Omega.{arith}
 use lib.Dec.{lit<}
 use lib.ListN.{length, getD}
+use lib.Pow.{pow-lt}
 use lib.Seq.{take-nil, drop-nil}
 use Rattle.fields.specs.Bytes.{part, fromLe, toLe, field}
 use Rattle.fields.proofs.Steps.{sub-step, sub-done}
@@ -63,3 +64,7 @@ pow-turn k i acc b pos low h hb =
 -- a number of seven bytes or fewer leaves room for one byte more
 pub pow-room : (n acc : ℕ) → n ≤ 7 → acc < 256 ^ n → acc < 256 ^ 7
 pow-room n acc h l = omega (arith, pow-le-pow-right {n = 256} (lit< tt) {i = n} {j = 7} h)
+
+-- 1 shifted by k binary digits, as it is computed in 64
+pub one-shifted : (k : ℕ) → k ≤ 32 → (1 * 2 ^ k) % 18446744073709551616 ≡ 2 ^ k
+one-shifted k h = ap (λ (n : ℕ). n % 18446744073709551616) (one-mul (2 ^ k)) ∙ mod-eq-of-lt (pow-lt {i = k} {j = 64} (omega arith))

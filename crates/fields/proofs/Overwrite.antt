@@ -3,12 +3,12 @@
 use mathlib.Core.Path.{_≡_, refl, sym, ap, _∙_}
 use mathlib.Core.Logic.{_⊎_, inl, inr, ⊎-elim}
 use mathlib.Core.List.{List, [], _∷_, _++_, append-assoc}
-use Prim.Native.Nat.{ℕ, suc, _+_, _≤_, _<_}
+use Prim.Native.Nat.{ℕ, zero, suc, _+_, _≤_, _<_}
 use native.Mathlib.Nat.{add-assoc, add-zero}
 use native.Mathlib.Numerals.{add-one}
 use native.Mathlib.Omega.{arith}
 use lib.ListN.{length, take, drop, getD, set, length-take, length-drop, length-set}
-use lib.Seq.{length-sets, set-out, sets-eq, getD-set-other, getD-take, getD-drop, ext-getD, take-at, drop-at, length-take-le, drop-cons}
+use lib.Seq.{sets, length-sets, set-out, set-comm, sets-eq, take-set-le, drop-set-lt, getD-set-other, set-getD, getD-take, getD-drop, ext-getD, take-at, drop-at, length-take-le, drop-cons}
 use Rattle.fields.specs.Bytes.{part, overwrite}
 
 -- ---- length, past the end, one after the other, nothing, one byte, the three pieces
@@ -60,6 +60,35 @@ getD-off s at (x ∷ xs) i o =
     getD-off (set s at x) (suc at) xs i (⊎-elim (λ h. inl (omega arith)) (λ h. inr (omega arith)) o)
     ∙ getD-set-other s at i x 0 (λ e. ⊎-elim (λ h. omega arith) (λ h. omega arith) o)
 
+pub take-overwrite : (s : List ℕ) (at : ℕ) (new : List ℕ) (n : ℕ) → n ≤ at → take n (overwrite s at new) ≡ take n s
+unfolding overwrite
+take-overwrite s at [] n h = refl
+take-overwrite s at (x ∷ xs) n h = take-overwrite (set s at x) (suc at) xs n (omega arith) ∙ take-set-le n s at x h
+
+pub drop-overwrite : (s : List ℕ) (at : ℕ) (new : List ℕ) (n : ℕ) → at + length new ≤ n → drop n (overwrite s at new) ≡ drop n s
+unfolding overwrite
+drop-overwrite s at [] n h = refl
+drop-overwrite s at (x ∷ xs) n h = drop-overwrite (set s at x) (suc at) xs n (omega arith) ∙ drop-set-lt n s at x (omega arith)
+
+set-overwrite : (s : List ℕ) (at : ℕ) (new : List ℕ) (i b : ℕ) → i < at → set (overwrite s at new) i b ≡ overwrite (set s i b) at new
+unfolding overwrite
+set-overwrite s at [] i b h = refl
+set-overwrite s at (x ∷ xs) i b h =
+    set-overwrite (set s at x) (suc at) xs i b (omega arith) ∙ ap (λ (l : List ℕ). sets l (suc at) xs) (set-comm s at i x b (λ e. omega arith))
+
+-- of two runs that lie apart the lower one may come first
+pub overwrite-comm : (s : List ℕ) (at : ℕ) (xs : List ℕ) (p : ℕ) (ys : List ℕ) → p + length ys ≤ at
+    → overwrite (overwrite s at xs) p ys ≡ overwrite (overwrite s p ys) at xs
+unfolding overwrite
+overwrite-comm s at xs p [] h = refl
+overwrite-comm s at xs p (y ∷ ys) h =
+    ap (λ (l : List ℕ). sets l (suc p) ys) (set-overwrite s at xs p y (omega arith)) ∙ overwrite-comm (set s p y) at xs (suc p) ys (omega arith)
+
+-- two runs of bytes, the second of them first
+pub overwrite-before : (s : List ℕ) (at : ℕ) (x : List ℕ) (p : ℕ) (y : List ℕ) → p ≡ at + length x → overwrite (overwrite s p y) at x ≡ overwrite s at (x ++ y)
+overwrite-before s at x p y e =
+    overwrite-comm s p y at x (omega arith) ∙ ap (λ (n : ℕ). overwrite (overwrite s at x) n y) e ∙ overwrite-then s at x y
+
 -- ---- parts
 
 pub length-part : (s : List ℕ) (at n : ℕ) → at + n ≤ length s → length (part s at n) ≡ n
@@ -89,6 +118,10 @@ part-alike s t p q n hs ht h =
     (λ i b. let l : i < n = omega arith in
     getD-part s p n i l ∙ h i l ∙ sym (getD-part t q n i l))
 
+-- a part before what is written stays
+pub part-before : (s : List ℕ) (at : ℕ) (new : List ℕ) (p n : ℕ) → p + n ≤ at → p + n ≤ length s → part (overwrite s at new) p n ≡ part s p n
+part-before s at new p n h l = part-alike (overwrite s at new) s p p n (rw length-overwrite l) l (λ i b. getD-off s at new (p + i) (inl (omega arith)))
+
 pub part-same : (s : List ℕ) (at n : ℕ) (new : List ℕ) → length new ≡ n → at + n ≤ length s → part (overwrite s at new) at n ≡ new
 unfolding part
 part-same s at n new e h =
@@ -100,3 +133,19 @@ pub getD-in : (s : List ℕ) (at : ℕ) (new : List ℕ) (i : ℕ) → i < lengt
 getD-in s at new i h room =
     sym (getD-part (overwrite s at new) at (length new) i h)
     ∙ ap (λ (l : List ℕ). getD l i 0) (part-same s at (length new) new refl room)
+
+-- ---- an overwrite that changes nothing, and one that leaves nothing of an earlier one
+
+pub overwrite-self : (s : List ℕ) (at n : ℕ) → at + n ≤ length s → overwrite s at (part s at n) ≡ s
+unfolding overwrite
+overwrite-self s at zero h = ap (sets s at) (part-none s at)
+overwrite-self s at (suc n) h =
+    ap (sets s at) (part-step s at n (omega arith)) ∙ ap (λ (l : List ℕ). sets l (suc at) (part s (suc at) n)) (set-getD s at 0)
+    ∙ overwrite-self s (suc at) n (omega arith)
+
+pub overwrite-cover : (s : List ℕ) (at : ℕ) (xs : List ℕ) (p : ℕ) (ys : List ℕ) → at ≤ p → p + length ys ≤ at + length xs → at + length xs ≤ length s
+    → overwrite (overwrite s p ys) at xs ≡ overwrite s at xs
+overwrite-cover s at xs p ys h k room =
+    overwrite-split (overwrite s p ys) at xs (rw length-overwrite room)
+    ∙ ap (λ (l : List ℕ). l ++ xs ++ drop (at + length xs) (overwrite s p ys)) (take-overwrite s p ys at h)
+    ∙ ap (λ (l : List ℕ). take at s ++ xs ++ l) (drop-overwrite s p ys (at + length xs) k) ∙ sym (overwrite-split s at xs room)

@@ -1,14 +1,15 @@
--- Laws of `layout`: how long a record is, and its fields read back where the record stands.
+-- Laws of `layout`: how long a record is, its fields written one after the other, and read back where the record stands.
 -- Assumes nothing.
-use mathlib.Core.List.{List, [], _∷_, _++_, append-assoc}
-use mathlib.Core.Path.{_≡_, refl, ap}
+use mathlib.Core.List.{List, [], _∷_, _++_, append-assoc, append-nil}
+use mathlib.Core.Path.{_≡_, refl, sym, ap, _∙_}
 use Prim.Native.Nat.{ℕ, zero, suc, _+_, _^_, _<_}
 use native.Mathlib.Nat.{add-zero, not-suc-le-zero, le-of-suc-le-suc}
 use native.Mathlib.Omega.{arith}
 use lib.ListN.{length, take, getD, length-append}
-use Rattle.fields.specs.Bytes.{fromLe, field}
+use Rattle.fields.specs.Bytes.{fromLe, field, overwrite}
 use Rattle.fields.specs.Layout.{Field, num, raw, fieldBytes, layout}
 use Rattle.fields.proofs.Numbers.{length-toLe}
+use Rattle.fields.proofs.Overwrite.{overwrite-then}
 use Rattle.fields.proofs.Holds.{Holds, holds-all, holds-left, holds-right, holds-number}
 
 abbrev pub width : Field → ℕ
@@ -50,3 +51,34 @@ pub length-layout : (fs : List Field) → length (layout fs) ≡ total fs
 unfolding layout
 length-layout [] = refl
 length-layout (f ∷ fs) = simp (length-append, length-fieldBytes, length-layout fs)
+
+-- ---- a record's fields written one after the other are the record written at once
+
+layout-append : (fs gs : List Field) → layout (fs ++ gs) ≡ layout fs ++ layout gs
+unfolding layout
+layout-append [] gs = refl
+layout-append (f ∷ fs) gs = rw (layout-append fs gs, append-assoc)
+
+-- so many fields were written from `at` on
+pub record Laid (s : List ℕ) (at : ℕ) (fs : List Field) (after : List ℕ) : Type 0 where
+  pub is : after ≡ overwrite s at (layout fs)
+
+-- the first field
+pub laid-first : {s : List ℕ} {at : ℕ} {after : List ℕ} (f : Field) → after ≡ overwrite s at (fieldBytes f) → Laid s at (f ∷ []) after
+unfolding layout
+laid-first {s} {at} f e = record { is = e ∙ ap (overwrite s at) (sym (append-nil (fieldBytes f))) }
+
+-- more fields, where those so far end
+pub laid-more : {s : List ℕ} {at p : ℕ} {fs : List Field} {between after : List ℕ} (gs : List Field) → Laid s at fs between
+    → after ≡ overwrite between p (layout gs) → p ≡ at + total fs → Laid s at (fs ++ gs) after
+laid-more {s} {at} {p} {fs} gs b e q =
+    let n : p ≡ at + length (layout fs) = omega (arith, length-layout fs) in
+    record {
+      is = e ∙ ap (λ (l : List ℕ). overwrite l p (layout gs)) (b .is) ∙ ap (λ (m : ℕ). overwrite (overwrite s at (layout fs)) m (layout gs)) n
+          ∙ overwrite-then s at (layout fs) (layout gs) ∙ ap (overwrite s at) (sym (layout-append fs gs));
+    }
+
+-- one more field
+pub laid-next : {s : List ℕ} {at p : ℕ} {fs : List Field} {between after : List ℕ} (f : Field) → Laid s at fs between
+    → after ≡ overwrite between p (fieldBytes f) → p ≡ at + total fs → Laid s at (fs ++ (f ∷ [])) after
+laid-next f b e q = laid-more (f ∷ []) b (laid-first f e .is) q

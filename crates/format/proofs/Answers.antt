@@ -9,12 +9,18 @@ use Rattle.format.specs.declared.Counted.the-variants as count
 use Rattle.format.specs.declared.Located.{Located}
 use Rattle.format.specs.declared.Located.the-variants as place
 use Rattle.format.specs.declared.Place.{Place}
+use Rattle.format.specs.declared.Placed.{Placed}
 use Rattle.format.specs.declared.Refusal.{Refusal}
+use Rattle.format.specs.declared.Updated.{Updated}
+use Rattle.format.specs.declared.Updated.the-variants as update
+use Rattle.format.specs.declared.Verdict.{Verdict}
+use Rattle.format.specs.declared.Verdict.the-variants.{Passes, Refuses}
 use Rattle.format.specs.Refusals.{refused, accepted}
 use Rattle.format.specs.Layouts.{indexOffset}
 use Rattle.format.specs.Opening.{Opened, opening, sectorCount}
 use Rattle.format.specs.Reading.{placeOf, readVerdict, locate}
-use Rattle.format.specs.Answers.{counted, located}
+use Rattle.format.specs.Writing.{outcome}
+use Rattle.format.specs.Answers.{counted, located, updated, answered}
 use Rattle.format.proofs.Refusals.{answer-passes, answer-refuses, answer-accepted, answer-refused, then-refuses}
 use Rattle.format.proofs.Checks.{read-ok, item-inside}
 
@@ -31,6 +37,23 @@ located-distinct (place.At p) (place.At q) e = cc
 located-distinct (place.At p) (place.Refused r) e = let z : _≡_ {A = ℕ} 0 1 = cc in absurd (omega arith)
 located-distinct (place.Refused r) (place.At p) e = let z : _≡_ {A = ℕ} 0 1 = cc in absurd (omega arith)
 located-distinct (place.Refused r) (place.Refused q) e = cc
+
+pub updated-distinct : (x y : Updated) → updated x ≡ updated y → x ≡ y
+unfolding updated
+updated-distinct (update.To p) (update.To q) e = cc
+updated-distinct (update.To p) (update.Refused r) e = let z : _≡_ {A = ℕ} 0 1 = cc in absurd (omega arith)
+updated-distinct (update.Refused r) (update.To p) e = let z : _≡_ {A = ℕ} 0 1 = cc in absurd (omega arith)
+updated-distinct (update.Refused r) (update.Refused q) e = cc
+
+-- ---- what a call that writes leaves, by its verdict
+module _ (buffer : List ℕ) {v : Verdict} where
+  pub outcome-stops : (p : Placed) (new : List ℕ) {r : Refusal} → Refuses r ≡ v → answered (update.Refused r) buffer ≡ outcome buffer v p new
+  unfolding answered updated outcome
+  outcome-stops p new e = rw (← e)
+
+  pub outcome-done : {p q : Placed} {new after : List ℕ} → Passes ≡ v → q ≡ p → after ≡ new → answered (update.To q) after ≡ outcome buffer v p new
+  unfolding answered updated outcome
+  outcome-done e f g = rw (← e, f, g)
 
 -- ---- by what opening answers
 module _ (img : List ℕ) where

@@ -6,7 +6,7 @@ use mathlib.Core.Logic.{_≢_, _⊎_, inl, inr, ⊎-elim}
 use mathlib.Core.Option.{Option, none, some}
 use mathlib.Core.Path.{_≡_, refl, sym, ap, _∙_, subst}
 use Prim.Native.Nat.{ℕ, suc, _+_, _*_, _/_, _^_, _≤_, _<_, zero-le}
-use native.Mathlib.Nat.{zero-add, not-suc-le-zero, div-le-self, mul-le-mul-right, lt-of-lt-of-le, lt-of-le-of-lt}
+use native.Mathlib.Nat.{zero-add, not-suc-le-zero, div-le-self, mul-le-mul-left, mul-le-mul-right, lt-of-lt-of-le, lt-of-le-of-lt}
 use native.Mathlib.Omega.{arith}
 use lib.Dec.{lit<, lit≤}
 use lib.ListN.{length, getD, length-map}
@@ -32,7 +32,7 @@ use Rattle.format.proofs.Named.{user-data-on, user-data-true, user-data
 use Rattle.format.proofs.Agree.{Agree, header-agree, entry-agree, item-agree, bytes-agree, block-low}
 use Rattle.format.proofs.Written.{EntryFits, holds-piece, length-tableBytes, table-identified, table-entries, length-blockBytes, block-identified, block-size, block-items, item-written, length-indexBytes, Opens, opens-written}
 use Rattle.format.proofs.KeptEntries.{dblk-cksm, dblk-ddt, kept-all, kept-blocks, kept-table}
-use Rattle.format.proofs.Storing.{handedOr, pieces-sized, shift-fits, shift-least, Source, old, new, stored-ok, NewPointer, fresh, kept, new-pointer, length-newPointers, getD-newPointers, item-largest, largest-bound}
+use Rattle.format.proofs.Storing.{handedOr, stored-sized, entries-sized, length-entries, shift-fits, shift-least, Source, old, new, stored-ok, NewPointer, fresh, kept, new-pointer, length-newPointers, getD-newPointers, item-largest, largest-bound}
 use Rattle.format.proofs.Bytes.{entries-fit}
 
 -- ---- a pointer, encoded and decoded
@@ -40,7 +40,7 @@ decode-encode : (s : ℕ) (p : Pointer) → p .item .0 < 2 ^ s → decode s (enc
 unfolding decode encode
 decode-encode s p h = λ i. record { block = record { 0 = high (p .block .0) s h i }; item = record { 0 = low (p .block .0) s h i } }
 
-encode-lt : (s : ℕ) (p : Pointer) → s ≤ 32 → p .block .0 < 2 ^ 32 → p .item .0 < 2 ^ s → encode s p < 256 ^ 8
+pub encode-lt : (s : ℕ) (p : Pointer) → s ≤ 32 → p .block .0 < 2 ^ 32 → p .item .0 < 2 ^ s → encode s p < 256 ^ 8
 unfolding encode
 encode-lt s p h b k =
     let m : 2 ^ s ≤ 2 ^ 32 = pow-mono h in
@@ -124,12 +124,17 @@ record Points (y : List ℕ) (es : List Entry) (sector : List ℕ) (p : Pointer)
   bytes : itemBytes y p ≡ sector
 
 -- both numbers of a pointer to an intact item are below 2^32
-pointer-small : (y : List ℕ) (p : Pointer) → PointerOk y p → length y ≤ longestBuffer → (p .block .0 < 2 ^ 32) × (p .item .0 < 2 ^ 32)
+pub pointer-small : (y : List ℕ) (p : Pointer) → PointerOk y p → length y ≤ longestBuffer → (p .block .0 < 2 ^ 32) × (p .item .0 < 2 ^ 32)
 pointer-small y p k long =
     let fits : p .block .0 + blockHeaderLength + blockLength y (p .block .0) ≤ length y = k .block .fits in
     let i : p .item .0 < blockLength y (p .block .0) / sectorSize y (p .block .0) = k .item in
     let d : blockLength y (p .block .0) / sectorSize y (p .block .0) ≤ blockLength y (p .block .0) = div-le-self _ _ in
     (omega arith, omega arith)
+
+flatten-block : (size : ℕ) (items : List (List ℕ)) → length (flatten items) ≤ length (newBlock size items)
+unfolding flatten newBlock
+flatten-block size [] = omega arith
+flatten-block size (i ∷ is) = omega (arith, length-blockBytes size (flatten (i ∷ is)))
 
 -- what an address gets, nothing or a pointer that stands, and what it then reads as
 data Gets (y : List ℕ) (es : List Entry) : Option Pointer → Answer (List ℕ) → Type 0 where
@@ -192,6 +197,46 @@ module _ (x : List ℕ) (o : ℕ) (addresses : List ℕ) (size : ℕ) (sectors :
   unfolding pointersFor
   length-pointers = length-newPointers x (opened x o) addresses ps (opened x o .count) 0
 
+  pointer-at : (a : ℕ) → a < opened x o .count → getD pointers a none ≡ newPointer x (opened x o) addresses ps a
+  unfolding pointersFor
+  pointer-at a k = getD-newPointers x (opened x o) addresses ps (opened x o .count) 0 a k ∙ ap (newPointer x (opened x o) addresses ps) (zero-add a)
+
+  -- ---- the items of the new table
+  module _ (s : Sound x o) (short : length x ≤ longestBuffer) (few : length items ≤ longestBuffer) where
+    old-below : (a : ℕ) → AddressOk x o a → itemOrZero (oldPointer x (opened x o) a) < 2 ^ 32
+    unfolding oldPointer itemOrZero
+    old-below a (inl e) = rw (choose-true _ none (some (pointerAt x (opened x o) a)) e) (lit< tt)
+    old-below a (inr q) = rw (choose-false _ none (some (pointerAt x (opened x o) a)) (q .written)) (pointer-small x _ (q .item) short .1)
+
+    source-below : {sector : List ℕ} (p : Pointer) → Source x (opened x o) (length x) items sector p → p .item .0 < 2 ^ 32
+    source-below _ (new {i = i} j q) = omega arith
+    source-below _ (old {a = a} k) = go (s .sectors a (k .inside))
+      where
+        go : AddressOk x o a → pointerAt x (opened x o) a .item .0 < 2 ^ 32
+        go (inl e) = absurd (never e (k .written))
+        go (inr q) = pointer-small x _ (q .item) short .1
+
+    item-below : (j : ℕ) → j < length pointers → itemOrZero (getD pointers j none) < 2 ^ 32
+    unfolding storedFor itemOrZero
+    item-below j k =
+        let jc : j < opened x o .count = omega (arith, length-pointers) in
+        rw (pointer-at j jc) (go jc _ _ (new-pointer x (opened x o) (length x) items j addresses ds ps (stored-ok x (opened x o) (length x) (Sized size) ds [] .sources)))
+      where
+        go : j < opened x o .count → (u : Option Pointer) (v : Option (List ℕ)) → NewPointer x (opened x o) (length x) items j u v → itemOrZero u < 2 ^ 32
+        go jc _ _ (fresh {p = p} {sector = d} q) = source-below p q
+        go jc _ _ kept = old-below j (s .sectors j jc)
+
+    largest-below : largestItem pointers < 2 ^ 32
+    largest-below = largest-bound (2 ^ 32) pointers (lit< tt) item-below
+
+    pub shift-small : shift ≤ 32
+    unfolding shiftFor
+    shift-small = shift-least 64 0 (largestItem pointers) 32 zero-le largest-below
+
+    pub shift-holds : largestItem pointers < 2 ^ shift
+    unfolding shiftFor
+    shift-holds = shift-fits 64 0 (largestItem pointers) (lt-of-lt-of-le largest-below (lit≤ tt))
+
   module _ (y : List ℕ) (g : Agree x y) (s : Sound x o) (isBytes : IsBytes x) (pos : size ≢ 0) (small : size ≤ largestSize)
       (whole : length sectors ≡ length addresses * size) (h : Holds y (length x) (appendedBytes added)) (long : length y ≤ longestBuffer) where
     hb : Holds y (length x) (newBlock size items)
@@ -212,7 +257,7 @@ module _ (x : List ℕ) (o : ℕ) (addresses : List ℕ) (size : ℕ) (sectors :
 
     items-sized : All (Sized size) items
     unfolding storedFor
-    items-sized = stored-ok x (opened x o) (length x) (Sized size) ds [] .keeps done (pieces-sized (length addresses) size sectors whole)
+    items-sized = stored-sized x (opened x o) (length x) (length addresses) size sectors whole
 
     x-long : headerLength ≤ length x
     x-long = s .opens .header .long
@@ -271,43 +316,18 @@ module _ (x : List ℕ) (o : ℕ) (addresses : List ℕ) (size : ℕ) (sectors :
         go _ _ (fresh {p = p} {sector = d} q) = stands (source-points p d q)
         go _ _ kept = old-gets a k
 
-    pointer-at : (a : ℕ) → a < opened x o .count → getD pointers a none ≡ newPointer x (opened x o) addresses ps a
-    unfolding pointersFor
-    pointer-at a k = getD-newPointers x (opened x o) addresses ps (opened x o .count) 0 a k ∙ ap (newPointer x (opened x o) addresses ps) (zero-add a)
-
     -- ---- the table
-    item-below : (j : ℕ) → j < length pointers → itemOrZero (getD pointers j none) < 2 ^ 32
-    unfolding itemOrZero
-    item-below j k = let jc : j < opened x o .count = omega (arith, length-pointers) in rw (pointer-at j jc) (go _ _ (gets j jc))
-      where
-        go : (u : Option Pointer) (v : Answer (List ℕ)) → Gets y newEntries u v → itemOrZero u < 2 ^ 32
-        go _ _ nothing = lit< tt
-        go _ _ (stands {p = p} q) = pointer-small y p (q .ok) long .1
+    items-few : length items ≤ longestBuffer
+    items-few =
+        let n : length items * 1 ≤ length items * size = mul-le-mul-left (length items) (omega arith) in
+        let f = length-flatten size items items-sized in
+        omega (arith, hb .fits, flatten-block size items)
 
-    largest-below : largestItem pointers < 2 ^ 32
-    largest-below = largest-bound (2 ^ 32) pointers (lit< tt) item-below
-
-    shift-small : shift ≤ 32
-    unfolding shiftFor
-    shift-small = shift-least 64 0 (largestItem pointers) 32 zero-le largest-below
-
-    shift-holds : largestItem pointers < 2 ^ shift
-    unfolding shiftFor
-    shift-holds = shift-fits 64 0 (largestItem pointers) (lt-of-lt-of-le largest-below (lit≤ tt))
-
-    entry-sized : (u : Option Pointer) → length (tableEntryBytes shift u) ≡ tableEntryLength
-    unfolding tableEntryBytes
-    entry-sized none = length-toLe 8 0
-    entry-sized (some p) = length-toLe 8 (encode shift p)
-
-    entries-sized : All (Sized tableEntryLength) (map (tableEntryBytes shift) pointers)
-    entries-sized = all-image (tableEntryBytes shift) entry-sized pointers
+    x-short : length x ≤ longestBuffer
+    x-short = omega (arith, g .longer)
 
     payload-whole : length payload ≡ tableEntryLength * length pointers
-    payload-whole =
-        let a = length-flatten tableEntryLength (map (tableEntryBytes shift) pointers) entries-sized in
-        let b = length-map pointers (tableEntryBytes shift) in
-        omega arith
+    payload-whole = length-entries shift pointers
 
     payload-short : length payload < 256 ^ 8
     payload-short = omega (arith, ht .fits, length-tableBytes shift (length pointers) payload)
@@ -365,7 +385,7 @@ module _ (x : List ℕ) (o : ℕ) (addresses : List ℕ) (size : ℕ) (sectors :
     opens-new =
         rw length-pointers at
         (opens-written y newIndexAt newEntries hi (omega (arith, hi .fits, length-indexBytes newEntries)) new-entries-fit newTableAt shift (length pointers) payload ht
-        shift-small payload-whole payload-short only-table (header-agree x y g (s .opens .header)) (omega (arith, x-long)) new-entries-ok)
+        (shift-small s x-short items-few) payload-whole payload-short only-table (header-agree x y g (s .opens .header)) (omega (arith, x-long)) new-entries-ok)
 
     -- ---- the table's entries
     abbrev newPtr : ℕ → Option Pointer
@@ -377,7 +397,7 @@ module _ (x : List ℕ) (o : ℕ) (addresses : List ℕ) (size : ℕ) (sectors :
         let lm : length (map (tableEntryBytes shift) pointers) ≡ length pointers = length-map pointers (tableEntryBytes shift) in
         let lp : length pointers ≡ opened x o .count = length-pointers in
         let hj : Holds y (newTableAt + tableHeaderLength + a * tableEntryLength) (getD (map (tableEntryBytes shift) pointers) a []) =
-        holds-piece y tableEntryLength (map (tableEntryBytes shift) pointers) entries-sized (newTableAt + tableHeaderLength) hp a (omega arith) in
+        holds-piece y tableEntryLength (map (tableEntryBytes shift) pointers) (entries-sized shift pointers) (newTableAt + tableHeaderLength) hp a (omega arith) in
         let e : getD (map (tableEntryBytes shift) pointers) a [] ≡ tableEntryBytes shift (newPtr a) =
         getD-map (tableEntryBytes shift) pointers a none [] (omega arith) ∙ ap (tableEntryBytes shift) (pointer-at a k) in
         let c : newTableAt + tableHeaderLength + a * tableEntryLength ≡ newTableAt + tableHeaderLength + tableEntryLength * a = omega arith in
@@ -386,7 +406,7 @@ module _ (x : List ℕ) (o : ℕ) (addresses : List ℕ) (size : ℕ) (sectors :
     item-fits : (a : ℕ) → a < opened x o .count → itemOrZero (newPtr a) < 2 ^ shift
     item-fits a k =
         let b : itemOrZero (getD pointers a none) ≤ largestItem pointers = item-largest pointers a (omega (arith, length-pointers)) in
-        rw (pointer-at a k) at (lt-of-le-of-lt b shift-holds)
+        rw (pointer-at a k) at (lt-of-le-of-lt b (shift-holds s x-short items-few))
 
     -- an address below the count: it is not written, or its sector is good; and what is then expected of it
     abbrev Reads : ℕ → Answer (List ℕ) → Type 0
@@ -401,7 +421,7 @@ module _ (x : List ℕ) (o : ℕ) (addresses : List ℕ) (size : ℕ) (sectors :
         go : (u : Option Pointer) (v : Answer (List ℕ)) → Gets y newEntries u v → Holds y (newTableAt + tableHeaderLength + tableEntryLength * a) (tableEntryBytes shift u) → itemOrZero u < 2 ^ shift → Reads a v
         go _ _ nothing hl il = inl (entry-zero y newOpened a (holds-number y _ 8 0 hl (lit< tt)), refl)
         go _ _ (stands {p = p} {sector = d} q) hl il =
-            let n : tableEntry y newOpened a ≡ encode shift p = holds-number y _ 8 (encode shift p) hl (encode-lt shift p shift-small (pointer-small y p (q .ok) long .0) il) in
+            let n : tableEntry y newOpened a ≡ encode shift p = holds-number y _ 8 (encode shift p) hl (encode-lt shift p (shift-small s x-short items-few) (pointer-small y p (q .ok) long .0) il) in
             let ep : pointerAt y newOpened a ≡ p = ap (decode shift) n ∙ decode-encode shift p il in
             let low : headerLength ≤ p .block .0 = q .low in
             inr (

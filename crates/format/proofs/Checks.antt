@@ -180,7 +180,7 @@ module _ (img : List ℕ) (es : List Entry) (t : Opened) (a : ℕ) where
           (rw (then-rest _ _ (row-iff (refusal 20) atLeast-iff .1 h), then-rest _ _ (row-iff (refusal 21) Iff·rfl .1 q)) at e)
 
   -- a commit passes an address exactly if it is not written or its sector is good
-  address-ok : a < t .count → (otherThan21 (sectorVerdict img es t a) ≡ Passes) ↔ ((notWritten img t a ≡ true) ⊎ SectorOk img es t a)
+  pub address-ok : a < t .count → (otherThan21 (sectorVerdict img es t a) ≡ Passes) ↔ ((notWritten img t a ≡ true) ⊎ SectorOk img es t a)
   address-ok h = Iff·trans (other-than-21 _) (⊎-map (gives-21 h .0) (sector-ok .0), ⊎-map (gives-21 h .1) (sector-ok .1))
 
 -- the whole of a read's checks, at index offset o

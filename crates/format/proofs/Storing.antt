@@ -1,26 +1,28 @@
 -- Where the sectors of a commit end up: each handed-in sector gets a pointer to an equal one, on the old disc or among the stored ones.
 use mathlib.Core.Bool.{Bool, true, false}
-use mathlib.Core.List.{List, [], _∷_, _++_, append-assoc, append-nil, Forall₂, Forall₂·nil, Forall₂·cons}
+use mathlib.Core.List.{List, [], _∷_, _++_, map, flatten, append-assoc, append-nil, Forall₂, Forall₂·nil, Forall₂·cons}
 use mathlib.Core.Option.{Option, none, some, orElse}
 use mathlib.Core.Path.{_≡_, refl, sym, ap, _∙_, subst}
 use Prim.Native.Nat.{ℕ, zero, suc, _+_, _*_, _^_, _≤_, _<_}
 use native.Mathlib.Nat.{add-zero, zero-mul, suc-mul, lt-of-not-le, le-trans, not-suc-le-zero, le-of-suc-le-suc, le-max-left, le-max-right}
 use native.Mathlib.Omega.{arith}
-use lib.ListN.{length, take, drop, getD, length-append, length-take, length-drop, List·getD-append}
+use lib.ListN.{length, take, drop, getD, length-append, length-take, length-drop, length-map, List·getD-append}
 use lib.Pow.{pow-mono}
 use lib.Seq.{drop-drop, getD-append-seam}
 use borrow.Author.Tests.{not-true}
 use Rattle.fields.specs.Bytes.{part, equal}
 use Rattle.fields.proofs.Equal.{equal-true}
+use Rattle.fields.proofs.Numbers.{length-toLe}
 use Rattle.format.specs.declared.Pointer.{Pointer}
 use Rattle.format.specs.Tests.{same, below}
 use Rattle.format.specs.Lists.{All, done, more}
 use Rattle.format.specs.Refusals.{Answer, accepted}
+use Rattle.format.specs.Layouts.{tableEntryLength, encode}
 use Rattle.format.specs.Opening.{Opened}
 use Rattle.format.specs.Reading.{notWritten, pointerAt, itemBytes}
-use Rattle.format.specs.Committing.{pieces, given, firstWith, holdsSector, onDisc, amongStored, Step, itemOf, stepFor, storeOne, Stored, storeAll, oldPointer, newPointer, newPointers, itemOrZero, largestItem, shiftFrom}
+use Rattle.format.specs.Committing.{pieces, given, firstWith, holdsSector, onDisc, amongStored, Step, itemOf, stepFor, storeOne, Stored, storeAll, oldPointer, newPointer, newPointers, itemOrZero, largestItem, shiftFrom, tableEntryBytes}
 use Rattle.format.proofs.Tests.{below-on, below-iff, and-on, choose-true, choose-false, choose-cases}
-use Rattle.format.proofs.Lists.{Sized, all-append, all-take, all-drop, all-head, all-tail}
+use Rattle.format.proofs.Lists.{Sized, all-append, all-take, all-drop, all-head, all-tail, all-image, length-flatten}
 
 -- ---- the smallest shift
 pub shift-fits : (k s n : ℕ) → n < 2 ^ (s + k) → n < 2 ^ shiftFrom k s n
@@ -55,14 +57,14 @@ pub record OnDisc (img : List ℕ) (t : Opened) (sector : List ℕ) (a : ℕ) : 
   pub written : notWritten img t a ≡ false
   pub bytes : itemBytes img (pointerAt img t a) ≡ sector
 
-onDisc-found : (img : List ℕ) (t : Opened) (sector : List ℕ) (a : ℕ) → onDisc img t sector ≡ some a → OnDisc img t sector a
+pub onDisc-found : (img : List ℕ) (t : Opened) (sector : List ℕ) (a : ℕ) → onDisc img t sector ≡ some a → OnDisc img t sector a
 unfolding onDisc holdsSector
 onDisc-found img t sector a e =
     let r = firstWith-found (holdsSector img t sector) (t .count) 0 a e in
     let q = and-on _ _ (r .0) in
     record { inside = omega (arith, r .2); written = not-true _ (q .0); bytes = equal-true _ _ (q .1) }
 
-amongStored-found : (stored : List (List ℕ)) (sector : List ℕ) (j : ℕ) → amongStored stored sector ≡ some j → (j < length stored) × (getD stored j [] ≡ sector)
+pub amongStored-found : (stored : List (List ℕ)) (sector : List ℕ) (j : ℕ) → amongStored stored sector ≡ some j → (j < length stored) × (getD stored j [] ≡ sector)
 unfolding amongStored
 amongStored-found stored sector j e =
     let r = firstWith-found (λ j. equal (getD stored j []) sector) (length stored) 0 j e in
@@ -108,13 +110,13 @@ source-grow {items = items} extra (new {i = i} h e) = new {i = i} (simp length-a
 -- P: a property that all handed-in sectors have, and so all stored ones
 module _ (img : List ℕ) (t : Opened) (block : ℕ) (P : List ℕ → Type 0) where
   -- one sector
-  record StepOk (stored : List (List ℕ)) (sector : List ℕ) (r : Step) : Type 0 where
-    extra : List (List ℕ)
-    grown : r .stored ≡ stored ++ extra
-    keeps : All P stored → P sector → All P (r .stored)
-    source : Source img t block (r .stored) sector (r .pointer)
+  pub record StepOk (stored : List (List ℕ)) (sector : List ℕ) (r : Step) : Type 0 where
+    pub extra : List (List ℕ)
+    pub grown : r .stored ≡ stored ++ extra
+    pub keeps : All P stored → P sector → All P (r .stored)
+    pub source : Source img t block (r .stored) sector (r .pointer)
 
-  step-ok : (stored : List (List ℕ)) (sector : List ℕ) → StepOk stored sector (storeOne img t block stored sector)
+  pub step-ok : (stored : List (List ℕ)) (sector : List ℕ) → StepOk stored sector (storeOne img t block stored sector)
   unfolding storeOne stepFor
   step-ok stored sector = go (onDisc img t sector) refl (amongStored stored sector) refl
     where
@@ -153,6 +155,27 @@ module _ (img : List ℕ) (t : Opened) (block : ℕ) (P : List ℕ → Type 0) w
             keeps = λ h q. r .keeps (k .keeps h (all-head q)) (all-tail q);
             sources = Forall₂·cons {a = d} {b = s .pointer} (rw (r .grown) (source-grow (r .extra) (k .source))) (r .sources);
           }
+
+-- at most as many are stored as are handed in
+module _ (img : List ℕ) (t : Opened) (block : ℕ) where
+  step-few : (stored : List (List ℕ)) (sector : List ℕ) → length (storeOne img t block stored sector .stored) ≤ suc (length stored)
+  unfolding storeOne stepFor
+  step-few stored sector = go (onDisc img t sector) (amongStored stored sector)
+    where
+      go : (u v : Option ℕ) → length (stepFor img t block stored sector u v .stored) ≤ suc (length stored)
+      go (some a) v = omega arith
+      go none (some j) = omega arith
+      go none none = simp length-append (omega arith)
+
+  pub stored-few : (sectors stored : List (List ℕ)) → length (storeAll img t block stored sectors .items) ≤ length stored + length sectors
+  unfolding storeAll
+  stored-few [] stored = omega arith
+  stored-few (d ∷ ds) stored = omega (arith, stored-few ds (storeOne img t block stored d .stored), step-few stored d)
+
+-- the stored sectors have the size of those handed in
+pub stored-sized : (img : List ℕ) (t : Opened) (block k size : ℕ) (sectors : List ℕ) → length sectors ≡ k * size
+    → All (Sized size) (storeAll img t block [] (pieces k size sectors) .items)
+stored-sized img t block k size sectors h = stored-ok img t block (Sized size) (pieces k size sectors) [] .keeps done (pieces-sized k size sectors h)
 
 -- ---- what an address reads as after a commit, by what was handed in for it and by what it read as before
 unfoldable pub handedOr : Option (List ℕ) → Answer (List ℕ) → Answer (List ℕ)
@@ -203,3 +226,15 @@ largest-bound b (p ∷ l) h f =
     let x : itemOrZero p < b = f 0 (omega arith) in
     let y : largestItem l < b = largest-bound b l h (λ j k. f (suc j) (omega arith)) in
     omega arith
+
+-- ---- the entries of the new table
+pub entries-sized : (shift : ℕ) (ps : List (Option Pointer)) → All (Sized tableEntryLength) (map (tableEntryBytes shift) ps)
+unfolding tableEntryBytes
+entries-sized shift ps = all-image (tableEntryBytes shift) sized ps
+  where
+    sized : (p : Option Pointer) → length (tableEntryBytes shift p) ≡ tableEntryLength
+    sized none = length-toLe tableEntryLength 0
+    sized (some p) = length-toLe tableEntryLength (encode shift p)
+
+pub length-entries : (shift : ℕ) (ps : List (Option Pointer)) → length (flatten (map (tableEntryBytes shift) ps)) ≡ tableEntryLength * length ps
+length-entries shift ps = omega (arith, length-flatten tableEntryLength _ (entries-sized shift ps), length-map ps (tableEntryBytes shift))

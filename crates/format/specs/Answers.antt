@@ -7,7 +7,11 @@ use Rattle.format.specs.declared.Counted.the-variants as count
 use Rattle.format.specs.declared.Located.{Located}
 use Rattle.format.specs.declared.Located.the-variants as locate
 use Rattle.format.specs.declared.Place.{Place}
+use Rattle.format.specs.declared.Placed.{Placed}
+use Rattle.format.specs.declared.Updated.{Updated}
+use Rattle.format.specs.declared.Updated.the-variants as update
 use Rattle.format.specs.Refusals.{Answer, refused, accepted}
+use Rattle.format.specs.Writing.{Outcome}
 
 unfoldable pub counted : Counted → Answer ℕ
 counted (count.Sectors n) = accepted n
@@ -22,3 +26,11 @@ located (locate.Refused r) = refused r
 unfoldable pub bytesRead : Answer (List ℕ) → List ℕ
 bytesRead (accepted sector) = sector
 bytesRead (refused r) = []
+
+unfoldable pub updated : Updated → Answer Placed
+updated (update.To p) = accepted p
+updated (update.Refused r) = refused r
+
+-- a call that writes: its answer, and every byte of the buffer afterwards
+unfoldable pub answered : Updated → List ℕ → Outcome
+answered u buffer = record { result = updated u; buffer = buffer }

@@ -57,3 +57,9 @@ pub struct Placed {
     pub used: u64,
     pub index: ByteOffset,
 }
+
+// What creating, committing and rolling back answer.
+pub enum Updated {
+    To(Placed),
+    Refused(Refusal),
+}

@@ -149,6 +149,21 @@ pub fn open(s: &[u8]) -> Opening
     open_index(s, ByteOffset(get(s, 48, 8)))
 }
 
+// All of opening's checks, with o for the index's offset.
+pub fn open_verdict(s: &[u8], o: ByteOffset) -> Verdict
+    ensures { λ r. ⌜ r ≡ openVerdict (now (s .entry)) (o .0) ⌝ }
+{
+    let v = index::header_verdict(s);
+    if let Verdict::Refuses(r) = v {
+        return Verdict::Refuses(r);
+    }
+    let opened = open_index(s, o);
+    match opened {
+        Opening::Refused(r) => Verdict::Refuses(r),
+        Opening::Opens(_) => Verdict::Passes,
+    }
+}
+
 // How many sectors an opened image has.
 pub fn count(t: Opened) -> u64
     ensures { λ r. ⌜ r ≡ contents t .count ⌝ }

@@ -7,7 +7,7 @@ ghost use lib.ListN.{length};
 ghost use Rattle.format.specs.declared.Verdict.the-variants.{Passes};
 ghost use Rattle.format.specs.Tests.{same, differs, atLeast, _and_};
 ghost use Rattle.format.specs.Refusals.{refusal, row, accepted, answer};
-ghost use Rattle.format.specs.Layouts.{DBLK, indexOffset, indexHeaderLength, entryCount, entryLength, entries, blockLength, sectorSize};
+ghost use Rattle.format.specs.Layouts.{DBLK, indexOffset, indexHeaderLength, entryCount, entryLength, entriesFrom, entries, blockLength, sectorSize};
 ghost use Rattle.format.specs.Opening.{isUserData, offsetsOf, openVerdict, opening};
 ghost use Rattle.format.specs.Reading.{has, pointerAt, blockMalformed, blockVerdict, itemVerdict, pointerVerdict, sectorVerdict, placeOf, locate};
 ghost use Rattle.format.specs.Facts.{BlockOk, ItemOk};
@@ -58,23 +58,31 @@ fn names_block(e: Entry, b: ByteOffset) -> bool
     false
 }
 
-// The index at o names a data block at b. At most one pass over its entries.
-fn is_indexed(s: &[u8], o: ByteOffset, b: ByteOffset) -> bool
-    requires { ⌜ o .0 + indexHeaderLength + entryLength * entryCount (now s) (o .0) ≤ length (now s) ⌝ }
-    ensures { λ r. ⌜ r ≡ has (b .0) (offsetsOf DBLK (entries (now (s .entry)) (o .0))) ⌝ }
+// One of the `left` index entries from `first` on names a data block at b. At most one pass over them.
+pub fn names(s: &[u8], first: ByteOffset, left: u64, b: ByteOffset) -> bool
+    requires { ⌜ first .0 + entryLength * left ≤ length (now s) ⌝ }
+    ensures { λ r. ⌜ r ≡ has (b .0) (offsetsOf DBLK (entriesFrom (now (s .entry)) left (first .0))) ⌝ }
 {
-    let index = o.0;
-    let mut left = get(s, index + 4, 8);
-    let mut p = index + 20;
+    let mut p = first.0;
+    let mut n = left;
     // an iteration for each entry, up to the first that names the block
-    while 0 < left {
+    while 0 < n {
         if names_block(entry(s, ByteOffset(p)), b) {
             return true;
         }
         p += 16;
-        left -= 1;
+        n -= 1;
     }
     false
+}
+
+// The index at o names a data block at b. At most one pass over its entries.
+pub fn is_indexed(s: &[u8], o: ByteOffset, b: ByteOffset) -> bool
+    requires { ⌜ o .0 + indexHeaderLength + entryLength * entryCount (now s) (o .0) ≤ length (now s) ⌝ }
+    ensures { λ r. ⌜ r ≡ has (b .0) (offsetsOf DBLK (entries (now (s .entry)) (o .0))) ⌝ }
+{
+    let index = o.0;
+    names(s, ByteOffset(index + 20), get(s, index + 4, 8), b)
 }
 
 // The block at b: check 25.
@@ -101,7 +109,7 @@ fn block_malformed(s: &[u8], b: ByteOffset) -> bool
 }
 
 // The block at b: checks 23 to 25, and 23 of its payload.
-fn block_verdict(s: &[u8], b: ByteOffset) -> Verdict
+pub fn block_verdict(s: &[u8], b: ByteOffset) -> Verdict
     ensures { λ r. ⌜ r ≡ blockVerdict (now (s .entry)) (b .0) ⌝ }
 {
     let block = b.0;
@@ -121,7 +129,7 @@ fn block_verdict(s: &[u8], b: ByteOffset) -> Verdict
 }
 
 // The item of p, in a block that passed: check 26.
-fn number_verdict(s: &[u8], p: Pointer) -> Verdict
+pub fn number_verdict(s: &[u8], p: Pointer) -> Verdict
     requires { ⌜ BlockOk (now s) (p .block .0) ⌝ }
     ensures { λ r. ⌜ r ≡ row (atLeast (p .item .0) (blockLength (now (s .entry)) (p .block .0) / sectorSize (now (s .entry)) (p .block .0))) (refusal 26) ⌝ }
 {
@@ -162,7 +170,7 @@ fn item_verdict(s: &[u8], p: Pointer) -> Verdict
 }
 
 // b is the block that is known.
-fn is_known(b: ByteOffset, known: ByteOffset) -> bool
+pub fn is_known(b: ByteOffset, known: ByteOffset) -> bool
     ensures { λ r. ⌜ r ≡ (differs (known .0) 0 and same (b .0) (known .0)) ⌝ }
 {
     if known.0 == 0 {
@@ -209,7 +217,7 @@ fn find(s: &[u8], t: Opened, a: SectorAddress, known: ByteOffset) -> Found
 }
 
 // Where the item of p lies.
-fn place(s: &[u8], p: Pointer) -> Place
+pub fn place(s: &[u8], p: Pointer) -> Place
     requires { ⌜ ItemOk (now s) (p .block .0) (p .item .0) ⌝ }
     ensures { λ r. ⌜ r ≡ placeOf (now (s .entry)) p ⌝ }
 {

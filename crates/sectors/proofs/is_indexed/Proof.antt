@@ -1,58 +1,16 @@
--- `sectors::is_indexed` meets its contract. The invariant: what is left gives what all gives. Assumes nothing.
+-- `sectors::is_indexed` meets its contract. Assumes nothing.
 use borrow.Author.Needs.{needs}
-use mathlib.Core.Path.{_≡_}
-use Prim.Native.Nat.{_+_, _*_, _≤_}
-use native.Mathlib.Omega.{arith}
-use lib.ListN.{length}
-use Rattle.format.specs.Layouts.{DBLK, entryCount, entryLength, entriesFrom, entries}
-use Rattle.format.specs.Opening.{offsetsOf}
-use Rattle.format.specs.Reading.{has}
-use Rattle.format.proofs.Chains.{by}
-use Rattle.sectors.proofs.Indexed.{indexed-found, indexed-goes, indexed-done}
+use Rattle.format.specs.Layouts.{entryCount, entries}
 use Rattle.sectors.proofs.is_indexed.Statement.{statement}
 use Rattle.sectors.proofs.is_indexed.Tie as tie
 
-abbrev Inv-loop : tie.InvT-loop
-Inv-loop s b index left₀ p₀ left p =
-    (p + entryLength * left ≤ length s) × (has (b .0) (offsetsOf DBLK (entriesFrom s left p)) ≡ has (b .0) (offsetsOf DBLK (entries s index)))
+names-requires : tie.Need-names-requires
+unfolding entryCount
+names-requires c κs = rw (c .get .ensures) (c .before .before .pre)
 
-abbrev μ-loop : tie.MeasureT-loop
-μ-loop s b index left₀ p₀ left p = left
-
-loop-holds : tie.Need-loop-holds Inv-loop μ-loop
+returns : tie.Need-returns
 unfolding entries entryCount
-loop-holds c = (omega arith, rw (c .get .ensures))
-
-returns : tie.Need-returns Inv-loop μ-loop
-returns c =
-    indexed-found _ _ _ _ _ (c .before .before .before .before .loop .inv .1) (omega arith)
-    (rw (c .before .before .entry .ensures) at (by (c .before .names-block .ensures) (c .if1 .taken)))
-
-loop-again : tie.Need-loop-again Inv-loop μ-loop
-loop-again c = (
-  omega arith,
-  indexed-goes _ _ _ _ _ (c .before .before .before .before .loop .inv .1) (omega arith)
-      (rw (c .before .before .entry .ensures) at (by (c .before .names-block .ensures) (c .if1 .left))),
-)
-
-returns-2 : tie.Need-returns-2 Inv-loop μ-loop
-returns-2 c = indexed-done _ _ _ _ _ (c .before .loop .inv .1) (omega arith)
+returns c = rw (← c .before .get .ensures) (c .names .ensures)
 
 pub is-indexed-spec : {M : Type 1} → statement M
-is-indexed-spec =
-    tie.close
-    (tie.spec
-    Inv-loop
-    μ-loop
-    (λ c. search needs)
-    (λ c κs. search needs)
-    (λ c. search needs)
-    loop-holds
-    (λ c κs. search needs)
-    (λ c κs. search needs)
-    returns
-    (λ c. search needs)
-    (λ c. search needs)
-    (λ c. search needs)
-    loop-again
-    returns-2)
+is-indexed-spec = tie.close (tie.spec (λ c. search needs) (λ c. search needs) (λ c κs. search needs) names-requires returns)

@@ -1,0 +1,337 @@
+-- What a commit appends, by what its passes found: where it stands, and what the commit leaves. Assumes nothing.
+use mathlib.Core.Bool.{false}
+use mathlib.Core.List.{List, [], _∷_, _++_, append-assoc}
+use mathlib.Core.Option.{Option}
+use mathlib.Core.Path.{_≡_, refl, sym, ap, _∙_, subst}
+use Prim.Native.Nat.{ℕ, _+_, _*_, _^_, _≤_, _<_}
+use native.Mathlib.Omega.{arith}
+use lib.ListN.{length, take, length-append}
+use lib.Seq.{length-take-le}
+use Rattle.fields.specs.Bytes.{part, overwrite}
+use Rattle.fields.proofs.Overwrite.{length-overwrite, overwrite-then, take-overwrite}
+use Rattle.format.specs.declared.Placed.{Placed}
+use Rattle.format.specs.declared.Pointer.{Pointer}
+use Rattle.format.specs.declared.Updated.the-variants as update
+use Rattle.format.specs.Lists.{All, done}
+use Rattle.format.specs.Layouts.{headerLength, indexOffset, entryCount, entries, indexBytes, indexHeaderLength, entryLength, blockHeaderLength, tableHeaderLength, tableHeader, tableBytes, tableEntryLength}
+use Rattle.format.specs.Refusals.{refusal, row, _then_, accepted}
+use Rattle.format.specs.Opening.{Opened, opened, opening}
+use Rattle.format.specs.Writing.{mostAddresses, longestBuffer, placed, setHeader}
+use Rattle.format.specs.Committing.{anyOutside, sectorsVerdict, discVerdict, pieces, Stored, storedFor, pointersFor, largestItem, shiftFor, newBlock, newBlockEntry, newTable, keptEntries, Appended, tableStart, indexStart, usedAfter, appendedFor, appended, appendedBytes, append, commitVerdict, commit}
+use Rattle.format.specs.Answers.{answered}
+use Rattle.format.proofs.Tests.{below-true, below-iff}
+use Rattle.format.proofs.Chains.{stop-last, on-last, goes}
+use Rattle.format.proofs.Answers.{outcome-stops, outcome-done}
+use Rattle.format.proofs.Checks.{OpenOk, ArgumentsOk, DiscOk, arguments-ok, disc-ok, open-ok}
+use Rattle.format.proofs.Refusals.{row-passes, then-rest, answer-accepted}
+use Rattle.format.proofs.Storing.{stored-few, stored-sized, length-pieces, length-newPointers, length-entries}
+use Rattle.format.proofs.Appended.{shift-small, shift-holds}
+use Rattle.format.proofs.Written.{length-indexBytes}
+use Rattle.planning.specs.declared.Planned.{Planned}
+use Rattle.planning.specs.Plans.{Commits, storedBy, planFor}
+use Rattle.storing.specs.Stores.{Stores, pointersBy, entriesBytes, stored}
+use Rattle.indexing.specs.Entries.{blockEntry, newEntries, Indexes}
+use Rattle.appending.specs.Appends.{Passed, blockLengthFor, headerFor, layoutFor, Data, Fits}
+use Rattle.appending.specs.declared.Layout.{Layout}
+use Rattle.appending.proofs.Sealed.{length-newBlock, length-newTable, block-room, data-sealed}
+
+block-entry : (block : ℕ) (items : List (List ℕ)) → newBlockEntry block items ≡ blockEntry block (length items)
+unfolding newBlockEntry blockEntry
+block-entry block [] = refl
+block-entry block (i ∷ is) = refl
+
+module _ (img : List ℕ) (t : Opened) (addresses : List ℕ) (size : ℕ) (sectors : List ℕ) (o : opened img (indexOffset img) ≡ t)
+    (whole : length sectors ≡ length addresses * size) where
+  abbrev items : List (List ℕ)
+  items = storedBy img t addresses size sectors .items
+
+  abbrev new : Appended
+  new = appended img (indexOffset img) addresses size sectors
+
+  abbrev l : Layout
+  l = layoutFor img t size (length items)
+
+  pub appended-is : new ≡ appendedFor (length img) size (entries img (indexOffset img)) items (pointersBy img t addresses size sectors)
+  unfolding appended storedFor pointersFor
+  appended-is = rw o
+
+  pub table-is : tableStart (length img) (newBlock size items) ≡ l .table .0
+  unfolding tableStart layoutFor
+  table-is = ap (λ n. length img + n) (length-newBlock size items (stored-sized img t (length img) (length addresses) size sectors whole))
+
+  entries-are : keptEntries (tableStart (length img) (newBlock size items)) (entries img (indexOffset img)) ++ newBlockEntry (length img) items
+      ≡ newEntries img (indexOffset img) (l .table .0) (length items)
+  unfolding newEntries
+  entries-are = rw (table-is, block-entry (length img) items)
+
+  pub block-is : new .block ≡ newBlock size items
+  unfolding appendedFor
+  block-is = ap (λ (a : Appended). a .block) appended-is
+
+  pub newTable-is : new .table ≡ newTable (pointersBy img t addresses size sectors)
+  unfolding appendedFor
+  newTable-is = ap (λ (a : Appended). a .table) appended-is
+
+  pub index-is : new .index ≡ indexBytes (newEntries img (indexOffset img) (l .table .0) (length items))
+  unfolding appendedFor
+  index-is = ap (λ (a : Appended). a .index) appended-is ∙ ap indexBytes entries-are
+
+  pub indexStart-is : indexStart (length img) new ≡ l .index .0
+  unfolding indexStart layoutFor
+  indexStart-is =
+      ap (λ b. tableStart (length img) b + length (new .table)) block-is ∙ ap (λ n. n + length (new .table)) table-is
+      ∙ ap (λ n. l .table .0 + n) (ap length newTable-is ∙ length-newTable _ ∙ ap (λ n. tableHeaderLength + tableEntryLength * n) (length-newPointers img t addresses _ (t .count) 0))
+
+  pub usedAfter-is : usedAfter (length img) new ≡ l .end
+  unfolding usedAfter layoutFor
+  usedAfter-is =
+      ap (λ n. n + length (new .index)) indexStart-is ∙ ap (λ n. l .index .0 + n) (ap length index-is ∙ length-indexBytes _)
+
+-- ---- the layout, from its parts
+module _ (img : List ℕ) {o : ℕ} (e : o ≡ indexOffset img) where
+  pub kept-few : {kept : ℕ} → kept ≤ entryCount img o → OpenOk img (indexOffset img) → entryLength * kept ≤ length img
+  kept-few h k = omega (arith, rw e at h, k .index .fits)
+
+  pub layout-is : (t : Opened) (size stored : ℕ) {kept count block more : ℕ} → ((table : ℕ) → kept ≡ length (keptEntries table (entries img o)))
+      → block ≡ blockLengthFor stored size → count ≡ t .count → ((place : ℕ) → more ≡ length (blockEntry place stored))
+      → _≡_ {A = Layout}
+      (record {
+        table = record { 0 = length img + block };
+        index = record { 0 = length img + block + (49 + 8 * count) };
+        end = length img + block + (49 + 8 * count) + (20 + 16 * (kept + more));
+        kept = kept;
+      })
+      (layoutFor img t size stored)
+  unfolding layoutFor newEntries
+  layout-is t size stored {kept} {count} {block} {more} k b c m =
+      let table : ℕ = length img + blockLengthFor stored size in
+      let k′ : kept ≡ length (keptEntries table (entries img (indexOffset img))) = rw e at (k table) in
+      let n : kept + more ≡ length (newEntries img (indexOffset img) table stored) =
+      omega (arith, k′, m (length img), length-append (keptEntries table (entries img (indexOffset img))) (blockEntry (length img) stored)) in
+      λ i. record {
+        table = record { 0 = length img + b i };
+        index = record { 0 = length img + b i + (49 + 8 * c i) };
+        end = length img + b i + (49 + 8 * c i) + (20 + 16 * n i);
+        kept = k′ i;
+      }
+
+-- ---- the checks of a disc that is opened as t
+pub disc-opened : (img : List ℕ) (t : Opened) (addresses : List ℕ) → opening img ≡ accepted t
+    → discVerdict img (indexOffset img) addresses ≡ (row (anyOutside (t .count) addresses) (refusal 20) then sectorsVerdict img (entries img (indexOffset img)) t)
+unfolding discVerdict opening
+disc-opened img t addresses e =
+    let (v, o) = answer-accepted _ _ t e in
+    then-rest _ _ v ∙ ap (λ (u : Opened). row (anyOutside (u .count) addresses) (refusal 20) then sectorsVerdict img (entries img (indexOffset img)) u) o
+
+-- ---- the block and the table
+module _ {buf : List ℕ} {used : ℕ} {t : Opened} {addresses : List ℕ} {size : ℕ} {sectors : List ℕ} {table shift n : ℕ}
+    (d : Data buf used t addresses size sectors table shift n) where
+  pub data-room : used + blockHeaderLength + n * size ≤ length buf
+  data-room = rw (d .counted) (omega (arith, d .stores .items, d .stores .entries))
+
+  pub data-written : {b₁ b₂ b₃ : List ℕ} {count : ℕ} → b₁ ≡ stored buf used t addresses size sectors (table + tableHeaderLength) shift
+      → b₂ ≡ overwrite b₁ used (headerFor n size (part b₁ (used + blockHeaderLength) (n * size))) → count ≡ t .count
+      → b₃ ≡ overwrite b₂ table (tableHeader shift count (part b₂ (table + tableHeaderLength) (tableEntryLength * count)))
+      → b₃ ≡ overwrite buf used (newBlock size (storedBy (take used buf) t addresses size sectors .items) ++ newTable (pointersBy (take used buf) t addresses size sectors))
+  unfolding stored newTable
+  data-written {b₁} {b₂} {b₃} {count} e₁ e₂ c e₃ =
+      let img : List ℕ = take used buf in
+      let items : List (List ℕ) = storedBy img t addresses size sectors .items in
+      let ps : List (Option Pointer) = pointersBy img t addresses size sectors in
+      let sized = stored-sized img t (length img) (length addresses) size sectors (d .stores .commits .whole) in
+      let many : length ps ≡ t .count = length-newPointers img t addresses _ (t .count) 0 in
+      let behind : table ≡ used + length (newBlock size items) = d .behind ∙ ap (λ m. used + blockLengthFor m size) (d .counted) ∙ ap (λ m. used + m) (sym (length-newBlock size items sized)) in
+      data-sealed buf used size table shift (length ps) items _ sized (length-entries shift ps) behind (d .stores .items)
+      (omega (arith, d .stores .entries, many)) e₁ (rw (d .counted) at e₂) (rw (c ∙ sym many) at e₃)
+      ∙ ap (λ m. overwrite buf used (newBlock size items ++ tableBytes m (length ps) (entriesBytes m ps))) (d .least)
+
+-- ---- a commit all of whose checks but 35 have passed
+module _ (buf : List ℕ) (used : ℕ) (t : Opened) (addresses : List ℕ) (size : ℕ) (sectors : List ℕ) (passed : Passed buf used t addresses size sectors) where
+  abbrev img : List ℕ
+  img = take used buf
+
+  abbrev st : Stored
+  st = storedBy img t addresses size sectors
+
+  arguments : ArgumentsOk buf used addresses size sectors
+  arguments = arguments-ok buf used addresses size sectors .0 (passed .arguments)
+
+  disc : DiscOk img (indexOffset img) addresses
+  disc = disc-ok img (indexOffset img) addresses .0 (passed .disc)
+
+  opened-as : opened img (indexOffset img) ≡ t
+  unfolding opening
+  opened-as = answer-accepted _ _ t (passed .opens) .1
+
+  pub length-img : length img ≡ used
+  length-img = length-take-le used buf (arguments .bufferOk .inside)
+
+  inside : anyOutside (t .count) addresses ≡ false
+  inside = rw opened-as at (disc .inside)
+
+  -- what the two passes ask for
+  pub commits : Commits img t addresses size sectors
+  commits =
+      record {
+        checked = (passed .opens, sym (then-rest _ _ (row-passes _ (refusal 20) inside)) ∙ sym (disc-opened img t addresses (passed .opens)) ∙ passed .disc);
+        short = omega (arith, length-img, arguments .bufferOk .inside, arguments .bufferOk .long);
+        rises = arguments .rises;
+        inside = inside;
+        few = arguments .few;
+        pos = arguments .pos;
+        small = arguments .small;
+        whole = arguments .whole;
+      }
+
+  abbrev added : Appended
+  added = appended img (indexOffset img) addresses size sectors
+
+  abbrev at : Layout
+  at = layoutFor img t size (length (st .items))
+
+  pub image-inside : used ≤ length buf
+  image-inside = arguments .bufferOk .inside
+
+  pub image-low : headerLength ≤ used
+  image-low = omega (arith, length-img, disc .sound .opens .header .long)
+
+  -- the largest item number of the new table, with the disc opened as u
+  abbrev largest : Opened → ℕ
+  largest u = largestItem (pointersBy img u addresses size sectors)
+
+  pub items-few : length (st .items) ≤ mostAddresses
+  items-few = omega (arith, stored-few img t (length img) (pieces (length addresses) size sectors) [], length-pieces (length addresses) size sectors, arguments .few)
+
+  -- ---- where there is room, the block and the table can be written
+  module _ (room : at .end ≤ length buf) where
+    pub stores : Stores buf used t addresses size sectors (at .table .0 + tableHeaderLength) (shiftFor (largest t))
+    unfolding layoutFor storedFor pointersFor
+    stores =
+        let few = subst (λ (u : Opened). length (storedBy img u addresses size sectors .items) ≤ longestBuffer) (sym opened-as) (omega (arith, items-few)) in
+        record {
+          commits = commits;
+          image = image-inside;
+          short = arguments .bufferOk .long;
+          items = omega (arith, length-img, block-room (length (st .items)) size);
+          entries = omega arith;
+          low = subst (λ (u : Opened). shiftFor (largest u) ≤ 32) opened-as (shift-small img (indexOffset img) addresses size sectors (disc .sound) (commits .short) few);
+          fits = subst (λ (u : Opened). largest u < 2 ^ shiftFor (largest u)) opened-as (shift-holds img (indexOffset img) addresses size sectors (disc .sound) (commits .short) few);
+        }
+
+    pub indexes : (b : List ℕ) → length b ≡ length buf → take used b ≡ img
+        → Indexes b used (indexOffset img) (at .index .0) (at .table .0) (at .kept) (length (st .items))
+    unfolding layoutFor
+    indexes b l e =
+        record {
+          image = omega (arith, image-inside);
+          inside = rw e (omega (arith, length-img, disc .sound .opens .index .fits));
+          past = omega (arith, length-img);
+          counted = rw e;
+          room = rw e (omega arith);
+        }
+
+  -- ---- the buffer once the index and the header's fields are written too
+  index-start : indexStart used added ≡ at .index .0
+  index-start = subst (λ n. indexStart n added ≡ at .index .0) length-img (indexStart-is img t addresses size sectors opened-as (arguments .whole))
+
+  used-after : usedAfter used added ≡ at .end
+  used-after = subst (λ n. usedAfter n added ≡ at .end) length-img (usedAfter-is img t addresses size sectors opened-as (arguments .whole))
+
+  pub all-written : (time : ℕ) {b₁ b₂ b₃ : List ℕ} → b₁ ≡ overwrite buf used (newBlock size (st .items) ++ newTable (pointersBy img t addresses size sectors))
+      → b₂ ≡ overwrite b₁ (at .index .0) (indexBytes (newEntries (take used b₁) (indexOffset img) (at .table .0) (length (st .items))))
+      → b₃ ≡ setHeader b₂ (at .index .0) time → b₃ ≡ setHeader (overwrite buf used (appendedBytes added)) (indexStart used added) time
+  unfolding appendedBytes indexStart tableStart
+  all-written time {b₁} {b₂} {b₃} e₁ e₂ e₃ =
+      let is-block : added .block ≡ newBlock size (st .items) = block-is img t addresses size sectors opened-as (arguments .whole) in
+      let is-table : added .table ≡ newTable (pointersBy img t addresses size sectors) = newTable-is img t addresses size sectors opened-as (arguments .whole) in
+      let is-index : added .index ≡ indexBytes (newEntries img (indexOffset img) (at .table .0) (length (st .items))) = index-is img t addresses size sectors opened-as (arguments .whole) in
+      let f₁ : b₁ ≡ overwrite buf used (added .block ++ added .table) = e₁ ∙ sym (ap (λ l. overwrite buf used (l ++ added .table)) is-block ∙ ap (λ l. overwrite buf used (newBlock size (st .items) ++ l)) is-table) in
+      let kept : take used b₁ ≡ img = ap (take used) f₁ ∙ take-overwrite buf used (added .block ++ added .table) used (omega arith) in
+      let start : at .index .0 ≡ used + length (added .block ++ added .table) = sym index-start ∙ rw length-append (omega arith) in
+      let f₂ : b₂ ≡ overwrite buf used (added .block ++ (added .table ++ added .index)) =
+      e₂ ∙ ap (λ l. overwrite b₁ (at .index .0) (indexBytes (newEntries l (indexOffset img) (at .table .0) (length (st .items))))) kept
+      ∙ ap (λ l. overwrite b₁ (at .index .0) l) (sym is-index) ∙ ap (λ n. overwrite b₁ n (added .index)) start
+      ∙ ap (λ l. overwrite l (used + length (added .block ++ added .table)) (added .index)) f₁ ∙ overwrite-then buf used (added .block ++ added .table) (added .index)
+      ∙ ap (overwrite buf used) (append-assoc (added .block) (added .table) (added .index)) in
+      e₃ ∙ ap (λ l. setHeader l (at .index .0) time) f₂ ∙ ap (λ n. setHeader (overwrite buf used (added .block ++ (added .table ++ added .index))) n time) (sym index-start)
+
+  -- ---- what the commit answers
+  pub no-room : (time : ℕ) → length buf < at .end → answered (update.Refused (refusal 35)) buf ≡ commit buf used addresses size sectors time
+  unfolding commit append commitVerdict
+  no-room time h =
+      outcome-stops buf _ _
+      (goes (sym (passed .arguments)) (goes (sym (passed .disc)) (stop-last (below-true _ _ (omega (arith, used-after))))))
+
+  pub accepted-commit : (time : ℕ) {p : Placed} {after : List ℕ} → at .end ≤ length buf → p ≡ placed (at .end) (at .index .0)
+      → after ≡ setHeader (overwrite buf used (appendedBytes added)) (indexStart used added) time
+      → answered (update.To p) after ≡ commit buf used addresses size sectors time
+  unfolding commit append commitVerdict
+  accepted-commit time h e f =
+      outcome-done buf (goes (sym (passed .arguments)) (goes (sym (passed .disc)) (on-last _ (below-iff .1 (omega (arith, used-after))))))
+      (e ∙ sym (ap (λ n. placed n (indexStart used added)) used-after ∙ ap (λ n. placed (at .end) n) index-start)) f
+
+-- ---- by its plan
+module _ {buf : List ℕ} {used : ℕ} {t : Opened} {addresses : List ℕ} {size : ℕ} {sectors : List ℕ} {plan : Planned}
+    (passed : Passed buf used t addresses size sectors) (planned : plan ≡ planFor (take used buf) t addresses size sectors) where
+  stored-planned : plan .stored ≡ length (storedBy (take used buf) t addresses size sectors .items)
+  unfolding planFor
+  stored-planned = ap (λ (p : Planned). p .stored) planned
+
+  pub planned-few : plan .stored ≤ mostAddresses
+  planned-few = rw stored-planned (items-few buf used t addresses size sectors passed)
+
+  pub refused-35 : {place : Layout} (time : ℕ) → place ≡ layoutFor (take used buf) t size (plan .stored) → length buf < place .end
+      → answered (update.Refused (refusal 35)) buf ≡ commit buf used addresses size sectors time
+  refused-35 time e h =
+      no-room buf used t addresses size sectors passed time (rw (ap (λ (l : Layout). l .end) (e ∙ ap (layoutFor (take used buf) t size) stored-planned)) at h)
+
+-- ---- all of it, as planned and laid out
+module _ {buf : List ℕ} {used : ℕ} {t : Opened} {addresses : List ℕ} {size : ℕ} {sectors : List ℕ} {plan : Planned} {place : Layout}
+    (f : Fits buf used t addresses size sectors plan place) where
+  stored-is : plan .stored ≡ length (storedBy (take used buf) t addresses size sectors .items)
+  stored-is = stored-planned (f .passed) (f .planned)
+
+  largest-is : plan .largest .0 ≡ largestItem (pointersBy (take used buf) t addresses size sectors)
+  unfolding planFor
+  largest-is = ap (λ (p : Planned). p .largest .0) (f .planned)
+
+  place-is : place ≡ layoutFor (take used buf) t size (length (storedBy (take used buf) t addresses size sectors .items))
+  place-is = f .laid ∙ ap (layoutFor (take used buf) t size) stored-is
+
+  room : layoutFor (take used buf) t size (length (storedBy (take used buf) t addresses size sectors .items)) .end ≤ length buf
+  room = rw (ap (λ (l : Layout). l .end) place-is) at (f .room)
+
+  pub fits-data : {shift : ℕ} → shift ≡ shiftFor (plan .largest .0) → Data buf used t addresses size sectors (place .table .0) shift (plan .stored)
+  unfolding layoutFor
+  fits-data {shift} e =
+      let least : shift ≡ shiftFor (largestItem (pointersBy (take used buf) t addresses size sectors)) = e ∙ ap shiftFor largest-is in
+      let l : place .table .0 ≡ length (take used buf) + blockLengthFor (plan .stored) size = ap (λ (p : Layout). p .table .0) (f .laid) in
+      record {
+        stores = rw (least, ap (λ (p : Layout). p .table .0) place-is) (stores buf used t addresses size sectors (f .passed) room);
+        counted = stored-is;
+        behind = l ∙ ap (λ n. n + blockLengthFor (plan .stored) size) (length-img buf used t addresses size sectors (f .passed));
+        least = least;
+      }
+
+  pub fits-index : {b : List ℕ} {o : ℕ} → o ≡ indexOffset (take used buf)
+      → b ≡ overwrite buf used (newBlock size (storedBy (take used buf) t addresses size sectors .items) ++ newTable (pointersBy (take used buf) t addresses size sectors))
+      → Indexes b used o (place .index .0) (place .table .0) (place .kept) (plan .stored)
+  fits-index {b} {o} e w =
+      rw (e, place-is, stored-is)
+      (indexes buf used t addresses size sectors (f .passed) room b (ap length w ∙ length-overwrite buf used _) (ap (take used) w ∙ take-overwrite buf used _ used (omega arith)))
+
+  pub fits-written : (time : ℕ) {b₁ b₂ b₃ : List ℕ} {o : ℕ} → o ≡ indexOffset (take used buf)
+      → b₁ ≡ overwrite buf used (newBlock size (storedBy (take used buf) t addresses size sectors .items) ++ newTable (pointersBy (take used buf) t addresses size sectors))
+      → b₂ ≡ overwrite b₁ (place .index .0) (indexBytes (newEntries (take used b₁) o (place .table .0) (plan .stored)))
+      → b₃ ≡ setHeader b₂ (place .index .0) time
+      → b₃ ≡ setHeader (overwrite buf used (appendedBytes (appended (take used buf) (indexOffset (take used buf)) addresses size sectors)))
+      (indexStart used (appended (take used buf) (indexOffset (take used buf)) addresses size sectors)) time
+  fits-written time e e₁ e₂ e₃ =
+      all-written buf used t addresses size sectors (f .passed) time e₁ (rw (e, place-is, stored-is) at e₂) (rw place-is at e₃)
+
+  pub fits-answers : (time : ℕ) {after : List ℕ}
+      → after ≡ setHeader (overwrite buf used (appendedBytes (appended (take used buf) (indexOffset (take used buf)) addresses size sectors)))
+      (indexStart used (appended (take used buf) (indexOffset (take used buf)) addresses size sectors)) time
+      → answered (update.To (placed (place .end) (place .index .0))) after ≡ commit buf used addresses size sectors time
+  fits-answers time e =
+      accepted-commit buf used t addresses size sectors (f .passed) time room (ap (λ (l : Layout). placed (l .end) (l .index .0)) place-is) e

@@ -1,0 +1,79 @@
+-- `appending::lay_out` meets its contract. Assumes nothing.
+use native.Mathlib.Omega.{arith}
+use borrow.Author.Needs.{needs}
+use mathlib.Core.Path.{_≡_}
+use denote.Ref.{now}
+use Rattle.format.specs.Layouts.{indexOffset, entryCount}
+use Rattle.format.proofs.Checks.{OpenOk}
+use Rattle.opening.proofs.Accepted.{opens, table-inside}
+use Rattle.opening.specs.Answers.{contents}
+use Rattle.appending.specs.Appends.{layoutFor}
+use Rattle.appending.proofs.Appended.{kept-few, layout-is}
+use Rattle.appending.proofs.lay_out.Statement.{statement}
+use Rattle.appending.proofs.lay_out.Tie as tie
+
+get-requires : tie.Need-get-requires
+get-requires c κs = omega (arith, opens _ _ (c .before .pre .0) .header .long)
+
+count-kept-requires : tie.Need-count-kept-requires
+unfolding indexOffset
+count-kept-requires c κs = rw (c .get .ensures) (opens _ _ (c .before .before .pre .0) .index .fits)
+
+mul-index : tie.Need-mul-index
+mul-index c = omega (arith, table-inside _ _ (c .before .before .before .before .before .pre .0))
+
+add-index : tie.Need-add-index
+add-index c = omega (arith, table-inside _ _ (c .before .before .before .before .before .pre .0))
+
+add-index-2 : tie.Need-add-index-2
+add-index-2 c = omega (arith, table-inside _ _ (c .before .before .before .before .before .pre .0))
+
+add-end : tie.Need-add-end
+unfolding indexOffset
+add-end c =
+    let d = c .before .before .before in
+    omega (arith, kept-few _ (d .before .get .ensures) (d .count-kept .ensures .1) (opens _ _ (d .before .before .before .pre .0)))
+
+mul-end : tie.Need-mul-end
+unfolding indexOffset
+mul-end c =
+    let d = c .before .before .before in
+    omega (arith, kept-few _ (d .before .get .ensures) (d .count-kept .ensures .1) (opens _ _ (d .before .before .before .pre .0)))
+
+add-end-2 : tie.Need-add-end-2
+unfolding indexOffset
+add-end-2 c =
+    let d = c .before .before .before in
+    omega (arith, kept-few _ (d .before .get .ensures) (d .count-kept .ensures .1) (opens _ _ (d .before .before .before .pre .0)))
+
+add-end-3 : tie.Need-add-end-3
+unfolding indexOffset
+add-end-3 c =
+    let d = c .before .before .before in
+    let k = kept-few _ (d .before .get .ensures) (d .count-kept .ensures .1) (opens _ _ (d .before .before .before .pre .0)) in
+    omega (arith, table-inside _ _ (d .before .before .before .pre .0))
+
+returns : tie.Need-returns
+unfolding indexOffset
+returns c =
+    let d = c .before .before .before in
+    layout-is _ (d .before .get .ensures) _ _ _ (d .count-kept .ensures .0) (c .before .before .block-length .ensures .0) (c .before .count .ensures) (c .block-entries .ensures .0)
+
+pub lay-out-spec : {M : Type 1} → statement M
+lay-out-spec =
+    tie.close
+    (tie.spec
+    get-requires
+    count-kept-requires
+    (λ c κs. search needs)
+    (λ c. search needs)
+    (λ c κs. search needs)
+    mul-index
+    add-index
+    add-index-2
+    (λ c κs. search needs)
+    add-end
+    mul-end
+    add-end-2
+    add-end-3
+    returns)

@@ -1,0 +1,112 @@
+// Internal: the checks of a call's arguments, before an image is looked at: 30 to 34 of document 01.
+ghost use mathlib.Core.Bool.{not};
+ghost use mathlib.Core.Path.{_≡_};
+ghost use Prim.Native.Nat.{_*_, _≤_};
+ghost use lib.ListN.{length};
+ghost use Rattle.format.specs.Tests.{same, below, _or_};
+ghost use Rattle.format.specs.Writing.{mostSectors, largestSize, mostAddresses, bufferVerdict};
+ghost use Rattle.format.specs.Creating.{createVerdict};
+ghost use Rattle.format.specs.Committing.{rising, argumentsVerdict};
+use format::Refusal;
+use format::Verdict;
+
+const LONGEST_BUFFER: u64 = 4294967296;
+
+// A new image's sector count: check 30.
+fn count_refused(count: u64) -> bool
+    ensures { λ r. ⌜ r ≡ (same count 0 or below mostSectors count) ⌝ }
+{
+    if count == 0 {
+        return true;
+    }
+    1048576 < count
+}
+
+// A creation: 31, 30, 33, 35. The image has 157 + 8 x count bytes.
+pub fn create_verdict(buffer: &[u8], count: u64, application: &[u8]) -> Verdict
+    ensures { λ r. ⌜ r ≡ createVerdict (now (buffer .entry)) count (now (application .entry)) ⌝ }
+{
+    let length = buffer.len() as u64;
+    if LONGEST_BUFFER < length {
+        return Verdict::Refuses(Refusal { number: 31 });
+    }
+    if count_refused(count) {
+        return Verdict::Refuses(Refusal { number: 30 });
+    }
+    if application.len() != 32 {
+        return Verdict::Refuses(Refusal { number: 33 });
+    }
+    if length < 157 + 8 * count {
+        return Verdict::Refuses(Refusal { number: 35 });
+    }
+    Verdict::Passes
+}
+
+// The buffer of a commit or a rollback: 31, 32.
+pub fn buffer_verdict(buffer: &[u8], used: u64) -> Verdict
+    ensures { λ r. ⌜ r ≡ bufferVerdict (now (buffer .entry)) used ⌝ }
+{
+    let length = buffer.len() as u64;
+    if LONGEST_BUFFER < length {
+        return Verdict::Refuses(Refusal { number: 31 });
+    }
+    if length < used {
+        return Verdict::Refuses(Refusal { number: 32 });
+    }
+    Verdict::Passes
+}
+
+// A commit's sector size and number of addresses: check 30.
+fn size_refused(size: u64, count: u64) -> bool
+    ensures { λ r. ⌜ r ≡ (same size 0 or below largestSize size or below mostAddresses count) ⌝ }
+{
+    if size == 0 {
+        return true;
+    }
+    if 65536 < size {
+        return true;
+    }
+    65536 < count
+}
+
+// Whether the addresses are strictly rising.
+fn is_rising(addresses: &[u64]) -> bool
+    ensures { λ r. ⌜ r ≡ rising (now (addresses .entry)) ⌝ }
+{
+    let mut k: usize = 1;
+    // an iteration for each address but the first, up to the first that is not above the one before it
+    while k < addresses.len() {
+        if addresses[k] <= addresses[k - 1] {
+            return false;
+        }
+        k += 1;
+    }
+    true
+}
+
+// A commit's arguments: 31, 32, 30, 33, 34. One pass over the addresses.
+pub fn commit_verdict(
+    buffer: &[u8],
+    used: u64,
+    addresses: &[u64],
+    size: u64,
+    sectors: &[u8],
+) -> Verdict
+    ensures { λ r. ⌜ r ≡ argumentsVerdict (now (buffer .entry)) used (now (addresses .entry)) size (now (sectors .entry)) ⌝ }
+{
+    let v = buffer_verdict(buffer, used);
+    if let Verdict::Refuses(r) = v {
+        return Verdict::Refuses(r);
+    }
+    let count = addresses.len() as u64;
+    if size_refused(size, count) {
+        return Verdict::Refuses(Refusal { number: 30 });
+    }
+    if sectors.len() as u64 != count * size {
+        return Verdict::Refuses(Refusal { number: 33 });
+    }
+    if is_rising(addresses) {
+        return Verdict::Passes;
+    }
+    Verdict::Refuses(Refusal { number: 34 })
+}

@@ -1,0 +1,5 @@
+mod Outside
+mod Firsts
+mod Forms
+mod Looked
+mod Whole

@@ -1,0 +1,87 @@
+-- `checking::first_form` meets its contract. The invariant: every address so far passes. Assumes nothing.
+use native.Mathlib.Omega.{arith}
+use borrow.Author.Count.{below-more}
+use borrow.Author.Needs.{needs}
+use borrow.Author.Tests.{not-true, not-false}
+use mathlib.Core.Logic.{inl, inr}
+use mathlib.Core.Path.{_≡_, refl, sym, _∙_}
+use Prim.Native.Nat.{ℕ, _-_, _≤_, _<_}
+use Rattle.format.specs.declared.Verdict.the-variants.{Passes}
+use Rattle.format.proofs.Chains.{by}
+use Rattle.opening.specs.Answers.{contents}
+use Rattle.checking.specs.Checked.{indexed, Formed, addressVerdict}
+use Rattle.checking.proofs.Firsts.{first-at, first-none}
+use Rattle.checking.proofs.Forms.{form-ok, form-only, not-written}
+use Rattle.checking.proofs.first_form.Statement.{statement}
+use Rattle.checking.proofs.first_form.Tie as tie
+
+abbrev Inv-loop : tie.InvT-loop
+Inv-loop s t count known₀ a₀ known a =
+    (a ≤ contents t .count) × ((i : ℕ) → i < a → addressVerdict s (contents t) (indexed s) i ≡ Passes) × Formed s (known .0)
+
+abbrev μ-loop : tie.MeasureT-loop
+μ-loop s t count known₀ a₀ known a = contents t .count - a
+
+loop-holds : tie.Need-loop-holds Inv-loop μ-loop
+loop-holds c = (omega arith, (λ i l. absurd (omega arith)), inl refl)
+
+not-written-requires : tie.Need-not-written-requires Inv-loop μ-loop
+not-written-requires c κs = (c .before .before .before .before .pre, omega arith)
+
+pointer-at-requires : tie.Need-pointer-at-requires Inv-loop μ-loop
+pointer-at-requires c κs = (c .before .before .before .before .before .before .pre, omega arith)
+
+form-verdict-requires : tie.Need-form-verdict-requires Inv-loop μ-loop
+form-verdict-requires c κs = (c .before .before .before .before .before .before .before .pre, c .before .before .before .before .loop .inv .2)
+
+returns : tie.Need-returns Inv-loop μ-loop
+returns c =
+    let f = c .before .before .before in
+    let w = f .before .before .before in
+    first-at _ _ _ _ (omega arith) (w .before .before .loop .inv .1)
+    (form-only _ _ _ (by (w .not-written .ensures) (not-true _ (f .before .before .if1 .taken)))
+    ∙ sym (rw (f .before .pointer-at .ensures) at (by (c .before .v .given .1) (f .form-verdict .ensures))))
+
+loop-again : tie.Need-loop-again Inv-loop μ-loop
+loop-again c =
+    let f = c .before .before .before in
+    let w = f .before .before .before in
+    let k = by (c .before .enum-told .given .1) (f .form-verdict .ensures) in
+    let ok = form-ok _ _ .0 (sym k) in (
+      omega arith,
+      below-more _ _ (w .before .before .loop .inv .1)
+          (form-only _ _ _ (by (w .not-written .ensures) (not-true _ (f .before .before .if1 .taken))) ∙ sym (rw (f .before .pointer-at .ensures) at k)),
+      inr (ok .0, ok .1 .0),
+    )
+
+loop-again-2 : tie.Need-loop-again-2 Inv-loop μ-loop
+loop-again-2 c =
+    let l = c .before .before .before in (
+      omega arith,
+      below-more _ _ (l .loop .inv .1) (not-written _ _ _ _ (by (c .before .not-written .ensures) (not-false _ (c .if1 .left)))),
+      l .loop .inv .2,
+    )
+
+returns-2 : tie.Need-returns-2 Inv-loop μ-loop
+returns-2 c = first-none _ _ _ (c .before .before .count .ensures) (λ i l. c .before .loop .inv .1 i (omega arith))
+
+pub first-form-spec : {M : Type 1} → statement M
+first-form-spec =
+    tie.close
+    (tie.spec
+    Inv-loop
+    μ-loop
+    (λ c κs. search needs)
+    loop-holds
+    (λ c. omega arith)
+    not-written-requires
+    pointer-at-requires
+    form-verdict-requires
+    (λ c. search needs)
+    returns
+    (λ c. search needs)
+    (λ c. omega arith)
+    loop-again
+    (λ c. omega arith)
+    loop-again-2
+    returns-2)

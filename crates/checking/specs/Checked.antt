@@ -1,0 +1,72 @@
+-- The check of all sectors with each block summed once: what is checked at each point, and the first address that it refuses.
+use mathlib.Core.Bool.{Bool, true, false, not}
+use mathlib.Core.List.{List}
+use mathlib.Core.Logic.{_≢_, _⊎_}
+use mathlib.Core.Path.{_≡_}
+use Prim.Native.Nat.{ℕ, _/_, _≤_, _<_}
+use Rattle.crc64.specs.Crc.{crcOf}
+use Rattle.format.specs.declared.Pointer.{Pointer}
+use Rattle.format.specs.declared.Verdict.{Verdict}
+use Rattle.format.specs.declared.Verdict.the-variants.{Passes, Refuses}
+use Rattle.format.specs.Tests.{atLeast, _and_, choose}
+use Rattle.format.specs.Refusals.{refusal, row, _then_}
+use Rattle.format.specs.Layouts.{DBLK, indexOffset, entries, entriesFrom, sectorSize, blockLength, blockCmpCrc64, blockCrc64, blockPayload}
+use Rattle.format.specs.Opening.{sumsDiffer, offsetsOf, Opened}
+use Rattle.format.specs.Reading.{notWritten, pointerAt, has, blockVerdict}
+use Rattle.format.specs.Facts.{BlockOk}
+use Rattle.checking.specs.declared.First.{First}
+
+-- the blocks that the index names
+abbrev pub indexed : List ℕ → List ℕ
+indexed img = offsetsOf DBLK (entries img (indexOffset img))
+
+-- what a pointer points to, but for the block's checksums: checks 22 to 26
+unfoldable pub formVerdict : List ℕ → Pointer → Verdict
+formVerdict img p =
+    let b = p .block .0 in
+    row (not (has b (indexed img))) (refusal 22)
+    then blockVerdict img b
+    then row (atLeast (p .item .0) (blockLength img b / sectorSize img b)) (refusal 26)
+
+-- what a caller knows of a block: nothing, by 0, or that the index names it and that it passes all checks of a block before that of its
+-- checksums
+abbrev pub Formed : List ℕ → ℕ → Type 0
+Formed img b = (b ≡ 0) ⊎ ((has b (indexed img) ≡ true) × BlockOk img b)
+
+-- a checksum of the block at b is wrong
+abbrev pub wrongSum : List ℕ → ℕ → Bool
+wrongSum img b = sumsDiffer (crcOf (blockPayload img b)) (blockCmpCrc64 img b) (blockCrc64 img b)
+
+-- a test that is asked only where the checks before it pass
+unfoldable pub onlyAfter : Verdict → Bool → Bool
+onlyAfter Passes b = b
+onlyAfter (Refuses r) b = false
+
+-- the block at b passes all checks of a block but that of its checksums
+unfoldable pub damaged : List ℕ → ℕ → Bool
+damaged img b = onlyAfter (blockVerdict img b) (wrongSum img b)
+
+-- 27 in a damaged block that is none of those still to be looked at
+abbrev pub mark : List ℕ → List ℕ → ℕ → Verdict
+mark img left b = row (not (has b left) and damaged img b) (refusal 27)
+
+-- an address while the blocks `left` are still to be looked at: all checks but that of their checksums, 21 left out
+unfoldable pub addressVerdict : List ℕ → Opened → List ℕ → ℕ → Verdict
+addressVerdict img t left a =
+    let p = pointerAt img t a in
+    choose (notWritten img t a) Passes (formVerdict img p then mark img left (p .block .0))
+
+-- the first of `count` addresses that a check refuses, and how; the count where there is none
+pub record IsFirst (check : ℕ → Verdict) (count : ℕ) (first : First) : Type 0 where
+  pub within : first .address .0 ≤ count
+  pub before : (a : ℕ) → a < first .address .0 → check a ≡ Passes
+  pub here : first .address .0 < count → (check (first .address .0) ≡ first .verdict) × (first .verdict ≢ Passes)
+  pub none : first .address .0 ≡ count → first .verdict ≡ Passes
+
+-- the first address that is refused, while the blocks `left` are still to be looked at
+abbrev pub FirstLeft : List ℕ → Opened → List ℕ → First → Type 0
+FirstLeft img t left first = IsFirst (addressVerdict img t left) (t .count) first
+
+-- the same, while these index entries are still to be looked at
+abbrev pub FirstFrom : List ℕ → Opened → ℕ → ℕ → First → Type 0
+FirstFrom img t left p first = FirstLeft img t (offsetsOf DBLK (entriesFrom img left p)) first

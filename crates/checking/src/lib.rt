@@ -1,0 +1,189 @@
+// Internal: the checks that a commit makes of an opened disc: 20 of its addresses, then all sectors by rising address, of which the
+// first that is refused other than with 21 gives its refusal.
+//
+// Cost, with E addresses and I index entries: each data block that the index names is summed once at most, however often it is named;
+// E times I plus I times I comparisons of numbers at most, and E plus I times I where neighbouring addresses share a block and none is
+// damaged.
+ghost use mathlib.Core.Bool.{true, false};
+ghost use mathlib.Core.List.{List, _∷_};
+ghost use mathlib.Core.Path.{_≡_};
+ghost use Prim.Native.Nat.{ℕ, _+_, _-_, _*_, _≤_, _<_};
+ghost use lib.ListN.{length};
+ghost use Rattle.format.specs.Refusals.{refusal, row, _then_, accepted};
+ghost use Rattle.format.specs.Layouts.{indexOffset, entryLength, entries};
+ghost use Rattle.format.specs.Opening.{opening};
+ghost use Rattle.format.specs.Reading.{has};
+ghost use Rattle.format.specs.Committing.{anyOutside, sectorsVerdict};
+ghost use Rattle.opening.specs.Answers.{contents};
+ghost use Rattle.checking.specs.Checked.{indexed, formVerdict, Formed, damaged, FirstLeft, FirstFrom};
+use fields::get;
+use fields::part;
+use format::ByteOffset;
+use format::Pointer;
+use format::Refusal;
+use format::SectorAddress;
+use format::Verdict;
+use opening::Opened;
+
+// The identifier 'DBLK', as the number that its letters make.
+const DATA_BLOCK: u64 = 0x4b4c_4244;
+
+// The first address that is refused, and how; the number of addresses where none is.
+struct First {
+    address: SectorAddress,
+    verdict: Verdict,
+}
+
+// Whether an address of the list is not below the count.
+fn any_outside(count: u64, addresses: &[u64]) -> bool
+    ensures { λ r. ⌜ r ≡ anyOutside count (now (addresses .entry)) ⌝ }
+{
+    let mut k: usize = 0;
+    // an iteration for each address, up to the first that is outside
+    while k < addresses.len() {
+        if count <= addresses[k] {
+            return true;
+        }
+        k += 1;
+    }
+    false
+}
+
+// What p points to, but for the block's checksums: checks 22 to 26. Of the block that is known only the item's number is looked at.
+fn form_verdict(s: &[u8], t: Opened, p: Pointer, known: ByteOffset) -> Verdict
+    requires { ⌜ (opening (now s) ≡ accepted (contents t)) × Formed (now s) (known .0) ⌝ }
+    ensures { λ r. ⌜ r ≡ formVerdict (now (s .entry)) p ⌝ }
+{
+    let b = p.block;
+    if sectors::is_known(b, known) {
+        return sectors::number_verdict(s, p);
+    }
+    if sectors::is_indexed(s, ByteOffset(get(s, 48, 8)), b) {
+        let v = sectors::block_verdict(s, b);
+        if let Verdict::Refuses(r) = v {
+            return Verdict::Refuses(r);
+        }
+        return sectors::number_verdict(s, p);
+    }
+    Verdict::Refuses(Refusal { number: 22 })
+}
+
+// The first address that is refused other than with 21, by all checks but that of the checksums.
+fn first_form(s: &[u8], t: Opened) -> First
+    requires { ⌜ opening (now s) ≡ accepted (contents t) ⌝ }
+    ensures { λ r. ⌜ FirstLeft (now (s .entry)) (contents t) (indexed (now (s .entry))) r ⌝ }
+{
+    let count = opening::count(t);
+    let mut known = ByteOffset(0);
+    let mut a: u64 = 0;
+    // an iteration for each address, up to the first that is refused
+    while a < count {
+        let here = SectorAddress(a);
+        a += 1;
+        if !opening::not_written(s, t, here) {
+            let p = opening::pointer_at(s, t, here);
+            let v = form_verdict(s, t, p, known);
+            if let Verdict::Refuses(r) = v {
+                return First {
+                    address: here,
+                    verdict: Verdict::Refuses(r),
+                };
+            }
+            known = p.block;
+        }
+    }
+    First {
+        address: SectorAddress(count),
+        verdict: Verdict::Passes,
+    }
+}
+
+// Whether the block at b passes all checks of a block but that of its checksums. One pass over it.
+fn is_damaged(s: &[u8], b: ByteOffset) -> bool
+    ensures { λ r. ⌜ r ≡ damaged (now (s .entry)) (b .0) ⌝ }
+{
+    let v = sectors::block_verdict(s, b);
+    if let Verdict::Refuses(_) = v {
+        return false;
+    }
+    let block = b.0;
+    opening::sums_differ(
+        part(s, block + 36, get(s, block + 16, 4)),
+        get(s, block + 20, 8),
+        get(s, block + 28, 8),
+    )
+}
+
+// The first address below `first` that points into the damaged block at b, with 27; `first` where there is none.
+fn first_into(s: &[u8], t: Opened, b: ByteOffset, first: First) -> First
+    requires { ⌜ (opening (now s) ≡ accepted (contents t)) × (first .address .0 ≤ contents t .count) × (damaged (now s) (b .0) ≡ true) ⌝ }
+    ensures { λ r. ⌜ ((left : List ℕ) → has (b .0) left ≡ false → FirstLeft (now (s .entry)) (contents t) (b .0 ∷ left) first → FirstLeft (now (s .entry)) (contents t) left r) ⌝ }
+{
+    let limit = first.address;
+    let mut a: u64 = 0;
+    // an iteration for each address below, up to the first that points into the block
+    while a < limit.0 {
+        let here = SectorAddress(a);
+        a += 1;
+        if !opening::not_written(s, t, here) {
+            let p = opening::pointer_at(s, t, here);
+            let block = p.block;
+            if block.0 == b.0 {
+                return First {
+                    address: here,
+                    verdict: Verdict::Refuses(Refusal { number: 27 }),
+                };
+            }
+        }
+    }
+    first
+}
+
+// The first address once the block of the index entry at p, the first of `left`, is looked at. It is not where another of them names it
+// again, so that no block is summed twice.
+fn with_block(s: &[u8], t: Opened, p: ByteOffset, left: u64, first: First) -> First
+    requires { ⌜ (opening (now s) ≡ accepted (contents t)) × (0 < left) × (p .0 + entryLength * left ≤ length (now s)) × FirstFrom (now s) (contents t) left (p .0) first ⌝ }
+    ensures { λ r. ⌜ FirstFrom (now (s .entry)) (contents t) (left - 1) (p .0 + entryLength) r ⌝ }
+{
+    let e = index::entry(s, p);
+    if !index::is_user_data(e, DATA_BLOCK) {
+        return first;
+    }
+    let b = e.offset;
+    if sectors::names(s, ByteOffset(p.0 + 16), left - 1, b) {
+        return first;
+    }
+    if is_damaged(s, b) {
+        return first_into(s, t, b, first);
+    }
+    first
+}
+
+// All sectors by rising address: the first refusal other than 21.
+fn sectors_verdict(s: &[u8], t: Opened) -> Verdict
+    requires { ⌜ opening (now s) ≡ accepted (contents t) ⌝ }
+    ensures { λ r. ⌜ r ≡ sectorsVerdict (now (s .entry)) (entries (now (s .entry)) (indexOffset (now (s .entry)))) (contents t) ⌝ }
+{
+    let mut first = first_form(s, t);
+    let index = get(s, 48, 8);
+    let mut left = get(s, index + 4, 8);
+    let mut p = index + 20;
+    // an iteration for each index entry
+    while 0 < left {
+        first = with_block(s, t, ByteOffset(p), left, first);
+        p += 16;
+        left -= 1;
+    }
+    first.verdict
+}
+
+// A commit's checks of the disc: 20, then all sectors.
+pub fn disc_verdict(s: &[u8], t: Opened, addresses: &[u64]) -> Verdict
+    requires { ⌜ opening (now s) ≡ accepted (contents t) ⌝ }
+    ensures { λ r. ⌜ r ≡ (row (anyOutside (contents t .count) (now (addresses .entry))) (refusal 20) then sectorsVerdict (now (s .entry)) (entries (now (s .entry)) (indexOffset (now (s .entry)))) (contents t)) ⌝ }
+{
+    if any_outside(opening::count(t), addresses) {
+        return Verdict::Refuses(Refusal { number: 20 });
+    }
+    sectors_verdict(s, t)
+}

@@ -1,0 +1,4 @@
+pub mod Cursor
+mod Seen
+mod Looking
+mod Progress

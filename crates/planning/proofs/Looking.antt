@@ -1,0 +1,70 @@
+-- What one address of the pass adds, by what the searches answer.
+use mathlib.Core.Bool.{true}
+use mathlib.Core.List.{List}
+use mathlib.Core.Option.{Option, none, some}
+use mathlib.Core.Path.{_≡_, sym, ap, _∙_}
+use Prim.Native.Nat.{ℕ, _+_, _*_, _^_, _≤_, _<_}
+use native.Mathlib.Nat.{zero-mod}
+use native.Mathlib.Omega.{arith}
+use lib.ListN.{length, drop}
+use Rattle.fields.proofs.Overwrite.{length-part}
+use Rattle.format.specs.declared.ItemNumber.{ItemNumber}
+use Rattle.format.specs.declared.Pointer.{Pointer}
+use Rattle.format.specs.declared.SectorAddress.{SectorAddress}
+use Rattle.format.specs.Layouts.{decode}
+use Rattle.format.specs.Opening.{Opened}
+use Rattle.format.specs.Reading.{notWritten, pointerAt}
+use Rattle.format.specs.Committing.{onDisc, amongStored, pieces, oldPointer, itemOrZero}
+use Rattle.format.proofs.Tests.{same-on, choose-cases}
+use Rattle.format.proofs.Storing.{onDisc-found}
+use Rattle.search.specs.Found.{addressFound, itemFound}
+use Rattle.search.specs.declared.Address.{Address}
+use Rattle.search.specs.declared.Address.the-variants as address
+use Rattle.search.specs.declared.Item.{Item}
+use Rattle.search.specs.declared.Item.the-variants as item
+use Rattle.search.proofs.Stored.{room}
+use Rattle.planning.specs.Plans.{isNext, Commits, sectorOf, Looks, lookedFor, looked}
+use Rattle.planning.proofs.Cursor.{next-listed}
+
+-- an entry of 0, not written, has item 0
+pub old-item : (img : List ℕ) (t : Opened) (a : ℕ) (p : Pointer) → p ≡ pointerAt img t a → p .item .0 ≡ itemOrZero (oldPointer img t a)
+unfolding oldPointer itemOrZero notWritten pointerAt decode
+old-item img t a p e =
+    choose-cases (λ (o : Option Pointer). p .item .0 ≡ itemOrZero o) (notWritten img t a) none (some (pointerAt img t a))
+    (λ z. ap (λ (q : Pointer). q .item .0) e ∙ rw (same-on _ _ z) (zero-mod (2 ^ t .shift))) (λ z. ap (λ (q : Pointer). q .item .0) e)
+
+pub next-looks : {img : List ℕ} {t : Opened} {addresses : List ℕ} {size : ℕ} {sectors : List ℕ} (k a stored : ℕ) → Commits img t addresses size sectors
+    → isNext addresses k a ≡ true → stored ≤ k → Looks img t size sectors k stored
+next-looks {addresses = addresses} {size = size} k a stored c e h =
+    let l = next-listed addresses k a e in
+    (c .checked, rw (c .whole) (room size l), omega (arith, c .few), h)
+
+-- ---- the handed-in sector k, whose bytes are d; r and q are what the searches answer
+module _ (img : List ℕ) (t : Opened) (size : ℕ) (sectors : List ℕ) (k stored : ℕ) (looks : Looks img t size sectors k stored)
+    (d : List ℕ) (is : d ≡ sectorOf size sectors k) (r : Address) (disc : addressFound r ≡ onDisc img t d) where
+  long : length d ≡ size
+  long = ap length is ∙ length-part sectors (k * size) size (looks .1)
+
+  pub earlier-inside : 0 + k * length d ≤ length sectors
+  earlier-inside = rw long (omega (arith, looks .1))
+
+  pub found-inside : (a : SectorAddress) → r ≡ address.Is a → a .0 < t .count
+  unfolding addressFound
+  found-inside a e = onDisc-found img t d (a .0) (sym (rw e at disc)) .inside
+
+  pub looked-old : (a : SectorAddress) (p : Pointer) → r ≡ address.Is a → p ≡ pointerAt img t (a .0)
+      → record { item = p .item; stored = stored; k = k + 1 } ≡ looked img t size sectors k stored
+  unfolding looked lookedFor addressFound
+  looked-old a p e f = rw (← is, ← disc, e, f)
+
+  module _ (q : Item) (missing : r ≡ address.Missing) (among : itemFound q ≡ amongStored (pieces k (length d) (drop 0 sectors)) d) where
+    earlier : amongStored (pieces k size sectors) d ≡ itemFound q
+    earlier = sym (rw long at among)
+
+    pub looked-earlier : (i : ItemNumber) → q ≡ item.Is i → record { item = record { 0 = 0 }; stored = stored; k = k + 1 } ≡ looked img t size sectors k stored
+    unfolding looked lookedFor addressFound itemFound
+    looked-earlier i e = rw (← is, ← disc, missing, earlier, e)
+
+    pub looked-new : q ≡ item.Missing → record { item = record { 0 = stored }; stored = stored + 1; k = k + 1 } ≡ looked img t size sectors k stored
+    unfolding looked lookedFor addressFound itemFound
+    looked-new e = rw (← is, ← disc, missing, earlier, e)

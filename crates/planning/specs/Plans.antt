@@ -1,0 +1,73 @@
+-- The first pass of a commit: what it asks for, and what it finds.
+use mathlib.Core.Bool.{Bool, true, false}
+use mathlib.Core.List.{List, [], _∷_}
+use mathlib.Core.Logic.{_≢_}
+use mathlib.Core.Option.{Option, none, some}
+use mathlib.Core.Path.{_≡_}
+use Prim.Native.Nat.{ℕ, _+_, _*_, _≤_, _<_}
+use lib.ListN.{length, drop}
+use Rattle.fields.specs.Bytes.{part}
+use Rattle.format.specs.Tests.{same, choose}
+use Rattle.format.specs.Opening.{Opened}
+use Rattle.format.specs.Reading.{pointerAt}
+use Rattle.format.specs.Writing.{longestBuffer, largestSize, mostAddresses}
+use Rattle.format.specs.Committing.{rising, anyOutside, onDisc, amongStored, pieces, Stored, storeAll, oldPointer, newPointers, itemOrZero, largestItem}
+use Rattle.search.specs.Found.{Checked}
+use Rattle.planning.specs.declared.Planned.{Planned}
+use Rattle.planning.specs.declared.Looked.{Looked}
+
+-- the first address of a list is a
+unfoldable pub heads : List ℕ → ℕ → Bool
+heads [] a = false
+heads (b ∷ bs) a = same b a
+
+-- a is the next address, where k are used up
+unfoldable pub isNext : List ℕ → ℕ → ℕ → Bool
+isNext addresses k a = heads (drop k addresses) a
+
+-- a commit all of whose checks but 35 have passed, to the image img, opened as t
+pub record Commits (img : List ℕ) (t : Opened) (addresses : List ℕ) (size : ℕ) (sectors : List ℕ) : Type 0 where
+  pub checked : Checked img t
+  pub short : length img ≤ longestBuffer
+  pub rises : rising addresses ≡ true
+  pub inside : anyOutside (t .count) addresses ≡ false
+  pub few : length addresses ≤ mostAddresses
+  pub pos : size ≢ 0
+  pub small : size ≤ largestSize
+  pub whole : length sectors ≡ length addresses * size
+
+-- the handed-in sector k
+abbrev pub sectorOf : ℕ → List ℕ → ℕ → List ℕ
+sectorOf size sectors k = part sectors (k * size) size
+
+-- what becomes of the handed-in sectors; the new data block will stand at the end of the image
+abbrev pub storedBy : List ℕ → Opened → List ℕ → ℕ → List ℕ → Stored
+storedBy img t addresses size sectors = storeAll img t (length img) [] (pieces (length addresses) size sectors)
+
+-- how many are stored, and the largest item number of the new table
+unfoldable pub planFor : List ℕ → Opened → List ℕ → ℕ → List ℕ → Planned
+planFor img t addresses size sectors =
+    let st = storedBy img t addresses size sectors in
+    record { stored = length (st .items); largest = record { 0 = largestItem (newPointers img t addresses (st .pointers) (t .count) 0) } }
+
+-- ---- one address of the pass
+-- the handed-in sector k lies among the sectors, and at most as many are stored as were handed in before it
+abbrev pub Looks : List ℕ → Opened → ℕ → List ℕ → ℕ → ℕ → Type 0
+Looks img t size sectors k stored = Checked img t × (k * size + size ≤ length sectors) × (k < mostAddresses) × (stored ≤ k)
+
+-- what sector k adds, by what is found on the disc and among the sectors handed in before it
+unfoldable pub lookedFor : List ℕ → Opened → ℕ → ℕ → Option ℕ → Option ℕ → Looked
+lookedFor img t k stored (some a) j = record { item = pointerAt img t a .item; stored = stored; k = k + 1 }
+lookedFor img t k stored none (some j) = record { item = record { 0 = 0 }; stored = stored; k = k + 1 }
+lookedFor img t k stored none none = record { item = record { 0 = stored }; stored = stored + 1; k = k + 1 }
+
+unfoldable pub looked : List ℕ → Opened → ℕ → List ℕ → ℕ → ℕ → Looked
+looked img t size sectors k stored =
+    let sector = sectorOf size sectors k in
+    lookedFor img t k stored (onDisc img t sector) (amongStored (pieces k size sectors) sector)
+
+-- what address a adds
+unfoldable pub lookedAt : List ℕ → Opened → List ℕ → ℕ → List ℕ → ℕ → ℕ → ℕ → Looked
+lookedAt img t addresses size sectors k a stored =
+    choose (isNext addresses k a) (looked img t size sectors k stored)
+    (record { item = record { 0 = itemOrZero (oldPointer img t a) }; stored = stored; k = k })

@@ -1,0 +1,149 @@
+// Internal: the first pass of a commit, which only looks: how many of the handed-in sectors are stored, and the largest item
+// number of the new table. With these the new image's length and the table's shift are known before anything is written.
+//
+// Cost: each handed-in sector is compared with the sectors of the disc and with those handed in before it, up to the first
+// that is equal.
+ghost use mathlib.Core.Path.{_≡_};
+ghost use Prim.Native.Nat.{_≤_, _<_, max};
+ghost use Rattle.format.specs.Refusals.{accepted};
+ghost use Rattle.format.specs.Opening.{opening};
+ghost use Rattle.format.specs.Committing.{oldPointer, itemOrZero, shiftFor};
+ghost use Rattle.opening.specs.Answers.{contents};
+ghost use Rattle.planning.specs.Plans.{isNext, Commits, planFor, Looks, looked, lookedAt};
+use format::ByteOffset;
+use format::ItemNumber;
+use format::SectorAddress;
+use opening::Opened;
+use search::Address;
+use search::Item;
+
+// What a commit will store: how many sectors, and the largest item number of its table.
+pub struct Planned {
+    pub stored: u64,
+    pub largest: ItemNumber,
+}
+
+// What one address adds: its item number, and how many sectors are stored and how many addresses of the list are used up after it.
+struct Looked {
+    item: ItemNumber,
+    stored: u64,
+    k: usize,
+}
+
+// The shift of a table with this largest item number.
+pub fn shift_for(largest: ItemNumber) -> u64
+    ensures { λ r. ⌜ r ≡ shiftFor (largest .0) ⌝ }
+{
+    let zeros = u64::leading_zeros(largest.0);
+    (64 - zeros) as u64
+}
+
+// Whether a is the next address of the list, of which k are used up.
+pub fn is_next(addresses: &[u64], k: usize, a: SectorAddress) -> bool
+    ensures { λ r. ⌜ r ≡ isNext (now (addresses .entry)) k (a .0) ⌝ }
+{
+    if addresses.len() <= k {
+        return false;
+    }
+    addresses[k] == a.0
+}
+
+// The item number that address a has; the entry of an address that is not written gives 0.
+fn old_item(s: &[u8], t: Opened, a: SectorAddress) -> ItemNumber
+    requires { ⌜ (opening (now s) ≡ accepted (contents t)) × (a .0 < contents t .count) ⌝ }
+    ensures { λ r. ⌜ r .0 ≡ itemOrZero (oldPointer (now (s .entry)) (contents t) (a .0)) ⌝ }
+{
+    let p = opening::pointer_at(s, t, a);
+    p.item
+}
+
+// The handed-in sector k. One that equals an earlier one adds no item.
+fn look(s: &[u8], t: Opened, size: u64, sectors: &[u8], k: usize, stored: u64) -> Looked
+    requires { ⌜ Looks (now s) (contents t) size (now sectors) k stored ⌝ }
+    ensures { λ r. ⌜ r ≡ looked (now (s .entry)) (contents t) size (now (sectors .entry)) k stored ⌝ }
+{
+    let handed = k as u64;
+    let sector = fields::part(sectors, handed * size, size);
+    let old = search::on_disc(s, t, sector);
+    if let Address::Is(a) = old {
+        let p = opening::pointer_at(s, t, a);
+        let item = p.item;
+        return Looked {
+            item,
+            stored,
+            k: k + 1,
+        };
+    }
+    let earlier = search::among(sectors, ByteOffset(0), handed, sector);
+    if let Item::Is(_) = earlier {
+        return Looked {
+            item: ItemNumber(0),
+            stored,
+            k: k + 1,
+        };
+    }
+    Looked {
+        item: ItemNumber(stored),
+        stored: stored + 1,
+        k: k + 1,
+    }
+}
+
+// Address a of the new table.
+fn look_at(
+    s: &[u8],
+    t: Opened,
+    addresses: &[u64],
+    size: u64,
+    sectors: &[u8],
+    k: usize,
+    a: SectorAddress,
+    stored: u64,
+) -> Looked
+    requires { ⌜ Commits (now s) (contents t) (now addresses) size (now sectors) × (a .0 < contents t .count) × (stored ≤ k) ⌝ }
+    ensures { λ r. ⌜ r ≡ lookedAt (now (s .entry)) (contents t) (now (addresses .entry)) size (now (sectors .entry)) k (a .0) stored ⌝ }
+{
+    if is_next(addresses, k, a) {
+        return look(s, t, size, sectors, k, stored);
+    }
+    Looked {
+        item: old_item(s, t, a),
+        stored,
+        k,
+    }
+}
+
+// The larger of two numbers.
+fn larger(x: u64, y: u64) -> u64
+    ensures { λ r. ⌜ r ≡ max x y ⌝ }
+{
+    if x < y {
+        return y;
+    }
+    x
+}
+
+// What a commit will store.
+pub fn plan(s: &[u8], t: Opened, addresses: &[u64], size: u64, sectors: &[u8]) -> Planned
+    requires { ⌜ Commits (now s) (contents t) (now addresses) size (now sectors) ⌝ }
+    ensures { λ r. ⌜ r ≡ planFor (now (s .entry)) (contents t) (now (addresses .entry)) size (now (sectors .entry)) ⌝ }
+{
+    let count = opening::count(t);
+    let mut largest: u64 = 0;
+    let mut stored: u64 = 0;
+    let mut k: usize = 0;
+    let mut a: u64 = 0;
+    // an iteration for each address of the disc
+    while a < count {
+        let l = look_at(s, t, addresses, size, sectors, k, SectorAddress(a), stored);
+        let item = l.item;
+        largest = larger(largest, item.0);
+        stored = l.stored;
+        k = l.k;
+        a += 1;
+    }
+    Planned {
+        stored,
+        largest: ItemNumber(largest),
+    }
+}

@@ -1,0 +1,122 @@
+-- The sectors of a disc all of which passed a commit's checks: where each lies, and when it holds given bytes.
+use mathlib.Core.Bool.{Bool, true, false}
+use mathlib.Core.List.{List}
+use mathlib.Core.Logic.{_≢_, ⊎-elim}
+use mathlib.Core.Option.{Option}
+use mathlib.Core.Path.{_≡_, refl, sym, ap, _∙_}
+use Prim.Native.Nat.{ℕ, _+_, _/_, _%_, _^_, _≤_, _<_}
+use native.Mathlib.Nat.{mod-add-div, zero-div, zero-mod}
+use native.Mathlib.Omega.{arith}
+use lib.ListN.{length}
+use Rattle.fields.specs.Bytes.{part, equal}
+use Rattle.fields.proofs.Overwrite.{length-part}
+use Rattle.fields.proofs.Equal.{equal-true}
+use Rattle.fields.proofs.Compare.{compare-start}
+use Rattle.format.specs.declared.Place.{Place}
+use Rattle.format.specs.declared.Pointer.{Pointer}
+use Rattle.format.specs.Tests.{same, _and_, choose}
+use Rattle.format.specs.Layouts.{indexOffset, entries, decode}
+use Rattle.format.specs.Opening.{Opened}
+use Rattle.format.specs.Reading.{tableEntry, notWritten, pointerAt, placeOf, itemBytes}
+use Rattle.format.specs.Committing.{sectorsVerdict, holdsSector}
+use Rattle.format.proofs.Tests.{on-or-off, never, same-on, same-true, same-iff, and-on, and-true, choose-true, choose-false}
+use Rattle.format.proofs.Refusals.{firstRefusal-iff}
+use Rattle.format.proofs.Checks.{PointerOk, SectorOk, address-ok, item-inside}
+use Rattle.search.specs.Found.{Checked, slotAt}
+use Rattle.search.specs.declared.Slot.the-variants as slot
+use Rattle.search.proofs.First.{Searching, Comparing}
+
+-- a written address has a good sector
+pub sector-good : (img : List ℕ) (t : Opened) (a : ℕ) → Checked img t → a < t .count → notWritten img t a ≡ false
+    → SectorOk img (entries img (indexOffset img)) t a
+unfolding sectorsVerdict
+sector-good img t a k h w =
+    ⊎-elim (λ e. absurd (never e w)) (λ s. s)
+    (firstRefusal-iff (t .count) (t .count) 0 (omega arith) (address-ok img (entries img (indexOffset img)) t) .0 (k .1) a (omega arith) h)
+
+-- an entry is 0 exactly if both numbers that it encodes are
+zero-pointer : (img : List ℕ) (t : Opened) (a : ℕ) → (same (pointerAt img t a .block .0) 0 and same (pointerAt img t a .item .0) 0) ≡ notWritten img t a
+unfolding notWritten pointerAt decode
+zero-pointer img t a = ⊎-elim zero other (on-or-off (same (tableEntry img t a) 0))
+  where
+    e : ℕ
+    e = tableEntry img t a
+
+    both : Bool
+    both = same (e / 2 ^ t .shift) 0 and same (e % 2 ^ t .shift) 0
+
+    zero : same e 0 ≡ true → both ≡ same e 0
+    zero q = and-true _ _ (same-true _ _ (rw (same-on _ _ q) (zero-div _))) (same-true _ _ (rw (same-on _ _ q) (zero-mod _))) ∙ sym q
+
+    sum : both ≡ true → e ≡ 0
+    sum q =
+        let r = and-on _ _ q in
+        sym (mod-add-div e (2 ^ t .shift)) ∙ rw (same-on _ _ (r .0), same-on _ _ (r .1)) (omega arith)
+
+    other : same e 0 ≡ false → both ≡ same e 0
+    other q = ⊎-elim (λ r. absurd (same-iff .0 q (sum r))) (λ r. r ∙ sym q) (on-or-off both)
+
+module _ (img : List ℕ) (t : Opened) (a : ℕ) (p : Pointer) {b : Bool} (e : p ≡ pointerAt img t a) (z : b ≡ (same (p .block .0) 0 and same (p .item .0) 0)) where
+  answers : b ≡ notWritten img t a
+  answers = z ∙ rw e (zero-pointer img t a)
+
+  pub slot-empty : b ≡ true → slot.Empty ≡ slotAt img t a
+  unfolding slotAt
+  slot-empty y = sym (choose-true _ _ _ (sym answers ∙ y))
+
+  pub slot-item : b ≡ false → Checked img t → a < t .count → PointerOk img p
+  slot-item y k h = rw e (sector-good img t a k h (sym answers ∙ y) .item)
+
+  pub slot-sector : (q : Place) → b ≡ false → q ≡ placeOf img p → slot.Sector q ≡ slotAt img t a
+  unfolding slotAt
+  slot-sector q y f = ap slot.Sector f ∙ rw e (sym (choose-false _ _ _ (sym answers ∙ y)))
+
+is-empty : (b : Bool) (q : Place) → slot.Empty ≡ choose b slot.Empty (slot.Sector q) → b ≡ true
+unfolding choose
+is-empty true q e = refl
+is-empty false q e = let z : _≡_ {A = ℕ} 0 1 = cc in absurd (omega arith)
+
+is-sector : (b : Bool) (p q : Place) → slot.Sector p ≡ choose b slot.Empty (slot.Sector q) → (b ≡ false) × (q ≡ p)
+unfolding choose
+is-sector true p q e = let z : _≡_ {A = ℕ} 0 1 = cc in absurd (omega arith)
+is-sector false p q e = (refl, cc)
+
+module _ (img : List ℕ) (t : Opened) (sector : List ℕ) (a : ℕ) where
+  pub empty-other : slot.Empty ≡ slotAt img t a → holdsSector img t sector a ≡ false
+  unfolding slotAt holdsSector _and_
+  empty-other e = rw (is-empty _ _ e)
+
+  module _ (p : Place) (k : Checked img t) (h : a < t .count) (e : slot.Sector p ≡ slotAt img t a) where
+    written : notWritten img t a ≡ false
+    unfolding slotAt
+    written = is-sector _ _ _ e .0
+
+    place : placeOf img (pointerAt img t a) ≡ p
+    unfolding slotAt
+    place = is-sector _ _ _ e .1
+
+    inside : p .start .0 + p .size ≤ length img
+    unfolding placeOf
+    inside =
+        let good = sector-good img t a k h written .item in
+        rw (← place) (omega (arith, item-inside img _ _ good, good .block .fits))
+
+    holds : holdsSector img t sector a ≡ equal (part img (p .start .0) (p .size)) sector
+    unfolding holdsSector itemBytes _and_
+    holds = rw (written, place)
+
+    pub size-other : p .size ≢ length sector → holdsSector img t sector a ≡ false
+    size-other n =
+        ⊎-elim (λ y. absurd (n (sym (length-part img _ _ inside) ∙ ap length (equal-true _ _ (sym holds ∙ y))))) (λ x. x)
+        (on-or-off (holdsSector img t sector a))
+
+    pub size-same : {goal : Option ℕ} → Searching (holdsSector img t sector) (t .count) goal a → p .size ≡ length sector
+        → Comparing (holdsSector img t sector) (t .count) goal img sector a (p .start .0) 0
+    size-same s n =
+        record {
+          searching = s;
+          below = h;
+          inside = omega (arith, inside);
+          most = omega arith;
+          test = compare-start img (p .start .0) sector ∙ sym (rw n at holds);
+        }

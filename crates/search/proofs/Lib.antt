@@ -1,0 +1,3 @@
+mod First
+pub mod Disc
+pub mod Stored

@@ -1,0 +1,116 @@
+// Internal: the search for a sector that holds given bytes, on a disc whose sectors were all checked and among sectors of one
+// size that stand one after another.
+//
+// Cost: a comparison for each sector looked at, which ends at the first difference in size or bytes. No checksum is computed.
+ghost use mathlib.Core.Path.{_≡_};
+ghost use Prim.Native.Nat.{_+_, _*_, _≤_, _<_};
+ghost use lib.ListN.{length, drop};
+ghost use Rattle.format.specs.Tests.{same, _and_};
+ghost use Rattle.format.specs.Committing.{onDisc, amongStored, pieces};
+ghost use Rattle.opening.specs.Answers.{contents};
+ghost use Rattle.search.specs.Found.{Checked, addressFound, itemFound, slotAt};
+use format::ByteOffset;
+use format::ItemNumber;
+use format::Place;
+use format::Pointer;
+use format::SectorAddress;
+use opening::Opened;
+
+// The address at which a search ends.
+pub enum Address {
+    Is(SectorAddress),
+    Missing,
+}
+
+// The item at which a search ends.
+pub enum Item {
+    Is(ItemNumber),
+    Missing,
+}
+
+// What an address of a disc has: nothing, or a sector.
+enum Slot {
+    Empty,
+    Sector(Place),
+}
+
+// Both numbers are 0, as exactly an entry of 0 encodes.
+fn is_zero(p: Pointer) -> bool
+    ensures { λ r. ⌜ r ≡ (same (p .block .0) 0 and same (p .item .0) 0) ⌝ }
+{
+    let block = p.block;
+    if block.0 != 0 {
+        return false;
+    }
+    let item = p.item;
+    item.0 == 0
+}
+
+// What address a has. Its table entry is read once.
+fn slot_at(s: &[u8], t: Opened, a: SectorAddress) -> Slot
+    requires { ⌜ Checked (now s) (contents t) × (a .0 < contents t .count) ⌝ }
+    ensures { λ r. ⌜ r ≡ slotAt (now (s .entry)) (contents t) (a .0) ⌝ }
+{
+    let p = opening::pointer_at(s, t, a);
+    if is_zero(p) {
+        return Slot::Empty;
+    }
+    Slot::Sector(sectors::place(s, p))
+}
+
+// The first address of the disc whose sector holds these bytes, length included.
+pub fn on_disc(s: &[u8], t: Opened, sector: &[u8]) -> Address
+    requires { ⌜ Checked (now s) (contents t) ⌝ }
+    ensures { λ r. ⌜ addressFound r ≡ onDisc (now (s .entry)) (contents t) (now (sector .entry)) ⌝ }
+{
+    let size = sector.len();
+    let mut found = Address::Missing;
+    // an iteration for each address, up to the one that is found; within it at most one for each byte, up to the first that differs
+    'search: for a in 0..opening::count(t) {
+        let slot = slot_at(s, t, SectorAddress(a));
+        let Slot::Sector(place) = slot else {
+            continue 'search;
+        };
+        if place.size != size as u64 {
+            continue 'search;
+        }
+        let offset = place.start;
+        let start = offset.0 as usize;
+        for j in 0..size {
+            if s[start + j] != sector[j] {
+                continue 'search;
+            }
+        }
+        found = Address::Is(SectorAddress(a));
+        break 'search;
+    }
+    found
+}
+
+// The first of the n sectors that stand one after another from `at` on that holds these bytes; each has as many.
+pub fn among(s: &[u8], at: ByteOffset, n: u64, sector: &[u8]) -> Item
+    requires { ⌜ at .0 + n * length (now sector) ≤ length (now s) ⌝ }
+    ensures { λ r. ⌜ itemFound r ≡ amongStored (pieces n (length (now (sector .entry))) (drop (at .0) (now (s .entry)))) (now (sector .entry)) ⌝ }
+{
+    let size = sector.len();
+    let first = at.0 as usize;
+    let mut found = Item::Missing;
+    // an iteration for each sector, up to the one that is found; within it at most one for each byte, up to the first that differs
+    let mut i: u64 = 0;
+    'search: while i < n {
+        let start = first + (i as usize) * size;
+        let mut j: usize = 0;
+        loop {
+            if j == size {
+                found = Item::Is(ItemNumber(i));
+                break 'search;
+            }
+            if s[start + j] != sector[j] {
+                break;
+            }
+            j += 1;
+        }
+        i += 1;
+    }
+    found
+}

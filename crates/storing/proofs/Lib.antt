@@ -1,0 +1,4 @@
+mod Pieces
+mod Steps
+mod Turns
+mod Pass

@@ -1,0 +1,71 @@
+-- Sectors of one size that are written one after another, and read back.
+use mathlib.Core.List.{List, [], _∷_, _++_, flatten, append-assoc, append-nil}
+use mathlib.Core.Logic.{_≢_}
+use mathlib.Core.Path.{_≡_, refl, sym, ap, _∙_}
+use Prim.Native.Nat.{ℕ, zero, suc, _+_, _*_, _≤_}
+use native.Mathlib.Nat.{zero-mul, suc-mul, mul-suc, le-refl}
+use native.Mathlib.Omega.{arith}
+use lib.ListN.{length, take, drop, length-drop}
+use lib.Seq.{take-add, take-at, drop-at, length-take-le}
+use Rattle.fields.specs.Bytes.{part, overwrite}
+use Rattle.fields.proofs.Overwrite.{length-overwrite, overwrite-then, overwrite-split, overwrite-comm, overwrite-self, overwrite-cover}
+use Rattle.format.specs.Lists.{All, done, more}
+use Rattle.format.specs.Committing.{pieces}
+use Rattle.format.proofs.Lists.{Sized, length-flatten}
+
+pub most-items : (n size : ℕ) → size ≢ 0 → n ≤ n * size
+most-items n zero h = absurd (h refl)
+most-items n (suc size) h = omega (arith, mul-suc n size)
+
+flatten-pieces : (n size : ℕ) (l : List ℕ) → flatten (pieces n size l) ≡ take (n * size) l
+unfolding pieces flatten
+flatten-pieces zero size l = rw zero-mul
+flatten-pieces (suc n) size l =
+    let e : size + n * size ≡ suc n * size = omega (arith, suc-mul n size) in
+    ap (λ (r : List ℕ). take size l ++ r) (flatten-pieces n size (drop size l)) ∙ sym (take-add size (n * size) l) ∙ ap (λ (m : ℕ). take m l) e
+
+-- those that stand there, written over by themselves
+pub pieces-stand : (s : List ℕ) (at n size : ℕ) → at + n * size ≤ length s → overwrite s at (flatten (pieces n size (drop at s))) ≡ s
+unfolding part
+pieces-stand s at n size h = ap (overwrite s at) (flatten-pieces n size (drop at s)) ∙ overwrite-self s at (n * size) h
+
+pieces-flatten : (size : ℕ) (ls : List (List ℕ)) (rest : List ℕ) → All (Sized size) ls → pieces (length ls) size (flatten ls ++ rest) ≡ ls
+unfolding pieces flatten
+pieces-flatten size _ rest done = refl
+pieces-flatten size _ rest (more {a = l} {l = ls} h hs) =
+    let e : (l ++ flatten ls) ++ rest ≡ l ++ (flatten ls ++ rest) = append-assoc l (flatten ls) rest in
+    rw (e, take-at l (flatten ls ++ rest) size h, drop-at l (flatten ls ++ rest) size h, pieces-flatten size ls rest hs)
+
+-- those that were written are read back
+pub pieces-written : (s : List ℕ) (at size : ℕ) (ls : List (List ℕ)) → All (Sized size) ls → at + length ls * size ≤ length s
+    → pieces (length ls) size (drop at (overwrite s at (flatten ls))) ≡ ls
+pieces-written s at size ls hs h =
+    let n : length (flatten ls) ≡ length ls * size = length-flatten size ls hs in
+    ap (λ (l : List ℕ). pieces (length ls) size (drop at l))
+    (overwrite-split s at (flatten ls) (omega arith) ∙ append-assoc (take at s) (flatten ls) (drop (at + length (flatten ls)) s))
+    ∙ ap (pieces (length ls) size) (drop-at (take at s) (flatten ls ++ drop (at + length (flatten ls)) s) at (length-take-le at s (omega arith)))
+    ∙ pieces-flatten size ls (drop (at + length (flatten ls)) s) hs
+
+flatten-next : (ls : List (List ℕ)) (l : List ℕ) → flatten (ls ++ (l ∷ [])) ≡ flatten ls ++ l
+unfolding flatten
+flatten-next [] l = append-nil l
+flatten-next (k ∷ ls) l = ap (λ (r : List ℕ). k ++ r) (flatten-next ls l) ∙ sym (append-assoc k (flatten ls) l)
+
+-- one more behind those that stand there
+pub pieces-next : (s : List ℕ) (at n size : ℕ) (l : List ℕ) → at + n * size ≤ length s
+    → overwrite s (at + n * size) l ≡ overwrite s at (flatten (pieces n size (drop at s) ++ (l ∷ [])))
+pieces-next s at n size l h =
+    let ls : List (List ℕ) = pieces n size (drop at s) in
+    let m : length (flatten ls) ≡ n * size = ap length (flatten-pieces n size (drop at s)) ∙ length-take-le (n * size) (drop at s) (simp length-drop (omega arith)) in
+    ap (λ (r : List ℕ). overwrite r (at + n * size) l) (sym (pieces-stand s at n size h))
+    ∙ ap (λ (k : ℕ). overwrite (overwrite s at (flatten ls)) (at + k) l) (sym m)
+    ∙ overwrite-then s at (flatten ls) l ∙ ap (overwrite s at) (sym (flatten-next ls l))
+
+-- where the items are all to be written at `at`, and bytes are left to be written at q behind them: some items and the first of those bytes are written
+pub written-next : (s : List ℕ) (at q : ℕ) (some all e rest goal : List ℕ) → length some ≤ length all → at + length all ≤ q → q ≤ length s
+    → overwrite (overwrite s at all) q (e ++ rest) ≡ goal → overwrite (overwrite (overwrite (overwrite s at some) q e) at all) (q + length e) rest ≡ goal
+written-next s at q some all e rest goal h k m g =
+    ap (λ (r : List ℕ). overwrite (overwrite r at all) (q + length e) rest) (sym (overwrite-comm s q e at some (omega arith)))
+    ∙ ap (λ (r : List ℕ). overwrite r (q + length e) rest)
+    (overwrite-cover (overwrite s q e) at all at some (le-refl at) (omega arith) (rw length-overwrite (omega arith)) ∙ overwrite-comm s q e at all k)
+    ∙ overwrite-then (overwrite s at all) q e rest ∙ g

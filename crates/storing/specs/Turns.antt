@@ -1,0 +1,73 @@
+-- One turn of the second pass of a commit: what becomes of an address, and of the sector that is handed in for it.
+use mathlib.Core.List.{List, flatten}
+use mathlib.Core.Logic.{_≢_}
+use mathlib.Core.Option.{Option, none, some}
+use mathlib.Core.Path.{_≡_}
+use Prim.Native.Nat.{ℕ, _+_, _*_, _≤_, _<_}
+use lib.ListN.{length, take, drop}
+use Rattle.fields.specs.Bytes.{overwrite}
+use Rattle.format.specs.declared.Pointer.{Pointer}
+use Rattle.format.specs.Tests.{choose}
+use Rattle.format.specs.Layouts.{blockHeaderLength, encode}
+use Rattle.format.specs.Opening.{Opened}
+use Rattle.format.specs.Writing.{longestBuffer}
+use Rattle.format.specs.Committing.{pieces, Step, storeOne, oldPointer}
+use Rattle.search.specs.Found.{Checked}
+use Rattle.planning.specs.Plans.{isNext, Commits, sectorOf}
+use Rattle.storing.specs.declared.Handed.{Handed}
+use Rattle.storing.specs.declared.Next.{Next}
+
+-- the n sectors that stand behind the place of the new block's header
+abbrev pub itemsIn : List ℕ → ℕ → ℕ → ℕ → List (List ℕ)
+itemsIn buf used n size = pieces n size (drop (used + blockHeaderLength) buf)
+
+-- what becomes of a handed-in sector where `items` are stored; the new block stands at the end of the image
+abbrev pub stepAt : List ℕ → Opened → List (List ℕ) → List ℕ → Step
+stepAt img t items sector = storeOne img t (length img) items sector
+
+-- the number that a table entry holds
+unfoldable pub entryOf : ℕ → Option Pointer → ℕ
+entryOf shift none = 0
+entryOf shift (some p) = encode shift p
+
+-- the sectors stored after an address, its pointer in the new table, and how many addresses of the list are used up after it
+pub record Turn : Type 0 where
+  pub items : List (List ℕ)
+  pub pointer : Option Pointer
+  pub k : ℕ
+
+-- for address a, where k addresses are used up
+unfoldable pub turnAt : List ℕ → Opened → List ℕ → ℕ → List ℕ → List (List ℕ) → ℕ → ℕ → Turn
+turnAt img t addresses size sectors items k a =
+    let step = stepAt img t items (sectorOf size sectors k) in
+    choose (isNext addresses k a)
+    (record { items = step .stored; pointer = some (step .pointer); k = k + 1 })
+    (record { items = items; pointer = oldPointer img t a; k = k })
+
+-- a buffer whose first `used` bytes are the image, with n stored sectors and room for one that has to be stored
+pub record Steps (buf : List ℕ) (used : ℕ) (t : Opened) (sector : List ℕ) (n : ℕ) : Type 0 where
+  pub checked : Checked (take used buf) t
+  pub pos : length sector ≢ 0
+  pub short : length buf ≤ longestBuffer
+  pub room : used + blockHeaderLength + length (stepAt (take used buf) t (itemsIn buf used n (length sector)) sector .stored) * length sector ≤ length buf
+
+-- what it leaves
+pub record Stepped (buf after : List ℕ) (used : ℕ) (t : Opened) (sector : List ℕ) (n : ℕ) (r : Handed) : Type 0 where
+  pub pointer : r .pointer ≡ stepAt (take used buf) t (itemsIn buf used n (length sector)) sector .pointer
+  pub stored : r .stored ≡ length (stepAt (take used buf) t (itemsIn buf used n (length sector)) sector .stored)
+  pub buffer : after ≡ overwrite buf (used + blockHeaderLength) (flatten (stepAt (take used buf) t (itemsIn buf used n (length sector)) sector .stored))
+
+-- the same where the turn of address a comes
+pub record Turns (buf : List ℕ) (used : ℕ) (t : Opened) (addresses : List ℕ) (size : ℕ) (sectors : List ℕ) (shift k a n : ℕ) : Type 0 where
+  pub commits : Commits (take used buf) t addresses size sectors
+  pub below : a < t .count
+  pub short : length buf ≤ longestBuffer
+  pub room : used + blockHeaderLength + length (turnAt (take used buf) t addresses size sectors (itemsIn buf used n size) k a .items) * size ≤ length buf
+  pub low : shift ≤ 32
+
+-- what the turn leaves: the entry and the counts that it answers, and the buffer after it
+pub record Turned (buf after : List ℕ) (used : ℕ) (t : Opened) (addresses : List ℕ) (size : ℕ) (sectors : List ℕ) (shift k a n : ℕ) (r : Next) : Type 0 where
+  pub entry : r .entry ≡ entryOf shift (turnAt (take used buf) t addresses size sectors (itemsIn buf used n size) k a .pointer)
+  pub stored : r .stored ≡ length (turnAt (take used buf) t addresses size sectors (itemsIn buf used n size) k a .items)
+  pub next : r .k ≡ turnAt (take used buf) t addresses size sectors (itemsIn buf used n size) k a .k
+  pub buffer : after ≡ overwrite buf (used + blockHeaderLength) (flatten (turnAt (take used buf) t addresses size sectors (itemsIn buf used n size) k a .items))

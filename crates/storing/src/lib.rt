@@ -1,0 +1,163 @@
+// Internal: the second pass of a commit: the sectors that are stored, and the entries of the new table. The image's own bytes stay
+// as they are, so that it is read and searched meanwhile.
+//
+// Cost: each handed-in sector is compared with the sectors of the disc and with those stored before it, up to the first that
+// is equal; else linear in what is read and written.
+ghost use mathlib.Core.Path.{_≡_};
+ghost use Prim.Native.Nat.{_^_, _≤_, _<_};
+ghost use lib.ListN.{length};
+ghost use Rattle.format.specs.Layouts.{encode};
+ghost use Rattle.format.specs.Writing.{longestBuffer};
+ghost use Rattle.format.specs.Committing.{oldPointer};
+ghost use Rattle.opening.specs.Answers.{contents};
+ghost use Rattle.search.specs.Found.{Checked};
+ghost use Rattle.storing.specs.Stores.{Stores, stored};
+ghost use Rattle.storing.specs.Turns.{entryOf, Steps, Stepped, Turns, Turned};
+use fields::part;
+use format::ByteOffset;
+use format::ItemNumber;
+use format::Pointer;
+use format::SectorAddress;
+use opening::Opened;
+use search::Address;
+use search::Item;
+
+// Where a handed-in sector is, and how many are stored with it.
+struct Handed {
+    pointer: Pointer,
+    stored: u64,
+}
+
+// An address's table entry, and how many sectors are stored and how many addresses of the list are used up after it.
+struct Next {
+    entry: u64,
+    stored: u64,
+    k: usize,
+}
+
+// The table entry of a pointer.
+fn encode(shift: u64, p: Pointer) -> u64
+    requires { ⌜ (shift ≤ 32) × (p .block .0 < 2 ^ 32) × (p .item .0 < 2 ^ 32) ⌝ }
+    ensures { λ r. ⌜ r ≡ encode shift p ⌝ }
+{
+    let unit = 1u64 << shift;
+    let block = p.block;
+    let item = p.item;
+    block.0 * unit + item.0
+}
+
+// A handed-in sector: found on the disc, found among the `stored` sectors of the new block, or stored there as the next.
+fn store(buf: &mut [u8], used: u64, t: Opened, sector: &[u8], stored: u64) -> Handed
+    requires { ⌜ Steps (now buf) used (contents t) (now sector) stored ⌝ }
+    ensures { λ r. ⌜ Stepped (now (buf .entry)) (now (buf .exit)) used (contents t) (now (sector .entry)) stored r ⌝ }
+{
+    let old = search::on_disc(part(buf, 0, used), t, sector);
+    if let Address::Is(a) = old {
+        return Handed {
+            pointer: opening::pointer_at(part(buf, 0, used), t, a),
+            stored,
+        };
+    }
+    let start = used + 36;
+    let new = search::among(buf, ByteOffset(start), stored, sector);
+    if let Item::Is(i) = new {
+        return Handed {
+            pointer: Pointer {
+                block: ByteOffset(used),
+                item: i,
+            },
+            stored,
+        };
+    }
+    let size = sector.len() as u64;
+    fields::copy(buf, start + stored * size, sector);
+    Handed {
+        pointer: Pointer {
+            block: ByteOffset(used),
+            item: ItemNumber(stored),
+        },
+        stored: stored + 1,
+    }
+}
+
+// The entry of an address that is not in the list: what it was, encoded anew.
+fn old_entry(s: &[u8], t: Opened, a: SectorAddress, shift: u64) -> u64
+    requires { ⌜ Checked (now s) (contents t) × (length (now s) ≤ longestBuffer) × (a .0 < contents t .count) × (shift ≤ 32) ⌝ }
+    ensures { λ r. ⌜ r ≡ entryOf shift (oldPointer (now (s .entry)) (contents t) (a .0)) ⌝ }
+{
+    if opening::not_written(s, t, a) {
+        return 0;
+    }
+    encode(shift, opening::pointer_at(s, t, a))
+}
+
+// The entry of address a in the new table; a sector that is handed in for it is stored if it has to be.
+fn next_entry(
+    buf: &mut [u8],
+    used: u64,
+    t: Opened,
+    addresses: &[u64],
+    size: u64,
+    sectors: &[u8],
+    shift: u64,
+    k: usize,
+    a: SectorAddress,
+    stored: u64,
+) -> Next
+    requires { ⌜ Turns (now buf) used (contents t) (now addresses) size (now sectors) shift k (a .0) stored ⌝ }
+    ensures { λ r. ⌜ Turned (now (buf .entry)) (now (buf .exit)) used (contents t) (now (addresses .entry)) size (now (sectors .entry)) shift k (a .0) stored r ⌝ }
+{
+    if planning::is_next(addresses, k, a) {
+        let handed = k as u64;
+        let step = store(buf, used, t, part(sectors, handed * size, size), stored);
+        return Next {
+            entry: encode(shift, step.pointer),
+            stored: step.stored,
+            k: k + 1,
+        };
+    }
+    Next {
+        entry: old_entry(part(buf, 0, used), t, a, shift),
+        stored,
+        k,
+    }
+}
+
+// Writes the sectors that are stored, from used + 36 on, and the entries of the new table, from `at` on.
+pub fn put_entries(
+    buf: &mut [u8],
+    used: u64,
+    t: Opened,
+    addresses: &[u64],
+    size: u64,
+    sectors: &[u8],
+    at: ByteOffset,
+    shift: u64,
+)
+    requires { ⌜ Stores (now buf) used (contents t) (now addresses) size (now sectors) (at .0) shift ⌝ }
+    ensures { λ _. ⌜ now (buf .exit) ≡ stored (now (buf .entry)) used (contents t) (now (addresses .entry)) size (now (sectors .entry)) (at .0) shift ⌝ }
+{
+    let count = opening::count(t);
+    let mut stored: u64 = 0;
+    let mut k: usize = 0;
+    let mut a: u64 = 0;
+    // an iteration for each address of the disc
+    while a < count {
+        let n = next_entry(
+            buf,
+            used,
+            t,
+            addresses,
+            size,
+            sectors,
+            shift,
+            k,
+            SectorAddress(a),
+            stored,
+        );
+        fields::put(buf, at.0 + 8 * a, 8, n.entry);
+        stored = n.stored;
+        k = n.k;
+        a += 1;
+    }
+}
