@@ -25,7 +25,7 @@ use Rattle.format.proofs.Answers.{outcome-stops, outcome-done}
 use Rattle.format.proofs.Checks.{OpenOk, ArgumentsOk, DiscOk, arguments-ok, disc-ok, open-ok}
 use Rattle.format.proofs.Refusals.{row-passes, then-rest, answer-accepted}
 use Rattle.format.proofs.Storing.{stored-few, stored-sized, length-pieces, length-newPointers, length-entries}
-use Rattle.format.proofs.Appended.{shift-small, shift-holds}
+use Rattle.format.proofs.Appended.{shift-small}
 use Rattle.format.proofs.Written.{length-indexBytes}
 use Rattle.planning.specs.declared.Planned.{Planned}
 use Rattle.planning.specs.Plans.{Commits, storedBy, planFor}
@@ -210,12 +210,10 @@ module _ (buf : List ℕ) (used : ℕ) (t : Opened) (addresses : List ℕ) (size
         let few = subst (λ (u : Opened). length (storedBy img u addresses size sectors .items) ≤ longestBuffer) (sym opened-as) (omega (arith, items-few)) in
         record {
           commits = commits;
-          image = image-inside;
           short = arguments .bufferOk .long;
           items = omega (arith, length-img, block-room (length (st .items)) size);
           entries = omega arith;
           low = subst (λ (u : Opened). shiftFor (largest u) ≤ 32) opened-as (shift-small img (indexOffset img) addresses size sectors (disc .sound) (commits .short) few);
-          fits = subst (λ (u : Opened). largest u < 2 ^ shiftFor (largest u)) opened-as (shift-holds img (indexOffset img) addresses size sectors (disc .sound) (commits .short) few);
         }
 
     pub indexes : (b : List ℕ) → length b ≡ length buf → take used b ≡ img

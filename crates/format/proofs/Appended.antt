@@ -233,7 +233,7 @@ module _ (x : List ℕ) (o : ℕ) (addresses : List ℕ) (size : ℕ) (sectors :
     unfolding shiftFor
     shift-small = shift-least 64 0 (largestItem pointers) 32 zero-le largest-below
 
-    pub shift-holds : largestItem pointers < 2 ^ shift
+    shift-holds : largestItem pointers < 2 ^ shift
     unfolding shiftFor
     shift-holds = shift-fits 64 0 (largestItem pointers) (lt-of-lt-of-le largest-below (lit≤ tt))
 

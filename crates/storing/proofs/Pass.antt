@@ -61,7 +61,7 @@ module _ (img : List ℕ) (t : Opened) (addresses : List ℕ) (size : ℕ) (sect
       })
 
 -- ---- the loop
-entry-bytes : (shift : ℕ) (u : Option Pointer) → tableEntryBytes shift u ≡ toLe 8 (entryOf shift u)
+entry-bytes : (shift : ℕ) (u : Option Pointer) → tableEntryBytes shift u ≡ toLe tableEntryLength (entryOf shift u)
 unfolding tableEntryBytes entryOf
 entry-bytes shift none = refl
 entry-bytes shift (some p) = refl

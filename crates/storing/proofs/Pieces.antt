@@ -13,6 +13,7 @@ use Rattle.format.specs.Lists.{All, done, more}
 use Rattle.format.specs.Committing.{pieces}
 use Rattle.format.proofs.Lists.{Sized, length-flatten}
 
+-- sectors of some size are no more than their bytes
 pub most-items : (n size : ℕ) → size ≢ 0 → n ≤ n * size
 most-items n zero h = absurd (h refl)
 most-items n (suc size) h = omega (arith, mul-suc n size)
@@ -61,11 +62,11 @@ pieces-next s at n size l h =
     ∙ ap (λ (k : ℕ). overwrite (overwrite s at (flatten ls)) (at + k) l) (sym m)
     ∙ overwrite-then s at (flatten ls) l ∙ ap (overwrite s at) (sym (flatten-next ls l))
 
--- where the items are all to be written at `at`, and bytes are left to be written at q behind them: some items and the first of those bytes are written
-pub written-next : (s : List ℕ) (at q : ℕ) (some all e rest goal : List ℕ) → length some ≤ length all → at + length all ≤ q → q ≤ length s
-    → overwrite (overwrite s at all) q (e ++ rest) ≡ goal → overwrite (overwrite (overwrite (overwrite s at some) q e) at all) (q + length e) rest ≡ goal
-written-next s at q some all e rest goal h k m g =
-    ap (λ (r : List ℕ). overwrite (overwrite r at all) (q + length e) rest) (sym (overwrite-comm s q e at some (omega arith)))
+-- a run `all` is to be written at `at`, and e and then rest at q behind it: a run `first` at `at` and e at q change nothing of that
+pub written-next : (s : List ℕ) (at q : ℕ) (first all e rest goal : List ℕ) → length first ≤ length all → at + length all ≤ q → q ≤ length s
+    → overwrite (overwrite s at all) q (e ++ rest) ≡ goal → overwrite (overwrite (overwrite (overwrite s at first) q e) at all) (q + length e) rest ≡ goal
+written-next s at q first all e rest goal h k m g =
+    ap (λ (r : List ℕ). overwrite (overwrite r at all) (q + length e) rest) (sym (overwrite-comm s q e at first (omega arith)))
     ∙ ap (λ (r : List ℕ). overwrite r (q + length e) rest)
-    (overwrite-cover (overwrite s q e) at all at some (le-refl at) (omega arith) (rw length-overwrite (omega arith)) ∙ overwrite-comm s q e at all k)
+    (overwrite-cover (overwrite s q e) at all at first (le-refl at) (omega arith) (rw length-overwrite (omega arith)) ∙ overwrite-comm s q e at all k)
     ∙ overwrite-then (overwrite s at all) q e rest ∙ g

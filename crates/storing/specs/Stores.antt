@@ -1,14 +1,14 @@
 -- The second pass of a commit: what it asks for, and what it leaves.
 use mathlib.Core.List.{List, map, flatten}
 use mathlib.Core.Option.{Option}
-use Prim.Native.Nat.{ℕ, _+_, _*_, _^_, _≤_, _<_}
+use Prim.Native.Nat.{ℕ, _+_, _*_, _≤_}
 use lib.ListN.{length, take}
 use Rattle.fields.specs.Bytes.{overwrite}
 use Rattle.format.specs.declared.Pointer.{Pointer}
 use Rattle.format.specs.Layouts.{blockHeaderLength, tableEntryLength}
 use Rattle.format.specs.Opening.{Opened}
 use Rattle.format.specs.Writing.{longestBuffer}
-use Rattle.format.specs.Committing.{newPointers, largestItem, tableEntryBytes}
+use Rattle.format.specs.Committing.{newPointers, tableEntryBytes}
 use Rattle.planning.specs.Plans.{Commits, storedBy}
 
 -- the pointers of the new table
@@ -22,12 +22,10 @@ entriesBytes shift ps = flatten (map (tableEntryBytes shift) ps)
 -- for a buffer whose first `used` bytes are the image, with the new table's entries at `at`
 pub record Stores (buf : List ℕ) (used : ℕ) (t : Opened) (addresses : List ℕ) (size : ℕ) (sectors : List ℕ) (at shift : ℕ) : Type 0 where
   pub commits : Commits (take used buf) t addresses size sectors
-  pub image : used ≤ length buf
   pub short : length buf ≤ longestBuffer
   pub items : used + blockHeaderLength + length (storedBy (take used buf) t addresses size sectors .items) * size ≤ at
   pub entries : at + tableEntryLength * t .count ≤ length buf
   pub low : shift ≤ 32
-  pub fits : largestItem (pointersBy (take used buf) t addresses size sectors) < 2 ^ shift
 
 -- the buffer with the stored sectors after the place of the new block's header, and with the new table's entries
 unfoldable pub stored : List ℕ → ℕ → Opened → List ℕ → ℕ → List ℕ → ℕ → ℕ → List ℕ

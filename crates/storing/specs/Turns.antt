@@ -17,10 +17,6 @@ use Rattle.planning.specs.Plans.{isNext, Commits, sectorOf}
 use Rattle.storing.specs.declared.Handed.{Handed}
 use Rattle.storing.specs.declared.Next.{Next}
 
--- the n sectors that stand behind the place of the new block's header
-abbrev pub itemsIn : List ℕ → ℕ → ℕ → ℕ → List (List ℕ)
-itemsIn buf used n size = pieces n size (drop (used + blockHeaderLength) buf)
-
 -- what becomes of a handed-in sector where `items` are stored; the new block stands at the end of the image
 abbrev pub stepAt : List ℕ → Opened → List (List ℕ) → List ℕ → Step
 stepAt img t items sector = storeOne img t (length img) items sector
@@ -44,30 +40,40 @@ turnAt img t addresses size sectors items k a =
     (record { items = step .stored; pointer = some (step .pointer); k = k + 1 })
     (record { items = items; pointer = oldPointer img t a; k = k })
 
--- a buffer whose first `used` bytes are the image, with n stored sectors and room for one that has to be stored
+-- ---- by a buffer whose first `used` bytes are the image, with n sectors stored behind the place of the new block's header
+abbrev pub itemsIn : List ℕ → ℕ → ℕ → ℕ → List (List ℕ)
+itemsIn buf used n size = pieces n size (drop (used + blockHeaderLength) buf)
+
+abbrev pub stepIn : List ℕ → ℕ → Opened → List ℕ → ℕ → Step
+stepIn buf used t sector n = stepAt (take used buf) t (itemsIn buf used n (length sector)) sector
+
+abbrev pub turnIn : List ℕ → ℕ → Opened → List ℕ → ℕ → List ℕ → ℕ → ℕ → ℕ → Turn
+turnIn buf used t addresses size sectors k a n = turnAt (take used buf) t addresses size sectors (itemsIn buf used n size) k a
+
+-- a handed-in sector, for which there is room if it has to be stored
 pub record Steps (buf : List ℕ) (used : ℕ) (t : Opened) (sector : List ℕ) (n : ℕ) : Type 0 where
   pub checked : Checked (take used buf) t
   pub pos : length sector ≢ 0
   pub short : length buf ≤ longestBuffer
-  pub room : used + blockHeaderLength + length (stepAt (take used buf) t (itemsIn buf used n (length sector)) sector .stored) * length sector ≤ length buf
+  pub room : used + blockHeaderLength + length (stepIn buf used t sector n .stored) * length sector ≤ length buf
 
--- what it leaves
+-- what is answered for it, and the buffer afterwards; the sectors that are stored already are written over by themselves
 pub record Stepped (buf after : List ℕ) (used : ℕ) (t : Opened) (sector : List ℕ) (n : ℕ) (r : Handed) : Type 0 where
-  pub pointer : r .pointer ≡ stepAt (take used buf) t (itemsIn buf used n (length sector)) sector .pointer
-  pub stored : r .stored ≡ length (stepAt (take used buf) t (itemsIn buf used n (length sector)) sector .stored)
-  pub buffer : after ≡ overwrite buf (used + blockHeaderLength) (flatten (stepAt (take used buf) t (itemsIn buf used n (length sector)) sector .stored))
+  pub pointer : r .pointer ≡ stepIn buf used t sector n .pointer
+  pub stored : r .stored ≡ length (stepIn buf used t sector n .stored)
+  pub buffer : after ≡ overwrite buf (used + blockHeaderLength) (flatten (stepIn buf used t sector n .stored))
 
--- the same where the turn of address a comes
+-- an address, with room for a sector that has to be stored for it
 pub record Turns (buf : List ℕ) (used : ℕ) (t : Opened) (addresses : List ℕ) (size : ℕ) (sectors : List ℕ) (shift k a n : ℕ) : Type 0 where
   pub commits : Commits (take used buf) t addresses size sectors
   pub below : a < t .count
   pub short : length buf ≤ longestBuffer
-  pub room : used + blockHeaderLength + length (turnAt (take used buf) t addresses size sectors (itemsIn buf used n size) k a .items) * size ≤ length buf
+  pub room : used + blockHeaderLength + length (turnIn buf used t addresses size sectors k a n .items) * size ≤ length buf
   pub low : shift ≤ 32
 
--- what the turn leaves: the entry and the counts that it answers, and the buffer after it
+-- what is answered for it, and the buffer afterwards
 pub record Turned (buf after : List ℕ) (used : ℕ) (t : Opened) (addresses : List ℕ) (size : ℕ) (sectors : List ℕ) (shift k a n : ℕ) (r : Next) : Type 0 where
-  pub entry : r .entry ≡ entryOf shift (turnAt (take used buf) t addresses size sectors (itemsIn buf used n size) k a .pointer)
-  pub stored : r .stored ≡ length (turnAt (take used buf) t addresses size sectors (itemsIn buf used n size) k a .items)
-  pub next : r .k ≡ turnAt (take used buf) t addresses size sectors (itemsIn buf used n size) k a .k
-  pub buffer : after ≡ overwrite buf (used + blockHeaderLength) (flatten (turnAt (take used buf) t addresses size sectors (itemsIn buf used n size) k a .items))
+  pub entry : r .entry ≡ entryOf shift (turnIn buf used t addresses size sectors k a n .pointer)
+  pub stored : r .stored ≡ length (turnIn buf used t addresses size sectors k a n .items)
+  pub next : r .k ≡ turnIn buf used t addresses size sectors k a n .k
+  pub buffer : after ≡ overwrite buf (used + blockHeaderLength) (flatten (turnIn buf used t addresses size sectors k a n .items))

@@ -25,24 +25,30 @@ store-requires c κs = steps (c .before .before .before .before .before .before 
 
 encode-requires : tie.Need-encode-requires
 encode-requires c κs =
-    encodes (c .before .before .before .before .before .before .before .before .before .before .pre) (is-next (c .before .before .before .before)) (c .before .before .before .part .ensures) (c .before .before .store .ensures)
+    let d = c .before .before .before .before in
+    encodes (d .before .before .before .before .before .before .pre) (is-next d) (c .before .before .before .part .ensures) (c .before .before .store .ensures)
 
 add-t18 : tie.Need-add-t18
-add-t18 c = omega (arith, listed (c .before .before .before .before .before .before .before .before .before .before .before .pre) (is-next (c .before .before .before .before .before)), c .before .before .before .before .before .before .before .before .before .before .before .pre .commits .few)
+add-t18 c =
+    let d = c .before .before .before .before .before in
+    let h = d .before .before .before .before .before .before .pre in
+    omega (arith, listed h (is-next d), h .commits .few)
 
 returns : tie.Need-returns
 returns c =
-    handed-in (c .before .before .before .before .before .before .before .before .before .before .before .pre) (is-next (c .before .before .before .before .before)) (c .before .before .before .before .part .ensures) (c .before .before .before .store .ensures)
+    let d = c .before .before .before .before .before in
+    handed-in (d .before .before .before .before .before .before .pre) (is-next d) (c .before .before .before .before .part .ensures) (c .before .before .before .store .ensures)
     (c .encode .ensures)
 
 old-entry-requires : tie.Need-old-entry-requires
 old-entry-requires c κs =
-    old-readable (c .before .before .before .before .before .before .before .pre) (by (c .before .before .before .is-next .ensures) (c .before .before .if1 .left)) (c .part2 .ensures)
+    let d = c .before .before .before in
+    old-readable (d .before .before .before .before .pre) (by (d .is-next .ensures) (c .before .before .if1 .left)) (c .part2 .ensures)
 
 returns-2 : tie.Need-returns-2
 returns-2 c =
-    kept (c .before .before .before .before .before .before .before .before .pre) (by (c .before .before .before .before .is-next .ensures) (c .before .before .before .if1 .left)) (c .before .part2 .ensures)
-    (c .old-entry .ensures)
+    let d = c .before .before .before .before in
+    kept (d .before .before .before .before .pre) (by (d .is-next .ensures) (c .before .before .before .if1 .left)) (c .before .part2 .ensures) (c .old-entry .ensures)
 
 pub next-entry-spec : {M : Type 1} → statement M
 next-entry-spec =

@@ -17,30 +17,42 @@ abbrev μ-loop : tie.MeasureT-loop
 loop-holds : tie.Need-loop-holds Inv-loop μ-loop
 loop-holds c = starts _ _ _ _ _ _ _ _ (c .before .before .before .before .pre)
 
+-- in what follows d is the place at the loop's head
 next-entry-requires : tie.Need-next-entry-requires Inv-loop μ-loop
 next-entry-requires c κs =
-    turns _ _ _ _ _ _ _ _ (c .before .before .before .before .before .before .before .pre) (c .before .before .loop .inv) (omega (arith, c .before .loop-test .taken, c .before .before .before .count .ensures))
+    let d = c .before .before in
+    turns _ _ _ _ _ _ _ _ (d .before .before .before .before .before .pre) (d .loop .inv) (omega (arith, c .before .loop-test .taken, d .before .count .ensures))
 
 mul-put : tie.Need-mul-put Inv-loop μ-loop
-mul-put c = omega (arith, c .before .before .before .before .before .before .before .before .before .before .before .pre .entries, c .before .before .before .before .before .before .before .before .before .before .before .pre .short, c .before .before .before .before .before .loop-test .taken, c .before .before .before .before .before .before .before .count .ensures)
+mul-put c =
+    let d = c .before .before .before .before .before .before in
+    let h = d .before .before .before .before .before .pre in
+    omega (arith, h .entries, h .short, c .before .before .before .before .before .loop-test .taken, d .before .count .ensures)
 
 add-put : tie.Need-add-put Inv-loop μ-loop
-add-put c = omega (arith, c .before .before .before .before .before .before .before .before .before .before .before .before .pre .entries, c .before .before .before .before .before .before .before .before .before .before .before .before .pre .short, c .before .before .before .before .before .before .loop-test .taken, c .before .before .before .before .before .before .before .before .count .ensures)
+add-put c =
+    let d = c .before .before .before .before .before .before .before in
+    let h = d .before .before .before .before .before .pre in
+    omega (arith, h .entries, h .short, c .before .before .before .before .before .before .loop-test .taken, d .before .count .ensures)
 
 put-requires : tie.Need-put-requires Inv-loop μ-loop
 put-requires c κs =
-    omega (arith, c .before .before .before .before .before .before .before .before .before .before .before .before .pre .entries, c .before .before .before .before .before .before .before .loop .inv .long, c .before .before .before .before .next-entry .kept .0, c .before .before .before .before .before .before .loop-test .taken, c .before .before .before .before .before .before .before .before .count .ensures)
+    let d = c .before .before .before .before .before .before .before in
+    omega (arith, d .before .before .before .before .before .pre .entries, d .loop .inv .long, c .before .before .before .before .next-entry .kept .0, c .before .before .before .before .before .before .loop-test .taken, d .before .count .ensures)
 
 loop-again : tie.Need-loop-again Inv-loop μ-loop
 loop-again c =
-    goes _ _ _ _ _ _ _ _ (c .before .before .before .before .before .before .before .before .before .before .before .before .before .before .before .pre) (c .before .before .before .before .before .before .before .before .before .before .loop .inv) (omega (arith, c .before .before .before .before .before .before .before .before .before .loop-test .taken, c .before .before .before .before .before .before .before .before .before .before .before .count .ensures))
+    let d = c .before .before .before .before .before .before .before .before .before .before in
+    goes _ _ _ _ _ _ _ _ (d .before .before .before .before .before .pre) (d .loop .inv) (omega (arith, c .before .before .before .before .before .before .before .before .before .loop-test .taken, d .before .count .ensures))
     (c .before .before .before .before .before .before .before .next-entry .ensures) (c .before .before .put .ensures)
 
 same-length : tie.Need-same-length Inv-loop μ-loop
 same-length c = c .before .loop .inv .long
 
 returns : tie.Need-returns Inv-loop μ-loop
-returns c = ends _ _ _ _ _ _ _ _ (c .before .before .before .before .before .before .pre) (c .before .loop .inv) (omega (arith, c .loop-test .left, c .before .before .count .ensures))
+returns c =
+    let d = c .before in
+    ends _ _ _ _ _ _ _ _ (d .before .before .before .before .before .pre) (d .loop .inv) (omega (arith, c .loop-test .left, d .before .count .ensures))
 
 pub put-entries-spec : {M : Type 1} → statement M
 put-entries-spec =
