@@ -1,4 +1,5 @@
-// The library: the public calls. None asks anything of its caller; each refuses by the numbers of document 01, in its order.
+// The library: the public calls. None asks anything of its caller; each refuses by the numbers of document 01, in its order. A call
+// that is refused changes no byte of what it was lent. An image is the first `used` bytes of a lent buffer.
 ghost use mathlib.Core.Path.{_≡_};
 ghost use Rattle.format.specs.Opening.{sectorCount};
 ghost use Rattle.format.specs.Reading.{locate, read};
@@ -54,7 +55,9 @@ pub fn read<'a>(image: &'a [u8], a: SectorAddress) -> &'a [u8]
     }
 }
 
-// Makes a new image in the buffer, of `count` sectors that are not written: 31, 30, 33, 35. Later bytes stay as they are.
+// Makes a new image at the start of the buffer, of `count` sectors that are not written, or says why it can't: 31, 30, 33, 35. The
+// application's name has 32 bytes; times are stored as they are handed in. Later bytes of the buffer stay as they are. The answer is
+// how many bytes the image has, and where its index stands. Linear in the image's bytes.
 pub fn create(
     buffer: &mut [u8],
     count: u64,
@@ -87,8 +90,14 @@ pub fn create(
     })
 }
 
-// Makes the named sectors read as handed in, one after another in `sectors`, and leaves all others: 31, 32, 30, 33, 34, opening's
-// numbers, 20, the sectors' numbers but 21, 35.
+// Commits sectors of `size` bytes, which stand one after another in `sectors`, to the addresses of the list: these read as handed in
+// from then on, every other as before. Or says why it can't: 31, 32, 30, 33, 34, opening's numbers, 20, the number of the first sector of
+// the disc that is refused other than with 21, 35. The answer is the new `used`, and where the new index stands. No byte changes below the
+// old `used` but the header's indexOffset and lastWrittenTime, and none from the new one on.
+//
+// Cost, with n addresses, a disc of E sectors and I index entries: 2 n (E + n) comparisons of sectors, each of which ends at the first
+// difference; at most 2 E I + I I comparisons of numbers for the index, and E + I I where neighbouring addresses share a block and none is
+// damaged; each block that the index names is summed once; else linear in the image's and the appended bytes.
 pub fn commit(
     buffer: &mut [u8],
     used: u64,
@@ -110,7 +119,9 @@ pub fn commit(
     }
 }
 
-// Makes the disc read as it did when its index was at `offset`: 31, 32, then opening's numbers at that offset.
+// Rolls the disc back to the index at `offset`, which a creation or a commit answered: it reads as right after that call. Or says why it
+// can't: 31, 32, 1 to 3, then opening's numbers 4 to 14 with this offset in place of the header's. It sets the header's indexOffset and
+// lastWrittenTime alone. The answer is `used` and the offset. Linear in the index's and the table's bytes.
 pub fn rollback(buffer: &mut [u8], used: u64, offset: ByteOffset, time: u64) -> Updated
     ensures { λ r. ⌜ answered r (now (buffer .exit)) ≡ rollback (now (buffer .entry)) used (offset .0) time ⌝ }
 {
@@ -123,8 +134,10 @@ pub fn rollback(buffer: &mut [u8], used: u64, offset: ByteOffset, time: u64) -> 
         return Updated::Refused(r);
     }
     records::set_header(buffer, offset, time);
+    // the image stays as long as it is, so that what was committed later can be had back
+    let end = used;
     Updated::To(Placed {
-        used,
+        used: end,
         index: offset,
     })
 }

@@ -125,11 +125,11 @@ fn put_header(
 }
 
 // Sets indexOffset and lastWrittenTime.
-pub fn set_header(buf: &mut [u8], index: ByteOffset, time: u64)
+pub fn set_header(buf: &mut [u8], offset: ByteOffset, time: u64)
     requires { ⌜ 72 ≤ length (now buf) ⌝ }
-    ensures { λ _. ⌜ now (buf .exit) ≡ setHeader (now (buf .entry)) (index .0) time ⌝ }
+    ensures { λ _. ⌜ now (buf .exit) ≡ setHeader (now (buf .entry)) (offset .0) time ⌝ }
 {
-    put(buf, 48, 8, index.0);
+    put(buf, 48, 8, offset.0);
     put(buf, 64, 8, time);
 }
 
