@@ -1,21 +1,19 @@
 -- What one address of the pass adds, by what the searches answer.
-use mathlib.Core.Bool.{true}
+use mathlib.Core.Bool.{Bool, true, false}
 use mathlib.Core.List.{List}
 use mathlib.Core.Option.{Option, none, some}
 use mathlib.Core.Path.{_≡_, sym, ap, _∙_}
-use Prim.Native.Nat.{ℕ, _+_, _*_, _^_, _≤_, _<_}
-use native.Mathlib.Nat.{zero-mod}
+use Prim.Native.Nat.{ℕ, _+_, _*_, _≤_, _<_}
 use native.Mathlib.Omega.{arith}
 use lib.ListN.{length, drop}
 use Rattle.fields.proofs.Overwrite.{length-part}
 use Rattle.format.specs.declared.ItemNumber.{ItemNumber}
 use Rattle.format.specs.declared.Pointer.{Pointer}
 use Rattle.format.specs.declared.SectorAddress.{SectorAddress}
-use Rattle.format.specs.Layouts.{decode}
 use Rattle.format.specs.Opening.{Opened}
 use Rattle.format.specs.Reading.{notWritten, pointerAt}
 use Rattle.format.specs.Committing.{onDisc, amongStored, pieces, oldPointer, itemOrZero}
-use Rattle.format.proofs.Tests.{same-on, choose-cases}
+use Rattle.format.proofs.Tests.{choose-true, choose-false}
 use Rattle.format.proofs.Storing.{onDisc-found}
 use Rattle.search.specs.Found.{addressFound, itemFound}
 use Rattle.search.specs.declared.Address.{Address}
@@ -26,12 +24,15 @@ use Rattle.search.proofs.Stored.{room}
 use Rattle.planning.specs.Plans.{isNext, Commits, sectorOf, Looks, lookedFor, looked}
 use Rattle.planning.proofs.Cursor.{next-listed}
 
--- an entry of 0, not written, has item 0
-pub old-item : (img : List ℕ) (t : Opened) (a : ℕ) (p : Pointer) → p ≡ pointerAt img t a → p .item .0 ≡ itemOrZero (oldPointer img t a)
-unfolding oldPointer itemOrZero notWritten pointerAt decode
-old-item img t a p e =
-    choose-cases (λ (o : Option Pointer). p .item .0 ≡ itemOrZero o) (notWritten img t a) none (some (pointerAt img t a))
-    (λ z. ap (λ (q : Pointer). q .item .0) e ∙ rw (same-on _ _ z) (zero-mod (2 ^ t .shift))) (λ z. ap (λ (q : Pointer). q .item .0) e)
+-- the item of an address, by whether it is written
+module _ (img : List ℕ) (t : Opened) (a : ℕ) {b : Bool} (w : b ≡ notWritten img t a) where
+  pub item-none : b ≡ true → 0 ≡ itemOrZero (oldPointer img t a)
+  unfolding oldPointer itemOrZero
+  item-none e = ap itemOrZero (sym (choose-true _ _ _ (sym w ∙ e)))
+
+  pub item-old : (p : Pointer) → p ≡ pointerAt img t a → b ≡ false → p .item .0 ≡ itemOrZero (oldPointer img t a)
+  unfolding oldPointer itemOrZero
+  item-old p f e = ap (λ (q : Pointer). q .item .0) f ∙ ap itemOrZero (sym (choose-false _ _ _ (sym w ∙ e)))
 
 pub next-looks : {img : List ℕ} {t : Opened} {addresses : List ℕ} {size : ℕ} {sectors : List ℕ} (k a stored : ℕ) → Commits img t addresses size sectors
     → isNext addresses k a ≡ true → stored ≤ k → Looks img t size sectors k stored

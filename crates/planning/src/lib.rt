@@ -48,11 +48,14 @@ pub fn is_next(addresses: &[u64], k: usize, a: SectorAddress) -> bool
     addresses[k] == a.0
 }
 
-// The item number that address a has; the entry of an address that is not written gives 0.
+// The item number that address a has, 0 where it is not written.
 fn old_item(s: &[u8], t: Opened, a: SectorAddress) -> ItemNumber
     requires { ⌜ (opening (now s) ≡ accepted (contents t)) × (a .0 < contents t .count) ⌝ }
     ensures { λ r. ⌜ r .0 ≡ itemOrZero (oldPointer (now (s .entry)) (contents t) (a .0)) ⌝ }
 {
+    if opening::not_written(s, t, a) {
+        return ItemNumber(0);
+    }
     let p = opening::pointer_at(s, t, a);
     p.item
 }

@@ -4,8 +4,7 @@ use mathlib.Core.List.{List}
 use mathlib.Core.Logic.{_≢_, ⊎-elim}
 use mathlib.Core.Option.{Option}
 use mathlib.Core.Path.{_≡_, refl, sym, ap, _∙_}
-use Prim.Native.Nat.{ℕ, _+_, _/_, _%_, _^_, _≤_, _<_}
-use native.Mathlib.Nat.{mod-add-div, zero-div, zero-mod}
+use Prim.Native.Nat.{ℕ, _+_, _≤_, _<_}
 use native.Mathlib.Omega.{arith}
 use lib.ListN.{length}
 use Rattle.fields.specs.Bytes.{part, equal}
@@ -14,12 +13,12 @@ use Rattle.fields.proofs.Equal.{equal-true}
 use Rattle.fields.proofs.Compare.{compare-start}
 use Rattle.format.specs.declared.Place.{Place}
 use Rattle.format.specs.declared.Pointer.{Pointer}
-use Rattle.format.specs.Tests.{same, _and_, choose}
-use Rattle.format.specs.Layouts.{indexOffset, entries, decode}
+use Rattle.format.specs.Tests.{_and_, choose}
+use Rattle.format.specs.Layouts.{indexOffset, entries}
 use Rattle.format.specs.Opening.{Opened}
-use Rattle.format.specs.Reading.{tableEntry, notWritten, pointerAt, placeOf, itemBytes}
+use Rattle.format.specs.Reading.{notWritten, pointerAt, placeOf, itemBytes}
 use Rattle.format.specs.Committing.{sectorsVerdict, holdsSector}
-use Rattle.format.proofs.Tests.{on-or-off, never, same-on, same-true, same-iff, and-on, and-true, choose-true, choose-false}
+use Rattle.format.proofs.Tests.{on-or-off, never, choose-true, choose-false}
 use Rattle.format.proofs.Refusals.{firstRefusal-iff}
 use Rattle.format.proofs.Checks.{PointerOk, SectorOk, address-ok, item-inside}
 use Rattle.search.specs.Found.{Checked, slotAt}
@@ -34,42 +33,19 @@ sector-good img t a k h w =
     ⊎-elim (λ e. absurd (never e w)) (λ s. s)
     (firstRefusal-iff (t .count) (t .count) 0 (omega arith) (address-ok img (entries img (indexOffset img)) t) .0 (k .1) a (omega arith) h)
 
--- an entry is 0 exactly if both numbers that it encodes are
-zero-pointer : (img : List ℕ) (t : Opened) (a : ℕ) → (same (pointerAt img t a .block .0) 0 and same (pointerAt img t a .item .0) 0) ≡ notWritten img t a
-unfolding notWritten pointerAt decode
-zero-pointer img t a = ⊎-elim zero other (on-or-off (same (tableEntry img t a) 0))
-  where
-    e : ℕ
-    e = tableEntry img t a
-
-    both : Bool
-    both = same (e / 2 ^ t .shift) 0 and same (e % 2 ^ t .shift) 0
-
-    zero : same e 0 ≡ true → both ≡ same e 0
-    zero q = and-true _ _ (same-true _ _ (rw (same-on _ _ q) (zero-div _))) (same-true _ _ (rw (same-on _ _ q) (zero-mod _))) ∙ sym q
-
-    sum : both ≡ true → e ≡ 0
-    sum q =
-        let r = and-on _ _ q in
-        sym (mod-add-div e (2 ^ t .shift)) ∙ rw (same-on _ _ (r .0), same-on _ _ (r .1)) (omega arith)
-
-    other : same e 0 ≡ false → both ≡ same e 0
-    other q = ⊎-elim (λ r. absurd (same-iff .0 q (sum r))) (λ r. r ∙ sym q) (on-or-off both)
-
-module _ (img : List ℕ) (t : Opened) (a : ℕ) (p : Pointer) {b : Bool} (e : p ≡ pointerAt img t a) (z : b ≡ (same (p .block .0) 0 and same (p .item .0) 0)) where
-  answers : b ≡ notWritten img t a
-  answers = z ∙ rw e (zero-pointer img t a)
-
+-- ---- what an address has, by whether it is written
+module _ (img : List ℕ) (t : Opened) (a : ℕ) {b : Bool} (w : b ≡ notWritten img t a) where
   pub slot-empty : b ≡ true → slot.Empty ≡ slotAt img t a
   unfolding slotAt
-  slot-empty y = sym (choose-true _ _ _ (sym answers ∙ y))
+  slot-empty y = sym (choose-true _ _ _ (sym w ∙ y))
 
-  pub slot-item : b ≡ false → Checked img t → a < t .count → PointerOk img p
-  slot-item y k h = rw e (sector-good img t a k h (sym answers ∙ y) .item)
+  module _ (p : Pointer) (e : p ≡ pointerAt img t a) (n : b ≡ false) where
+    pub slot-item : Checked img t → a < t .count → PointerOk img p
+    slot-item k h = rw e (sector-good img t a k h (sym w ∙ n) .item)
 
-  pub slot-sector : (q : Place) → b ≡ false → q ≡ placeOf img p → slot.Sector q ≡ slotAt img t a
-  unfolding slotAt
-  slot-sector q y f = ap slot.Sector f ∙ rw e (sym (choose-false _ _ _ (sym answers ∙ y)))
+    pub slot-sector : (q : Place) → q ≡ placeOf img p → slot.Sector q ≡ slotAt img t a
+    unfolding slotAt
+    slot-sector q f = ap slot.Sector f ∙ rw e (sym (choose-false _ _ _ (sym w ∙ n)))
 
 is-empty : (b : Bool) (q : Place) → slot.Empty ≡ choose b slot.Empty (slot.Sector q) → b ≡ true
 unfolding choose

@@ -5,14 +5,12 @@
 ghost use mathlib.Core.Path.{_≡_};
 ghost use Prim.Native.Nat.{_+_, _*_, _≤_, _<_};
 ghost use lib.ListN.{length, drop};
-ghost use Rattle.format.specs.Tests.{same, _and_};
 ghost use Rattle.format.specs.Committing.{onDisc, amongStored, pieces};
 ghost use Rattle.opening.specs.Answers.{contents};
 ghost use Rattle.search.specs.Found.{Checked, addressFound, itemFound, slotAt};
 use format::ByteOffset;
 use format::ItemNumber;
 use format::Place;
-use format::Pointer;
 use format::SectorAddress;
 use opening::Opened;
 
@@ -34,28 +32,15 @@ enum Slot {
     Sector(Place),
 }
 
-// Both numbers are 0, as exactly an entry of 0 encodes.
-fn is_zero(p: Pointer) -> bool
-    ensures { λ r. ⌜ r ≡ (same (p .block .0) 0 and same (p .item .0) 0) ⌝ }
-{
-    let block = p.block;
-    if block.0 != 0 {
-        return false;
-    }
-    let item = p.item;
-    item.0 == 0
-}
-
-// What address a has. Its table entry is read once.
+// What address a has.
 fn slot_at(s: &[u8], t: Opened, a: SectorAddress) -> Slot
     requires { ⌜ Checked (now s) (contents t) × (a .0 < contents t .count) ⌝ }
     ensures { λ r. ⌜ r ≡ slotAt (now (s .entry)) (contents t) (a .0) ⌝ }
 {
-    let p = opening::pointer_at(s, t, a);
-    if is_zero(p) {
+    if opening::not_written(s, t, a) {
         return Slot::Empty;
     }
-    Slot::Sector(sectors::place(s, p))
+    Slot::Sector(sectors::place(s, opening::pointer_at(s, t, a)))
 }
 
 // The first address of the disc whose sector holds these bytes, length included.
@@ -76,13 +61,17 @@ pub fn on_disc(s: &[u8], t: Opened, sector: &[u8]) -> Address
         }
         let offset = place.start;
         let start = offset.0 as usize;
-        for j in 0..size {
+        let mut j: usize = 0;
+        loop {
+            if j == size {
+                found = Address::Is(SectorAddress(a));
+                break 'search;
+            }
             if s[start + j] != sector[j] {
                 continue 'search;
             }
+            j += 1;
         }
-        found = Address::Is(SectorAddress(a));
-        break 'search;
     }
     found
 }

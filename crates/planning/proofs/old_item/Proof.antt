@@ -1,11 +1,16 @@
 -- `planning::old_item` meets its contract. Assumes nothing.
 use borrow.Author.Needs.{needs}
-use Rattle.planning.proofs.Looking.{old-item}
+use Rattle.planning.proofs.Looking.{item-none, item-old}
 use Rattle.planning.proofs.old_item.Statement.{statement}
 use Rattle.planning.proofs.old_item.Tie as tie
 
 returns : tie.Need-returns
-returns c = old-item _ _ _ _ (c .before .pointer-at .ensures)
+returns c = item-none _ _ _ (c .before .not-written .ensures) (c .if1 .taken)
+
+returns-2 : tie.Need-returns-2
+returns-2 c =
+    let i = c .before .before in
+    item-old _ _ _ (i .before .not-written .ensures) _ (c .before .pointer-at .ensures) (i .if1 .left)
 
 pub old-item-spec : {M : Type 1} → statement M
-old-item-spec = tie.close (tie.spec (λ c κs. search needs) returns)
+old-item-spec = tie.close (tie.spec (λ c κs. search needs) returns (λ c κs. search needs) returns-2)

@@ -1,7 +1,8 @@
 -- `search::on_disc` meets its contract: the loops search through the addresses and compare the bytes of one. Assumes nothing.
 use borrow.Author.Needs.{needs}
+use denote.Ref.{now}
 use mathlib.Core.Path.{_≡_, refl}
-use Prim.Native.Nat.{_-_}
+use Prim.Native.Nat.{_-_, _<_}
 use native.Mathlib.Omega.{arith}
 use lib.ListN.{length}
 use Rattle.format.specs.Committing.{holdsSector, onDisc}
@@ -14,11 +15,11 @@ use Rattle.search.proofs.on_disc.Statement.{statement}
 use Rattle.search.proofs.on_disc.Tie as tie
 
 abbrev Inv-loop : tie.InvT-loop
-Inv-loop s t sector size found a₀ start j₀ a-end a j =
-    (a ≡ a₀) × Comparing (holdsSector s (contents t) sector) (t .count) (onDisc s (contents t) sector) s sector a start j
+Inv-loop s t sector size found₀ a₀ start j₀ a-end found a j =
+    (a ≡ a₀) × (found ≡ Missing) × Comparing (holdsSector s (contents t) sector) (t .count) (onDisc s (contents t) sector) s sector a start j
 
 abbrev μ-loop : tie.MeasureT-loop
-μ-loop s t sector size found a₀ start j₀ a-end a j = length sector - j
+μ-loop s t sector size found₀ a₀ start j₀ a-end found a j = length sector - j
 
 abbrev Inv-search : tie.InvT-search
 Inv-search s t sector size found₀ a₀ a-end found a =
@@ -26,6 +27,10 @@ Inv-search s t sector size found₀ a₀ a-end found a =
 
 abbrev μ-search : tie.MeasureT-search
 μ-search s t sector size found₀ a₀ a-end found a = t .count - a
+
+-- past the test, a byte is left
+short : (c : tie.Else2 Inv-loop μ-loop Inv-search μ-search) → c .before .loop .j < length (now (c .before .before .before .before .before .before .before .before .before .before .before .before .before .before .args .sector))
+short c = omega (arith, c .before .loop .inv .2 .most)
 
 search-holds : tie.Need-search-holds Inv-loop μ-loop Inv-search μ-search
 unfolding onDisc
@@ -52,18 +57,17 @@ loop-holds : tie.Need-loop-holds Inv-loop μ-loop Inv-search μ-search
 loop-holds c =
     let i = c .before .before .before .before .before .before .before in
     let p = c .before .before .before .before .slot .given .0 .0 in
-    (refl, size-same _ _ _ _ p (i .before .before .before .before .before .pre) (omega arith) (cc) (i .before .search .inv .1) (c .before .if1 .left))
+    (refl, i .before .search .inv .0, size-same _ _ _ _ p (i .before .before .before .before .before .pre) (omega arith) (cc) (i .before .search .inv .1) (c .before .if1 .left))
 
 search-again-3 : tie.Need-search-again-3 Inv-loop μ-loop Inv-search μ-search
 search-again-3 c =
     let l = c .before .before .before .before in
-    let i = l .before .before .before .before .before .before .before .before in
-    (i .before .search .inv .0, bytes-differ _ _ _ (l .loop .inv .1) (omega arith) (c .if2 .taken))
+    (l .loop .inv .1, bytes-differ _ _ _ (l .loop .inv .2) (short (c .before .before .before)) (c .if3 .taken))
 
 loop-again : tie.Need-loop-again Inv-loop μ-loop Inv-search μ-search
 loop-again c =
     let l = c .before .before .before .before in
-    (l .loop .inv .0, bytes-agree _ _ _ (l .loop .inv .1) (omega arith) (c .if2 .left))
+    (l .loop .inv .0, l .loop .inv .1, bytes-agree _ _ _ (l .loop .inv .2) (short (c .before .before .before)) (c .if3 .left))
 
 returns : tie.Need-returns Inv-loop μ-loop Inv-search μ-search
 unfolding addressFound
@@ -71,7 +75,7 @@ returns c = rw (c .before .search .inv .0) (search-done _ _ _ (c .before .search
 
 returns-2 : tie.Need-returns-2 Inv-loop μ-loop Inv-search μ-search
 unfolding addressFound
-returns-2 c = bytes-done _ _ _ (c .before .loop .inv .1) (omega arith)
+returns-2 c = bytes-done _ _ _ (c .before .loop .inv .2) (omega arith)
 
 pub on-disc-spec : {M : Type 1} → statement M
 on-disc-spec =
