@@ -119,9 +119,9 @@ pub fn commit(
     }
 }
 
-// Rolls the disc back to the index at `offset`, which a creation or a commit answered: it reads as right after that call. Or says why it
-// can't: 31, 32, 1 to 3, then opening's numbers 4 to 14 with this offset in place of the header's. It sets the header's indexOffset and
-// lastWrittenTime alone. The answer is `used` and the offset. Linear in the index's and the table's bytes.
+// Makes the index at `offset` the disc's: where a creation or a commit answered that offset, the disc reads as right after that call. Or
+// says why it can't: 31, 32, 1 to 3, then opening's numbers 4 to 14 with this offset in place of the header's. It sets the header's
+// indexOffset and lastWrittenTime alone. The answer is `used` and the offset. Linear in the index's and the table's bytes.
 pub fn rollback(buffer: &mut [u8], used: u64, offset: ByteOffset, time: u64) -> Updated
     ensures { λ r. ⌜ answered r (now (buffer .exit)) ≡ rollback (now (buffer .entry)) used (offset .0) time ⌝ }
 {

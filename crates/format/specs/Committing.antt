@@ -142,7 +142,7 @@ unfoldable pub largestItem : List (Option Pointer) → ℕ
 largestItem [] = 0
 largestItem (p ∷ ps) = max (itemOrZero p) (largestItem ps)
 
--- the first of the k shifts from s on under which n fits
+-- the first of the k shifts from s on under which n fits, else the one after them
 unfoldable pub shiftFrom : ℕ → ℕ → ℕ → ℕ
 shiftFrom zero s n = s
 shiftFrom (suc k) s n = choose (below n (2 ^ s)) s (shiftFrom k (suc s) n)

@@ -1,8 +1,9 @@
 // Internal: opening an image, checks 1 to 14 of document 01 (1 to 10 by `index`), and the opened image, which nothing else makes.
 //
 // Cost: the index is passed over twice, for its checksum and for its entries, and the table once, for its checksum.
+ghost use mathlib.Core.List.{List};
 ghost use mathlib.Core.Path.{_≡_};
-ghost use Prim.Native.Nat.{_+_, _≤_, _<_};
+ghost use Prim.Native.Nat.{ℕ, _+_, _≤_, _<_};
 ghost use lib.ListN.{length};
 ghost use Rattle.crc64.specs.Crc.{crcOf};
 ghost use Rattle.format.specs.declared.Verdict.the-variants.{Passes};
@@ -206,4 +207,17 @@ pub fn pointer_at(s: &[u8], t: Opened, a: SectorAddress) -> Pointer
     ensures { λ r. ⌜ r ≡ pointerAt (now (s .entry)) (contents t) (a .0) ⌝ }
 {
     decode(t.shift, table_entry(s, t, a))
+}
+
+// Whether the entry that encodes p is that of an address that is not written: exactly 0 encodes block 0 and item 0. A caller that wants
+// both reads the entry once.
+pub fn encodes_nothing(p: Pointer) -> bool
+    ensures { λ r. ⌜ ((img : List ℕ) (t : Opened) (a : ℕ) → p ≡ pointerAt img (contents t) a → r ≡ notWritten img (contents t) a) ⌝ }
+{
+    let block = p.block;
+    if block.0 != 0 {
+        return false;
+    }
+    let item = p.item;
+    item.0 == 0
 }

@@ -32,15 +32,16 @@ enum Slot {
     Sector(Place),
 }
 
-// What address a has.
+// What address a has. Its table entry is read once.
 fn slot_at(s: &[u8], t: Opened, a: SectorAddress) -> Slot
     requires { ⌜ Checked (now s) (contents t) × (a .0 < contents t .count) ⌝ }
     ensures { λ r. ⌜ r ≡ slotAt (now (s .entry)) (contents t) (a .0) ⌝ }
 {
-    if opening::not_written(s, t, a) {
+    let p = opening::pointer_at(s, t, a);
+    if opening::encodes_nothing(p) {
         return Slot::Empty;
     }
-    Slot::Sector(sectors::place(s, opening::pointer_at(s, t, a)))
+    Slot::Sector(sectors::place(s, p))
 }
 
 // The first address of the disc whose sector holds these bytes, length included.
