@@ -3,7 +3,7 @@ use mathlib.Core.Bool.{false}
 use mathlib.Core.List.{List, [], _∷_, _++_, append-assoc}
 use mathlib.Core.Option.{Option}
 use mathlib.Core.Path.{_≡_, refl, sym, ap, _∙_, subst}
-use Prim.Native.Nat.{ℕ, _+_, _*_, _^_, _≤_, _<_}
+use Prim.Native.Nat.{ℕ, _+_, _*_, _≤_, _<_}
 use native.Mathlib.Omega.{arith}
 use lib.ListN.{length, take, length-append}
 use lib.Seq.{length-take-le}
@@ -12,8 +12,7 @@ use Rattle.fields.proofs.Overwrite.{length-overwrite, overwrite-then, take-over
 use Rattle.format.specs.declared.Placed.{Placed}
 use Rattle.format.specs.declared.Pointer.{Pointer}
 use Rattle.format.specs.declared.Updated.the-variants as update
-use Rattle.format.specs.Lists.{All, done}
-use Rattle.format.specs.Layouts.{headerLength, indexOffset, entryCount, entries, indexBytes, indexHeaderLength, entryLength, blockHeaderLength, tableHeaderLength, tableHeader, tableBytes, tableEntryLength}
+use Rattle.format.specs.Layouts.{headerLength, indexOffset, entryCount, entries, indexBytes, entryLength, blockHeaderLength, tableHeaderLength, tableHeader, tableBytes, tableEntryLength}
 use Rattle.format.specs.Refusals.{refusal, row, _then_, accepted}
 use Rattle.format.specs.Opening.{Opened, opened, opening}
 use Rattle.format.specs.Writing.{mostAddresses, longestBuffer, placed, setHeader}
@@ -22,11 +21,12 @@ use Rattle.format.specs.Answers.{answered}
 use Rattle.format.proofs.Tests.{below-true, below-iff}
 use Rattle.format.proofs.Chains.{stop-last, on-last, goes}
 use Rattle.format.proofs.Answers.{outcome-stops, outcome-done}
-use Rattle.format.proofs.Checks.{OpenOk, ArgumentsOk, DiscOk, arguments-ok, disc-ok, open-ok}
+use Rattle.format.proofs.Checks.{OpenOk, ArgumentsOk, DiscOk, arguments-ok, disc-ok}
 use Rattle.format.proofs.Refusals.{row-passes, then-rest, answer-accepted}
 use Rattle.format.proofs.Storing.{stored-few, stored-sized, length-pieces, length-newPointers, length-entries}
 use Rattle.format.proofs.Appended.{shift-small}
 use Rattle.format.proofs.Written.{length-indexBytes}
+use Rattle.opening.proofs.Accepted.{opened-is}
 use Rattle.planning.specs.declared.Planned.{Planned}
 use Rattle.planning.specs.Plans.{Commits, storedBy, planFor}
 use Rattle.storing.specs.Stores.{Stores, pointersBy, entriesBytes, stored}
@@ -51,11 +51,11 @@ module _ (img : List ℕ) (t : Opened) (addresses : List ℕ) (size : ℕ) (sect
   abbrev l : Layout
   l = layoutFor img t size (length items)
 
-  pub appended-is : new ≡ appendedFor (length img) size (entries img (indexOffset img)) items (pointersBy img t addresses size sectors)
+  appended-is : new ≡ appendedFor (length img) size (entries img (indexOffset img)) items (pointersBy img t addresses size sectors)
   unfolding appended storedFor pointersFor
   appended-is = rw o
 
-  pub table-is : tableStart (length img) (newBlock size items) ≡ l .table .0
+  table-is : tableStart (length img) (newBlock size items) ≡ l .table .0
   unfolding tableStart layoutFor
   table-is = ap (λ n. length img + n) (length-newBlock size items (stored-sized img t (length img) (length addresses) size sectors whole))
 
@@ -64,25 +64,25 @@ module _ (img : List ℕ) (t : Opened) (addresses : List ℕ) (size : ℕ) (sect
   unfolding newEntries
   entries-are = rw (table-is, block-entry (length img) items)
 
-  pub block-is : new .block ≡ newBlock size items
+  block-is : new .block ≡ newBlock size items
   unfolding appendedFor
   block-is = ap (λ (a : Appended). a .block) appended-is
 
-  pub newTable-is : new .table ≡ newTable (pointersBy img t addresses size sectors)
+  newTable-is : new .table ≡ newTable (pointersBy img t addresses size sectors)
   unfolding appendedFor
   newTable-is = ap (λ (a : Appended). a .table) appended-is
 
-  pub index-is : new .index ≡ indexBytes (newEntries img (indexOffset img) (l .table .0) (length items))
+  index-is : new .index ≡ indexBytes (newEntries img (indexOffset img) (l .table .0) (length items))
   unfolding appendedFor
   index-is = ap (λ (a : Appended). a .index) appended-is ∙ ap indexBytes entries-are
 
-  pub indexStart-is : indexStart (length img) new ≡ l .index .0
+  indexStart-is : indexStart (length img) new ≡ l .index .0
   unfolding indexStart layoutFor
   indexStart-is =
       ap (λ b. tableStart (length img) b + length (new .table)) block-is ∙ ap (λ n. n + length (new .table)) table-is
       ∙ ap (λ n. l .table .0 + n) (ap length newTable-is ∙ length-newTable _ ∙ ap (λ n. tableHeaderLength + tableEntryLength * n) (length-newPointers img t addresses _ (t .count) 0))
 
-  pub usedAfter-is : usedAfter (length img) new ≡ l .end
+  usedAfter-is : usedAfter (length img) new ≡ l .end
   unfolding usedAfter layoutFor
   usedAfter-is =
       ap (λ n. n + length (new .index)) indexStart-is ∙ ap (λ n. l .index .0 + n) (ap length index-is ∙ length-indexBytes _)
@@ -160,8 +160,7 @@ module _ (buf : List ℕ) (used : ℕ) (t : Opened) (addresses : List ℕ) (size
   disc = disc-ok img (indexOffset img) addresses .0 (passed .disc)
 
   opened-as : opened img (indexOffset img) ≡ t
-  unfolding opening
-  opened-as = answer-accepted _ _ t (passed .opens) .1
+  opened-as = opened-is img t (passed .opens)
 
   pub length-img : length img ≡ used
   length-img = length-take-le used buf (arguments .bufferOk .inside)
@@ -199,12 +198,12 @@ module _ (buf : List ℕ) (used : ℕ) (t : Opened) (addresses : List ℕ) (size
   abbrev largest : Opened → ℕ
   largest u = largestItem (pointersBy img u addresses size sectors)
 
-  pub items-few : length (st .items) ≤ mostAddresses
+  items-few : length (st .items) ≤ mostAddresses
   items-few = omega (arith, stored-few img t (length img) (pieces (length addresses) size sectors) [], length-pieces (length addresses) size sectors, arguments .few)
 
   -- ---- where there is room, the block and the table can be written
   module _ (room : at .end ≤ length buf) where
-    pub stores : Stores buf used t addresses size sectors (at .table .0 + tableHeaderLength) (shiftFor (largest t))
+    stores : Stores buf used t addresses size sectors (at .table .0 + tableHeaderLength) (shiftFor (largest t))
     unfolding layoutFor storedFor pointersFor
     stores =
         let few = subst (λ (u : Opened). length (storedBy img u addresses size sectors .items) ≤ longestBuffer) (sym opened-as) (omega (arith, items-few)) in
@@ -216,7 +215,7 @@ module _ (buf : List ℕ) (used : ℕ) (t : Opened) (addresses : List ℕ) (size
           low = subst (λ (u : Opened). shiftFor (largest u) ≤ 32) opened-as (shift-small img (indexOffset img) addresses size sectors (disc .sound) (commits .short) few);
         }
 
-    pub indexes : (b : List ℕ) → length b ≡ length buf → take used b ≡ img
+    indexes : (b : List ℕ) → length b ≡ length buf → take used b ≡ img
         → Indexes b used (indexOffset img) (at .index .0) (at .table .0) (at .kept) (length (st .items))
     unfolding layoutFor
     indexes b l e =
@@ -235,7 +234,7 @@ module _ (buf : List ℕ) (used : ℕ) (t : Opened) (addresses : List ℕ) (size
   used-after : usedAfter used added ≡ at .end
   used-after = subst (λ n. usedAfter n added ≡ at .end) length-img (usedAfter-is img t addresses size sectors opened-as (arguments .whole))
 
-  pub all-written : (time : ℕ) {b₁ b₂ b₃ : List ℕ} → b₁ ≡ overwrite buf used (newBlock size (st .items) ++ newTable (pointersBy img t addresses size sectors))
+  all-written : (time : ℕ) {b₁ b₂ b₃ : List ℕ} → b₁ ≡ overwrite buf used (newBlock size (st .items) ++ newTable (pointersBy img t addresses size sectors))
       → b₂ ≡ overwrite b₁ (at .index .0) (indexBytes (newEntries (take used b₁) (indexOffset img) (at .table .0) (length (st .items))))
       → b₃ ≡ setHeader b₂ (at .index .0) time → b₃ ≡ setHeader (overwrite buf used (appendedBytes added)) (indexStart used added) time
   unfolding appendedBytes indexStart tableStart
@@ -254,13 +253,13 @@ module _ (buf : List ℕ) (used : ℕ) (t : Opened) (addresses : List ℕ) (size
       e₃ ∙ ap (λ l. setHeader l (at .index .0) time) f₂ ∙ ap (λ n. setHeader (overwrite buf used (added .block ++ (added .table ++ added .index))) n time) (sym index-start)
 
   -- ---- what the commit answers
-  pub no-room : (time : ℕ) → length buf < at .end → answered (update.Refused (refusal 35)) buf ≡ commit buf used addresses size sectors time
+  no-room : (time : ℕ) → length buf < at .end → answered (update.Refused (refusal 35)) buf ≡ commit buf used addresses size sectors time
   unfolding commit append commitVerdict
   no-room time h =
       outcome-stops buf _ _
       (goes (sym (passed .arguments)) (goes (sym (passed .disc)) (stop-last (below-true _ _ (omega (arith, used-after))))))
 
-  pub accepted-commit : (time : ℕ) {p : Placed} {after : List ℕ} → at .end ≤ length buf → p ≡ placed (at .end) (at .index .0)
+  accepted-commit : (time : ℕ) {p : Placed} {after : List ℕ} → at .end ≤ length buf → p ≡ placed (at .end) (at .index .0)
       → after ≡ setHeader (overwrite buf used (appendedBytes added)) (indexStart used added) time
       → answered (update.To p) after ≡ commit buf used addresses size sectors time
   unfolding commit append commitVerdict

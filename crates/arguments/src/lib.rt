@@ -1,7 +1,6 @@
 // Internal: the checks of a call's arguments, before an image is looked at: 30 to 34 of document 01.
-ghost use mathlib.Core.Bool.{not};
 ghost use mathlib.Core.Path.{_≡_};
-ghost use Prim.Native.Nat.{_*_, _≤_};
+ghost use Prim.Native.Nat.{_*_};
 ghost use lib.ListN.{length};
 ghost use Rattle.format.specs.Tests.{same, below, _or_};
 ghost use Rattle.format.specs.Writing.{mostSectors, largestSize, mostAddresses, bufferVerdict};

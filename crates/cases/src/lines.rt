@@ -1,20 +1,18 @@
 // The printed lines: a name, and what the case gave.
 ghost use Prim.Native.Nat.{_≤_};
-use format::Counted;
-use format::Located;
-use format::Refusal;
 use format::SectorAddress;
-use libc::STDOUT_FILENO;
-
-pub fn text(s: &[u8]) {
-    io::write_all(STDOUT_FILENO, s);
-}
+use printing::byte;
+use printing::counted;
+use printing::hex;
+use printing::located;
+use printing::number;
+use printing::text;
 
 // A name and a number of 64 bits, in hexadecimal.
 pub fn hex_line(name: &[u8], n: u64) {
     text(name);
     text(b": ");
-    io::print_hex(STDOUT_FILENO, n, 16);
+    hex(n);
     text(b"\n");
 }
 
@@ -28,10 +26,6 @@ pub fn same_line(name: &[u8], a: u64, b: u64) {
     }
 }
 
-fn wide(x: u8) -> u64 {
-    x as u64
-}
-
 // A name and eight bytes, in hexadecimal.
 pub fn bytes_line(name: &[u8], s: &[u8; 8]) {
     text(name);
@@ -39,31 +33,17 @@ pub fn bytes_line(name: &[u8], s: &[u8; 8]) {
     let mut i: usize = 0;
     while i < 8 {
         text(b" ");
-        io::print_hex(STDOUT_FILENO, wide(s[i]), 2);
+        byte(s[i]);
         i += 1;
     }
     text(b"\n");
-}
-
-// A word and a number.
-fn number(word: &[u8], n: u64) {
-    text(word);
-    io::print_decimal(STDOUT_FILENO, n);
-}
-
-fn refused(r: Refusal) {
-    number(b"refused ", r.number as u64);
 }
 
 // The sector count of the image's first `used` bytes, or the refusal.
 pub fn count(image: &[u8; 512], used: u64)
     requires { ⌜ used ≤ 512 ⌝ }
 {
-    let answer = aaru::sector_count(fields::part(image, 0, used));
-    match answer {
-        Counted::Sectors(n) => number(b"sectors ", n),
-        Counted::Refused(r) => refused(r),
-    }
+    counted(aaru::sector_count(fields::part(image, 0, used)));
 }
 
 fn count_line(name: &[u8], image: &[u8; 512], used: u64)
@@ -79,15 +59,7 @@ fn count_line(name: &[u8], image: &[u8; 512], used: u64)
 pub fn place(image: &[u8; 512], used: u64, address: SectorAddress)
     requires { ⌜ used ≤ 512 ⌝ }
 {
-    let answer = aaru::locate(fields::part(image, 0, used), address);
-    match answer {
-        Located::At(p) => {
-            let start = p.start;
-            number(b"", start.0);
-            number(b" ", p.size);
-        }
-        Located::Refused(r) => refused(r),
-    }
+    located(aaru::locate(fields::part(image, 0, used), address));
 }
 
 // The bytes of a sector as text in quotes: none where the read is refused.

@@ -2,7 +2,7 @@
 use super::disc::HEADER;
 use super::disc::p3;
 use super::disc::set;
-use super::lines::text;
+use printing::text;
 
 // A name, and the listing of an input.
 fn listing_lines(name: &[u8], input: &[u8]) {

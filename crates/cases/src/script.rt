@@ -1,10 +1,12 @@
 // Scripts of cases: rows of three numbers. A row writes a field, [at, width, number], or has one of the words below in the
 // width's place.
 ghost use Prim.Native.Nat.{_+_, _≤_};
+ghost use lib.ListN.{length};
 use super::lines::count;
 use super::lines::place;
-use super::lines::text;
 use format::SectorAddress;
+use printing::line;
+use printing::text;
 
 // [at, CRC, n]: writes a checksum there, of the n bytes that follow it.
 pub const CRC: u64 = 16;
@@ -56,20 +58,6 @@ fn answer(image: &[u8; 512], used: u64, word: u64, address: u64) {
     }
 }
 
-// Prints the line of `names` that starts there, and says where the next one does.
-fn name(names: &[u8], start: usize) -> usize {
-    let mut end = start;
-    // an iteration for each byte of the line
-    while end < names.len() {
-        if names[end] == b'\n' {
-            text(&names[start..end]);
-            return end + 1;
-        }
-        end += 1;
-    }
-    start
-}
-
 // Does what a row says, and says where the next case's name starts.
 fn step(
     image: &mut [u8; 512],
@@ -77,7 +65,10 @@ fn step(
     names: &[u8],
     start: usize,
     row: &[u64; 3],
-) -> usize {
+) -> usize
+    requires { ⌜ start ≤ length (now names) ⌝ }
+    ensures { λ r. ⌜ r ≤ length (now (names .entry)) ⌝ }
+{
     let word = row[1];
     if word <= CMP {
         write(image, row[0], word, row[2]);
@@ -87,7 +78,7 @@ fn step(
         fields::copy(image, 0, disc);
         return start;
     }
-    let next = name(names, start);
+    let next = line(names, start);
     text(b": ");
     answer(image, row[0], word, row[2]);
     text(b"\n");

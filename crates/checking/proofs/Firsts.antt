@@ -1,5 +1,5 @@
 -- The first address that a check refuses.
-use mathlib.Core.Logic.{_≢_, ⊎-elim}
+use mathlib.Core.Logic.{⊎-elim}
 use mathlib.Core.Path.{_≡_, refl, sym, ap, _∙_}
 use Prim.Native.Nat.{ℕ, zero, suc, _+_, _≤_, _<_}
 use native.Mathlib.Nat.{eq-or-lt-of-le}
@@ -8,14 +8,9 @@ use Rattle.format.specs.declared.Refusal.{Refusal}
 use Rattle.format.specs.declared.Verdict.{Verdict}
 use Rattle.format.specs.declared.Verdict.the-variants.{Passes, Refuses}
 use Rattle.format.specs.Refusals.{_then_, firstRefusal}
-use Rattle.format.proofs.Refusals.{not-passes, then-rest}
+use Rattle.format.proofs.Refusals.{not-passes, then-rest, then-stays}
 use Rattle.checking.specs.declared.First.{First}
 use Rattle.checking.specs.Checked.{IsFirst}
-
-pub then-stays : (v w : Verdict) → v ≢ Passes → (v then w) ≡ v
-unfolding _then_
-then-stays Passes w h = absurd (h refl)
-then-stays (Refuses r) w h = refl
 
 -- a first address, and none
 pub first-at : (f : ℕ → Verdict) (n a : ℕ) (r : Refusal) → a < n → ((i : ℕ) → i < a → f i ≡ Passes) → f a ≡ Refuses r

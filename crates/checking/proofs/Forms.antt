@@ -1,37 +1,29 @@
 -- The checks of a pointer and of a block before that of the checksums, and an address while blocks are still to be looked at.
 use mathlib.Core.Bool.{Bool, true, false}
 use mathlib.Core.List.{List}
-use mathlib.Core.Logic.{inl, ⊎-elim, _↔_, Iff·rfl}
-use mathlib.Core.Path.{_≡_, refl, sym, ap, _∙_, subst}
+use mathlib.Core.Logic.{inl, _↔_, Iff·rfl}
+use mathlib.Core.Path.{_≡_, refl, sym, ap, _∙_}
 use Prim.Native.Nat.{ℕ, _/_, _<_}
 use Rattle.format.specs.declared.Pointer.{Pointer}
 use Rattle.format.specs.declared.Refusal.{Refusal}
 use Rattle.format.specs.declared.Verdict.{Verdict}
 use Rattle.format.specs.declared.Verdict.the-variants.{Passes, Refuses}
-use Rattle.format.specs.Tests.{same, differs, _and_}
 use Rattle.format.specs.Refusals.{_then_}
 use Rattle.format.specs.Layouts.{sectorSize, blockLength}
 use Rattle.format.specs.Opening.{Opened}
 use Rattle.format.specs.Reading.{notWritten, pointerAt, has, blockVerdict}
 use Rattle.format.specs.Facts.{BlockOk}
-use Rattle.format.proofs.Tests.{never, not-iff, same-on, differs-iff, atLeast-iff, and-iff, and-on, choose-true, choose-false}
+use Rattle.format.proofs.Tests.{not-iff, atLeast-iff, and-iff, choose-true, choose-false}
 use Rattle.format.proofs.Refusals.{row-iff, then-iff}
 use Rattle.format.proofs.Checks.{block-ok}
 use Rattle.format.proofs.Chains.{on-last}
-use Rattle.checking.specs.Checked.{indexed, formVerdict, Formed, wrongSum, onlyAfter, damaged, mark, addressVerdict}
+use Rattle.checking.specs.Checked.{indexed, formVerdict, wrongSum, onlyAfter, damaged, mark, addressVerdict}
 
 -- ---- a pointer, but for the checksums
 pub form-ok : (img : List ℕ) (p : Pointer) → (formVerdict img p ≡ Passes)
     ↔ ((has (p .block .0) (indexed img) ≡ true) × (BlockOk img (p .block .0) × (p .item .0 < blockLength img (p .block .0) / sectorSize img (p .block .0))))
 unfolding formVerdict
 form-ok img p = then-iff (row-iff _ not-iff) (then-iff (block-ok img (p .block .0)) (row-iff _ atLeast-iff))
-
--- the block that is known
-pub formed-known : (img : List ℕ) (b k : ℕ) → Formed img k → (differs k 0 and same b k) ≡ true → (has b (indexed img) ≡ true) × BlockOk img b
-formed-known img b k known e =
-    let both = and-on (differs k 0) (same b k) e in
-    ⊎-elim (λ z. absurd (never (both .0) (differs-iff .1 z)))
-    (λ f. subst (λ (c : ℕ). (has c (indexed img) ≡ true) × BlockOk img c) (sym (same-on b k (both .1))) f) known
 
 -- ---- a damaged block
 module _ (img : List ℕ) (b : ℕ) where

@@ -12,13 +12,13 @@ use Rattle.format.specs.Layouts.{DBLK, entryLength, entryAt, entriesFrom}
 use Rattle.format.specs.Opening.{isUserData, offsetsOf, Opened}
 use Rattle.format.specs.Reading.{notWritten, pointerAt, has}
 use Rattle.format.proofs.Tests.{on-or-off, never, not-iff, same-on, same-iff, or-rest, and-iff, and-true, choose-true, choose-false}
-use Rattle.format.proofs.Refusals.{then-rest, row-refuses}
+use Rattle.format.proofs.Refusals.{then-rest, then-stays, row-refuses}
 use Rattle.format.proofs.Chains.{on-last, ends}
 use Rattle.format.proofs.Named.{has-head}
 use Rattle.index.proofs.Entries.{offsets-next}
 use Rattle.checking.specs.declared.First.{First}
 use Rattle.checking.specs.Checked.{formVerdict, damaged, mark, addressVerdict, FirstLeft, FirstFrom}
-use Rattle.checking.proofs.Firsts.{then-stays, first-at, first-same}
+use Rattle.checking.proofs.Firsts.{first-at, first-same}
 use Rattle.checking.proofs.Forms.{written, not-written}
 
 module _ (img : List ℕ) (t : Opened) where

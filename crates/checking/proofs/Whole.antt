@@ -1,10 +1,9 @@
 -- Once all blocks are looked at, the first address that is refused is that of the definition.
 use mathlib.Core.Bool.{Bool, true, not}
 use mathlib.Core.List.{List, []}
-use mathlib.Core.Logic.{⊎-elim, Iff·rfl}
+use mathlib.Core.Logic.{⊎-elim}
 use mathlib.Core.Path.{_≡_, refl, sym, ap, _∙_, subst}
 use Prim.Native.Nat.{ℕ, _≤_, _<_}
-use native.Mathlib.Omega.{arith}
 use Rattle.format.specs.declared.Pointer.{Pointer}
 use Rattle.format.specs.declared.Verdict.{Verdict}
 use Rattle.format.specs.declared.Verdict.the-variants.{Passes, Refuses}
@@ -14,9 +13,9 @@ use Rattle.format.specs.Layouts.{DBLK, indexOffset, entries}
 use Rattle.format.specs.Opening.{Opened}
 use Rattle.format.specs.Reading.{notWritten, pointerAt, has, blockVerdict, itemVerdict, pointerVerdict, sectorVerdict}
 use Rattle.format.specs.Committing.{otherThan21, sectorsVerdict}
-use Rattle.format.proofs.Tests.{on-or-off, same-iff, atLeast-iff, choose-false}
-use Rattle.format.proofs.Refusals.{row-iff, then-rest, then-assoc, Gives, row-not, then-not}
-use Rattle.format.proofs.Checks.{item-not, sector-21}
+use Rattle.format.proofs.Tests.{on-or-off}
+use Rattle.format.proofs.Refusals.{then-assoc}
+use Rattle.format.proofs.Checks.{pointer-not-21, keeps-others, sector-21, sector-pointer}
 use Rattle.index.proofs.Entries.{offsets-done}
 use Rattle.checking.specs.declared.First.{First}
 use Rattle.checking.specs.Checked.{indexed, formVerdict, onlyAfter, damaged, mark, addressVerdict, FirstLeft, FirstFrom}
@@ -28,11 +27,6 @@ unfolding _then_ _and_ onlyAfter
 only-after Passes w d = refl
 only-after (Refuses r) w d = refl
 
-keeps-others : (v : Verdict) → ¬ Gives 21 v → otherThan21 v ≡ v
-unfolding otherThan21 Gives
-keeps-others Passes n = refl
-keeps-others (Refuses r) n = choose-false _ _ _ (same-iff .1 n)
-
 module _ (img : List ℕ) (t : Opened) where
   pointer-whole : (q : Pointer) → (formVerdict img q then mark img [] (q .block .0)) ≡ pointerVerdict img (entries img (indexOffset img)) q
   unfolding formVerdict pointerVerdict itemVerdict damaged has
@@ -40,17 +34,12 @@ module _ (img : List ℕ) (t : Opened) where
       then-assoc _ _ _
       ∙ ap (λ (v : Verdict). row (not (has (q .block .0) (indexed img))) (refusal 22) then v) (then-assoc _ _ _ ∙ only-after (blockVerdict img (q .block .0)) _ _)
 
-  pointer-not-21 : (q : Pointer) → ¬ Gives 21 (pointerVerdict img (entries img (indexOffset img)) q)
-  unfolding pointerVerdict
-  pointer-not-21 q = then-not _ _ 21 (row-not _ (refusal 22) 21 (omega arith)) (item-not 21 (λ m h k e. omega arith) img q)
-
   address-whole : (a : ℕ) → a < t .count → addressVerdict img t [] a ≡ otherThan21 (sectorVerdict img (entries img (indexOffset img)) t a)
-  unfolding sectorVerdict otherThan21 same choose
+  unfolding otherThan21 same choose
   address-whole a l =
       ⊎-elim (λ e. not-written img t [] a e ∙ sym (ap otherThan21 (sector-21 img _ t a l e)))
       (λ e. written img t [] a e ∙ pointer-whole (pointerAt img t a)
-      ∙ sym (ap otherThan21 (then-rest _ _ (row-iff (refusal 20) atLeast-iff .1 l) ∙ then-rest _ _ (row-iff (refusal 21) Iff·rfl .1 e))
-      ∙ keeps-others _ (pointer-not-21 (pointerAt img t a))))
+      ∙ sym (ap otherThan21 (sector-pointer img _ t a l e) ∙ keeps-others _ (pointer-not-21 img _ (pointerAt img t a))))
       (on-or-off (notWritten img t a))
 
   pub all-looked-at : (left p : ℕ) {first : First} → left ≤ 0 → FirstFrom img t left p first

@@ -65,7 +65,7 @@ unfolding overwrite
 take-overwrite s at [] n h = refl
 take-overwrite s at (x ∷ xs) n h = take-overwrite (set s at x) (suc at) xs n (omega arith) ∙ take-set-le n s at x h
 
-pub drop-overwrite : (s : List ℕ) (at : ℕ) (new : List ℕ) (n : ℕ) → at + length new ≤ n → drop n (overwrite s at new) ≡ drop n s
+drop-overwrite : (s : List ℕ) (at : ℕ) (new : List ℕ) (n : ℕ) → at + length new ≤ n → drop n (overwrite s at new) ≡ drop n s
 unfolding overwrite
 drop-overwrite s at [] n h = refl
 drop-overwrite s at (x ∷ xs) n h = drop-overwrite (set s at x) (suc at) xs n (omega arith) ∙ drop-set-lt n s at x (omega arith)
@@ -95,7 +95,7 @@ pub length-part : (s : List ℕ) (at n : ℕ) → at + n ≤ length s → length
 unfolding part
 length-part s at n h = simp (length-take, length-drop) (omega arith)
 
-pub getD-part : (s : List ℕ) (at n i : ℕ) → i < n → getD (part s at n) i 0 ≡ getD s (at + i) 0
+getD-part : (s : List ℕ) (at n i : ℕ) → i < n → getD (part s at n) i 0 ≡ getD s (at + i) 0
 unfolding part
 getD-part s at n i h = getD-take n (drop at s) i 0 h ∙ getD-drop at s i 0
 
@@ -117,10 +117,6 @@ part-alike s t p q n hs ht h =
     ext-getD 0 (part s p n) (part t q n) (ls ∙ sym lt)
     (λ i b. let l : i < n = omega arith in
     getD-part s p n i l ∙ h i l ∙ sym (getD-part t q n i l))
-
--- a part before what is written stays
-pub part-before : (s : List ℕ) (at : ℕ) (new : List ℕ) (p n : ℕ) → p + n ≤ at → p + n ≤ length s → part (overwrite s at new) p n ≡ part s p n
-part-before s at new p n h l = part-alike (overwrite s at new) s p p n (rw length-overwrite l) l (λ i b. getD-off s at new (p + i) (inl (omega arith)))
 
 pub part-same : (s : List ℕ) (at n : ℕ) (new : List ℕ) → length new ≡ n → at + n ≤ length s → part (overwrite s at new) at n ≡ new
 unfolding part

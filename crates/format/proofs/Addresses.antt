@@ -12,12 +12,12 @@ use Rattle.format.specs.Lists.{All, done, more}
 use Rattle.format.specs.Committing.{rising, anyOutside, given}
 use Rattle.format.proofs.Tests.{below-on, atLeast-iff, same-true, same-iff, or-iff, and-on, choose-true, choose-false}
 
-pub rising-tail : (a : ℕ) (l : List ℕ) → rising (a ∷ l) ≡ true → rising l ≡ true
+rising-tail : (a : ℕ) (l : List ℕ) → rising (a ∷ l) ≡ true → rising l ≡ true
 unfolding rising
 rising-tail a [] h = refl
 rising-tail a (b ∷ l) h = and-on _ _ h .1
 
-pub rising-below : (a : ℕ) (l : List ℕ) (i : ℕ) → rising (a ∷ l) ≡ true → i < length l → a < getD l i 0
+rising-below : (a : ℕ) (l : List ℕ) (i : ℕ) → rising (a ∷ l) ≡ true → i < length l → a < getD l i 0
 unfolding rising
 rising-below a [] i h k = absurd (not-suc-le-zero k)
 rising-below a (b ∷ l) zero h k = below-on _ _ (and-on _ _ h .0)

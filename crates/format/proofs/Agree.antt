@@ -44,7 +44,7 @@ agree-trans x y z f g =
 
 -- ---- fields, and the facts of each group of checks
 module _ (x y : List ℕ) (g : Agree x y) where
-  pub part-rest : (at n : ℕ) → headerLength ≤ at → at + n ≤ length x → part x at n ≡ part y at n
+  part-rest : (at n : ℕ) → headerLength ≤ at → at + n ≤ length x → part x at n ≡ part y at n
   part-rest at n h k = part-alike x y at at n k (le-trans k (g .longer)) (λ i b. g .bytes (at + i) (inr (omega arith)) (omega arith))
 
   field-rest : (at n : ℕ) → headerLength ≤ at → at + n ≤ length x → field x at n ≡ field y at n
@@ -166,7 +166,7 @@ abbrev pub Low : ℕ → Type 0
 Low o = headerLength ≤ o
 
 -- what the index names lies past the header
-pub offsets-low : (img : List ℕ) (o : ℕ) → OpenOk img o → (letters : List ℕ) → All Low (offsetsOf letters (entries img o))
+offsets-low : (img : List ℕ) (o : ℕ) → OpenOk img o → (letters : List ℕ) → All Low (offsetsOf letters (entries img o))
 offsets-low img o k letters = offsets-all Low letters (entries img o) (all-map (λ e h. h .low) (k .entriesOk))
 
 pub block-low : (img : List ℕ) (o : ℕ) → OpenOk img o → (b : ℕ) → has b (offsetsOf DBLK (entries img o)) ≡ true → Low b

@@ -12,7 +12,6 @@ use lib.Dec.{lit<, lit≤}
 use lib.ListN.{length, getD, length-map}
 use lib.Pow.{pow-mono, pow-pos, high, low}
 use Rattle.fields.specs.Bytes.{part, fromLe}
-use Rattle.fields.proofs.Numbers.{length-toLe}
 use Rattle.fields.proofs.Holds.{Holds, holds-all, holds-left, holds-right, holds-number}
 use Rattle.format.specs.declared.Entry.{Entry}
 use Rattle.format.specs.declared.Pointer.{Pointer}
@@ -26,7 +25,7 @@ use Rattle.format.specs.Committing.{pieces, given, itemOf, oldPointer, n
 use Rattle.format.specs.Demands.{NoStaleChecksum}
 use Rattle.format.specs.Facts.{Identified, EntryOk, ItemOk}
 use Rattle.format.proofs.Tests.{never, same-true, same-iff, choose-true, choose-false}
-use Rattle.format.proofs.Lists.{Sized, all-append, all-map, all-get, length-flatten, getD-map, all-image}
+use Rattle.format.proofs.Lists.{Sized, all-append, all-map, all-get, length-flatten, getD-map}
 use Rattle.format.proofs.Checks.{PointerOk, SectorOk, AddressOk, Sound, read-20, read-21, read-bytes}
 use Rattle.format.proofs.Named.{user-data-on, user-data-true, user-data-false, offsets-yes, offsets-no, offsets-append, has-head, has-left, has-right}
 use Rattle.format.proofs.Agree.{Agree, header-agree, entry-agree, item-agree, bytes-agree, block-low}
@@ -40,7 +39,7 @@ decode-encode : (s : ℕ) (p : Pointer) → p .item .0 < 2 ^ s → decode s (enc
 unfolding decode encode
 decode-encode s p h = λ i. record { block = record { 0 = high (p .block .0) s h i }; item = record { 0 = low (p .block .0) s h i } }
 
-pub encode-lt : (s : ℕ) (p : Pointer) → s ≤ 32 → p .block .0 < 2 ^ 32 → p .item .0 < 2 ^ s → encode s p < 256 ^ 8
+encode-lt : (s : ℕ) (p : Pointer) → s ≤ 32 → p .block .0 < 2 ^ 32 → p .item .0 < 2 ^ s → encode s p < 256 ^ 8
 unfolding encode
 encode-lt s p h b k =
     let m : 2 ^ s ≤ 2 ^ 32 = pow-mono h in

@@ -1,5 +1,5 @@
 -- Each group of checks passes exactly if its facts hold. Nobody else opens a chain of checks.
-use mathlib.Core.Bool.{Bool, true, false, not}
+use mathlib.Core.Bool.{Bool, true, false}
 use mathlib.Core.List.{List, [], _∷_, cons-ne-nil}
 use mathlib.Core.Logic.{_≢_, _⊎_, ⊎-elim, ⊎-map, inl, inr, _↔_, Iff·rfl, Iff·trans}
 use mathlib.Core.Path.{_≡_, refl, sym, ap, _∙_, subst}
@@ -138,6 +138,16 @@ item-not n out img p =
     number : (b : Bool) (m : ℕ) → 23 ≤ m → m ≤ 27 → ¬ Gives n (row b (refusal m))
     number b m h k = row-not b (refusal m) n (out m h k)
 
+pub pointer-not-21 : (img : List ℕ) (es : List Entry) (p : Pointer) → ¬ Gives 21 (pointerVerdict img es p)
+unfolding pointerVerdict
+pointer-not-21 img es p = then-not _ _ 21 (row-not _ (refusal 22) 21 (omega arith)) (item-not 21 (λ m h k e. omega arith) img p)
+
+-- a verdict but for 21
+pub keeps-others : (v : Verdict) → ¬ Gives 21 v → otherThan21 v ≡ v
+unfolding otherThan21 Gives
+keeps-others Passes n = refl
+keeps-others (Refuses r) n = choose-false _ _ _ (same-iff .1 n)
+
 other-than-21 : (v : Verdict) → (otherThan21 v ≡ Passes) ↔ (Gives 21 v ⊎ (v ≡ Passes))
 unfolding otherThan21 Gives
 other-than-21 Passes = (λ h. inr refl, λ h. refl)
@@ -161,7 +171,7 @@ module _ (img : List ℕ) (es : List Entry) (t : Opened) (a : ℕ) where
       (λ (b, (c, (d, e))). record { inside = b; written = c; named = d; item = e }) (λ k. (k .inside, (k .written, (k .named, k .item))))
 
   -- which addresses are refused with 20 and with 21
-  pub sector-20 : t .count ≤ a → sectorVerdict img es t a ≡ Refuses (refusal 20)
+  sector-20 : t .count ≤ a → sectorVerdict img es t a ≡ Refuses (refusal 20)
   unfolding sectorVerdict
   sector-20 h = then-refuses _ _ _ (row-refuses _ _ (atLeast-true a (t .count) h))
 
@@ -169,15 +179,17 @@ module _ (img : List ℕ) (es : List Entry) (t : Opened) (a : ℕ) where
   unfolding sectorVerdict
   sector-21 h e = then-rest _ _ (row-iff _ atLeast-iff .1 h) ∙ then-refuses _ _ _ (row-refuses _ _ e)
 
+  -- all others by what their pointers point to
+  pub sector-pointer : a < t .count → notWritten img t a ≡ false → sectorVerdict img es t a ≡ pointerVerdict img es (pointerAt img t a)
+  unfolding sectorVerdict
+  sector-pointer h e = then-rest _ _ (row-iff (refusal 20) atLeast-iff .1 h) ∙ then-rest _ _ (row-iff (refusal 21) Iff·rfl .1 e)
+
   gives-21 : a < t .count → Gives 21 (sectorVerdict img es t a) ↔ (notWritten img t a ≡ true)
-  unfolding sectorVerdict pointerVerdict Gives
-  gives-21 h = ((λ e. ⊎-elim (λ q. q) (λ q. absurd (other q e)) (on-or-off (notWritten img t a))), λ e. subst (Gives 21) (sym (sector-21 h e)) refl)
-    where
-      other : notWritten img t a ≡ false → ¬ Gives 21 (sectorVerdict img es t a)
-      other q e =
-          then-not (row (not (has (pointerAt img t a .block .0) (offsetsOf DBLK es))) (refusal 22)) (itemVerdict img (pointerAt img t a)) 21
-          (row-not _ (refusal 22) 21 (omega arith)) (item-not 21 (λ m h k e. omega arith) img (pointerAt img t a))
-          (rw (then-rest _ _ (row-iff (refusal 20) atLeast-iff .1 h), then-rest _ _ (row-iff (refusal 21) Iff·rfl .1 q)) at e)
+  unfolding Gives
+  gives-21 h = (
+    (λ e. ⊎-elim (λ q. q) (λ q. absurd (pointer-not-21 img es _ (subst (Gives 21) (sector-pointer h q) e))) (on-or-off (notWritten img t a))),
+    λ e. subst (Gives 21) (sym (sector-21 h e)) refl,
+  )
 
   -- a commit passes an address exactly if it is not written or its sector is good
   pub address-ok : a < t .count → (otherThan21 (sectorVerdict img es t a) ≡ Passes) ↔ ((notWritten img t a ≡ true) ⊎ SectorOk img es t a)
@@ -196,7 +208,7 @@ read-ok img o a =
 
 -- what a read answers of an image that opens
 module _ (img : List ℕ) (o : ℕ) (k : OpenOk img o) (a : ℕ) where
-  verdict-opened : readVerdict img o a ≡ sectorVerdict img (entries img o) (opened img o) a
+  pub verdict-opened : readVerdict img o a ≡ sectorVerdict img (entries img o) (opened img o) a
   unfolding readVerdict
   verdict-opened = then-rest _ _ (open-ok img o .1 k)
 

@@ -10,7 +10,7 @@ use lib.ListN.{length, take, replicate, length-replicate, length-append}
 use Rattle.fields.specs.Bytes.{part, fromLe, field, overwrite}
 use Rattle.fields.proofs.Overwrite.{length-overwrite}
 use Rattle.fields.proofs.Holds.{Holds, holds-take, holds-overwrite, holds-part, holds-left, holds-right}
-use Rattle.fields.proofs.Records.{length-layout, holds-num, holds-raw}
+use Rattle.fields.proofs.Records.{holds-num, holds-raw}
 use Rattle.format.specs.declared.Placed.{Placed}
 use Rattle.format.specs.Lists.{All, done, more, IsBytes}
 use Rattle.format.specs.Refusals.{accepted}
@@ -24,7 +24,7 @@ use Rattle.format.proofs.Tests.{same-true}
 use Rattle.format.proofs.Lists.{all-take, all-drop, all-replicate}
 use Rattle.format.proofs.Checks.{Sound, create-ok}
 use Rattle.format.proofs.Named.{user-data-true, offsets-yes}
-use Rattle.format.proofs.Written.{EntryFits, length-tableBytes, table-identified, table-entries, length-indexBytes, Opens, opens-written}
+use Rattle.format.proofs.Written.{EntryFits, length-headerBytes, length-tableBytes, table-identified, table-entries, length-indexBytes, Opens, opens-written}
 use Rattle.format.proofs.Bytes.{bytes-overwrite, bytes-created}
 use Rattle.format.proofs.Buffers.{outcome-accepted}
 
@@ -50,8 +50,7 @@ module _ (count : ℕ) (application : List ℕ) (major minor mediaType creationT
   length-zeros = length-replicate {A = ℕ} (tableEntryLength * count) 0
 
   length-header : length header ≡ headerLength
-  unfolding headerBytes
-  length-header = simp length-layout (omega arith)
+  length-header = length-headerBytes application major minor mediaType (createdIndexAt count) creationTime lastWrittenTime sized
 
   length-new : length new ≡ createdUsed count
   unfolding createdBytes createdUsed createdIndexAt
@@ -92,7 +91,7 @@ module _ (count : ℕ) (application : List ℕ) (major minor mediaType creationT
           major = subst (λ n. field y n 1 ≡ 2) e (holds-num y 0 _ _ h 2 1 2 (lit< tt) refl (lit< tt));
         }
 
-    pub created-offset : indexOffset y ≡ o
+    created-offset : indexOffset y ≡ o
     unfolding indexOffset createdBytes headerBytes createdIndexAt
     created-offset =
         let e : 0 + (8 + (length application + (1 + (1 + (1 + (1 + (4 + 0))))))) ≡ indexOffsetAt = omega arith in
@@ -130,7 +129,7 @@ module _ (count : ℕ) (application : List ℕ) (major minor mediaType creationT
         same-true _ _
         (ap fromLe e ∙ fromLe-zeros _ (all-take _ (all-drop _ (all-replicate (tableEntryLength * count) 0 refl) (tableEntryLength * a)) 8))
 
-    pub created-sound : Sound y o
+    created-sound : Sound y o
     created-sound = record { opens = opens .ok; sectors = rw (opens .found) (λ a k. inl (nothing-written a k)) }
 
 -- ---- an accepted creation that answered p and left `after`

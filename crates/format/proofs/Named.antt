@@ -73,7 +73,7 @@ offsets-append letters (e ∷ a) b =
     (λ h. offsets-yes letters e (a ++ b) h ∙ ap (λ (l : List ℕ). e .offset .0 ∷ l) ih) (λ h. offsets-no letters e (a ++ b) h ∙ ih)
 
 -- ---- a member
-pub has-cons : (b c : ℕ) (l : List ℕ) → has b (c ∷ l) ≡ true → (c ≡ b) ⊎ (has b l ≡ true)
+has-cons : (b c : ℕ) (l : List ℕ) → has b (c ∷ l) ≡ true → (c ≡ b) ⊎ (has b l ≡ true)
 unfolding has
 has-cons b c l h = ⊎-elim (λ e. inl (same-on _ _ e)) inr (or-on _ _ h)
 

@@ -34,10 +34,15 @@ firstRefusal-iff {P} n (suc k) i e p =
       λ s. both .1 (s i (omega arith) (omega arith), λ a l b. s a (omega arith) b),
     )
 
--- ---- the rest of a chain
+-- ---- the rest of a chain, and none of it
 pub then-rest : (v w : Verdict) → v ≡ Passes → (v then w) ≡ w
 unfolding _then_
 then-rest v w p = rw p
+
+pub then-stays : (v w : Verdict) → v ≢ Passes → (v then w) ≡ v
+unfolding _then_
+then-stays Passes w h = absurd (h refl)
+then-stays (Refuses r) w h = refl
 
 -- chains of chains
 pub then-assoc : (u v w : Verdict) → ((u then v) then w) ≡ (u then (v then w))

@@ -44,7 +44,7 @@ shift-least (suc k) s n m h q =
 
 -- ---- the searches
 -- what a search finds passes its test
-pub firstWith-found : (f : ℕ → Bool) (k i a : ℕ) → firstWith f k i ≡ some a → (f a ≡ true) × (i ≤ a) × (a < i + k)
+firstWith-found : (f : ℕ → Bool) (k i a : ℕ) → firstWith f k i ≡ some a → (f a ≡ true) × (i ≤ a) × (a < i + k)
 unfolding firstWith
 firstWith-found f zero i a e = let z : _≡_ {A = ℕ} 0 1 = cc in absurd (omega arith)
 firstWith-found f (suc k) i a e =
@@ -71,7 +71,7 @@ amongStored-found stored sector j e =
     (omega (arith, r .2), equal-true _ _ (r .0))
 
 -- ---- the handed-in sectors
-pub pieces-sized : (k size : ℕ) (l : List ℕ) → length l ≡ k * size → All (Sized size) (pieces k size l)
+pieces-sized : (k size : ℕ) (l : List ℕ) → length l ≡ k * size → All (Sized size) (pieces k size l)
 unfolding pieces
 pieces-sized zero size l h = done
 pieces-sized (suc k) size l h =

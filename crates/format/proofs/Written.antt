@@ -14,12 +14,18 @@ use Rattle.fields.proofs.Holds.{Holds, holds-all, holds-left, holds-right}
 use Rattle.fields.proofs.Records.{length-layout, holds-num, holds-raw}
 use Rattle.format.specs.declared.Entry.{Entry}
 use Rattle.format.specs.Lists.{All, done, more}
-use Rattle.format.specs.Layouts.{IDX2, DBLK, DDT*, tag, headerLength, entryCount, entryAt, entriesFrom, entries, entryBytes, indexHeader, indexBytes, sectorSize, blockLength, blockPayload, blockHeader, blockBytes, tableShift, tableCount, tableLength, tablePayload, tableHeader, tableBytes, tableHeaderLength, blockHeaderLength, indexHeaderLength, entryLength, tableEntryLength}
+use Rattle.format.specs.Layouts.{IDX2, DBLK, DDT*, tag, headerLength, applicationLength, headerBytes, entryCount, entryAt, entriesFrom, entries, entryBytes, indexHeader, indexBytes, sectorSize, blockLength, blockPayload, blockHeader, blockBytes, tableShift, tableCount, tableLength, tablePayload, tableHeader, tableBytes, tableHeaderLength, blockHeaderLength, indexHeaderLength, entryLength, tableEntryLength}
 use Rattle.format.specs.Opening.{offsetsOf, tableAt, Opened, openedAt, opened}
 use Rattle.format.specs.Writing.{largestSize}
 use Rattle.format.specs.Facts.{Identified, HeaderOk, IndexOk, EntryOk, TableOk, ItemOk}
 use Rattle.format.proofs.Lists.{Sized, all-image, length-flatten}
 use Rattle.format.proofs.Checks.{tableAt-only, OpenOk}
+
+-- ---- the image header
+pub length-headerBytes : (application : List ℕ) (major minor mediaType index created written : ℕ) → length application ≡ applicationLength
+    → length (headerBytes application major minor mediaType index created written) ≡ headerLength
+unfolding headerBytes
+length-headerBytes application major minor mediaType index created written h = simp length-layout (omega arith)
 
 -- ---- pieces of one size
 pub holds-piece : (y : List ℕ) (n : ℕ) (ls : List (List ℕ)) → All (Sized n) ls → (p : ℕ) → Holds y p (flatten ls) → (j : ℕ) → j < length ls
@@ -34,9 +40,13 @@ holds-piece y n _ (more {a = l} {l = ls} e es) p h (suc j) k =
     rw z (holds-piece y n ls es (p + length l) (holds-right y p l (flatten ls) h refl) j (le-of-suc-le-suc k))
 
 -- ---- table
+pub length-tableHeader : (s c : ℕ) (payload : List ℕ) → length (tableHeader s c payload) ≡ tableHeaderLength
+unfolding tableHeader
+length-tableHeader s c payload = length-layout _
+
 pub length-tableBytes : (s c : ℕ) (payload : List ℕ) → length (tableBytes s c payload) ≡ tableHeaderLength + length payload
-unfolding tableBytes tableHeader
-length-tableBytes s c payload = simp (length-append, length-layout) (omega arith)
+unfolding tableBytes
+length-tableBytes s c payload = simp (length-append, length-tableHeader)
 
 module _ (y : List ℕ) (t s c : ℕ) (payload : List ℕ) (h : Holds y t (tableBytes s c payload)) where
   pub table-identified : Identified y t DDT*
@@ -44,8 +54,8 @@ module _ (y : List ℕ) (t s c : ℕ) (payload : List ℕ) (h : Holds y t (table
   table-identified = holds-raw y t DDT* _ _ h
 
   pub table-entries : Holds y (t + tableHeaderLength) payload
-  unfolding tableBytes tableHeader
-  table-entries = holds-right y t (tableHeader s c payload) payload h (simp length-layout)
+  unfolding tableBytes
+  table-entries = holds-right y t (tableHeader s c payload) payload h (ap (λ n. t + n) (length-tableHeader s c payload))
 
   table-shift : s ≤ 32 → tableShift y t ≡ s
   unfolding tableBytes tableHeader
@@ -79,9 +89,13 @@ module _ (y : List ℕ) (t s c : ℕ) (payload : List ℕ) (h : Holds y t (table
       }
 
 -- ---- block
+pub length-blockHeader : (size : ℕ) (payload : List ℕ) → length (blockHeader size payload) ≡ blockHeaderLength
+unfolding blockHeader
+length-blockHeader size payload = length-layout _
+
 pub length-blockBytes : (size : ℕ) (payload : List ℕ) → length (blockBytes size payload) ≡ blockHeaderLength + length payload
-unfolding blockBytes blockHeader
-length-blockBytes size payload = simp (length-append, length-layout) (omega arith)
+unfolding blockBytes
+length-blockBytes size payload = simp (length-append, length-blockHeader)
 
 module _ (y : List ℕ) (b size : ℕ) (payload : List ℕ) (h : Holds y b (blockBytes size payload)) where
   pub block-identified : Identified y b DBLK
@@ -89,8 +103,8 @@ module _ (y : List ℕ) (b size : ℕ) (payload : List ℕ) (h : Holds y b (bloc
   block-identified = holds-raw y b DBLK _ _ h
 
   pub block-items : Holds y (b + blockHeaderLength) payload
-  unfolding blockBytes blockHeader
-  block-items = holds-right y b (blockHeader size payload) payload h (simp length-layout)
+  unfolding blockBytes
+  block-items = holds-right y b (blockHeader size payload) payload h (ap (λ n. b + n) (length-blockHeader size payload))
 
   pub block-size : size ≤ largestSize → sectorSize y b ≡ size
   unfolding blockBytes blockHeader
@@ -131,16 +145,20 @@ pub record EntryFits (e : Entry) : Type 0 where
   pub dataType : e .dataType < 256 ^ 4
   pub offset : e .offset .0 < 256 ^ 8
 
-length-entryBytes : (e : Entry) → length (entryBytes e) ≡ entryLength
+pub length-entryBytes : (e : Entry) → length (entryBytes e) ≡ entryLength
 unfolding entryBytes
-length-entryBytes e = simp length-layout
+length-entryBytes e = length-layout _
 
-length-payload : (es : List Entry) → length (flatten (map entryBytes es)) ≡ entryLength * length es
-length-payload es = let e = length-flatten entryLength (map entryBytes es) (all-image entryBytes length-entryBytes es) in let l = length-map es entryBytes in omega arith
+pub length-entriesBytes : (es : List Entry) → length (flatten (map entryBytes es)) ≡ entryLength * length es
+length-entriesBytes es = let e = length-flatten entryLength (map entryBytes es) (all-image entryBytes length-entryBytes es) in let l = length-map es entryBytes in omega arith
+
+pub length-indexHeader : (count : ℕ) (payload : List ℕ) → length (indexHeader count payload) ≡ indexHeaderLength
+unfolding indexHeader
+length-indexHeader count payload = length-layout _
 
 pub length-indexBytes : (es : List Entry) → length (indexBytes es) ≡ indexHeaderLength + entryLength * length es
-unfolding indexBytes indexHeader
-length-indexBytes es = simp (length-append, length-layout) (omega (arith, length-payload es))
+unfolding indexBytes
+length-indexBytes es = simp (length-append, length-indexHeader, length-entriesBytes es)
 
 entry-written : (y : List ℕ) (p : ℕ) (e : Entry) → EntryFits e → Holds y p (entryBytes e) → entryAt y p ≡ e
 unfolding entryAt entryBytes
@@ -169,8 +187,8 @@ module _ (y : List ℕ) (o : ℕ) (es : List Entry) (h : Holds y o (indexBytes e
   index-count few = holds-num y o _ _ h 1 8 (length es) (lit< tt) refl few
 
   index-run : Holds y (o + indexHeaderLength) indexPayload
-  unfolding indexBytes indexHeader
-  index-run = holds-right y o (indexHeader (length es) indexPayload) indexPayload h (simp length-layout)
+  unfolding indexBytes
+  index-run = holds-right y o (indexHeader (length es) indexPayload) indexPayload h (ap (λ n. o + n) (length-indexHeader (length es) indexPayload))
 
   index-entries : length es < 256 ^ 8 → All EntryFits es → entries y o ≡ es
   unfolding entries
@@ -182,7 +200,7 @@ module _ (y : List ℕ) (o : ℕ) (es : List Entry) (h : Holds y o (indexBytes e
       let f : o + length (indexBytes es) ≤ length y = h .fits in
       let l : length (indexBytes es) ≡ indexHeaderLength + entryLength * length es = length-indexBytes es in
       let en : entryCount y o ≡ length es = index-count few in
-      let lp : length indexPayload ≡ entryLength * length es = length-payload es in
+      let lp : length indexPayload ≡ entryLength * length es = length-entriesBytes es in
       record {
         low = low;
         head = omega arith;

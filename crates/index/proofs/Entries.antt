@@ -39,18 +39,28 @@ module _ (img : List ℕ) (left p : ℕ) {v : Verdict} (all : entriesVerdict img
   unfolding entriesVerdict
   verdict-done h = sym (ap (λ (k : ℕ). entriesVerdict img k p) (end left h)) ∙ all
 
+-- ---- the entries
+module _ (img : List ℕ) (left p : ℕ) where
+  pub entries-next : 0 < left → entriesFrom img left p ≡ entryAt img p ∷ entriesFrom img (left - 1) (p + entryLength)
+  unfolding entriesFrom
+  entries-next h = ap (λ (k : ℕ). entriesFrom img k p) (step left h)
+
+  pub entries-done : left ≤ 0 → entriesFrom img left p ≡ []
+  unfolding entriesFrom
+  entries-done h = ap (λ (k : ℕ). entriesFrom img k p) (end left h)
+
 -- ---- the offsets of one kind of block
 module _ (letters img : List ℕ) (left p : ℕ) where
   pub offsets-next : 0 < left → offsetsOf letters (entriesFrom img left p)
       ≡ choose (isUserData letters (entryAt img p))
       (entryAt img p .offset .0 ∷ offsetsOf letters (entriesFrom img (left - 1) (p + entryLength)))
       (offsetsOf letters (entriesFrom img (left - 1) (p + entryLength)))
-  unfolding entriesFrom offsetsOf
-  offsets-next h = ap (λ (k : ℕ). offsetsOf letters (entriesFrom img k p)) (step left h)
+  unfolding offsetsOf
+  offsets-next h = ap (offsetsOf letters) (entries-next img left p h)
 
   pub offsets-done : left ≤ 0 → offsetsOf letters (entriesFrom img left p) ≡ []
-  unfolding entriesFrom offsetsOf
-  offsets-done h = ap (λ (k : ℕ). offsetsOf letters (entriesFrom img k p)) (end left h)
+  unfolding offsetsOf
+  offsets-done h = ap (offsetsOf letters) (entries-done img left p h)
 
 -- ---- checks 9 and 10; all entries are those of the index at o
 module _ (img : List ℕ) (o : ℕ) where

@@ -2,7 +2,7 @@
 use mathlib.Core.List.{List, [], _∷_, flatten}
 use mathlib.Core.Logic.{_≢_}
 use mathlib.Core.Path.{_≡_, refl, sym, ap, _∙_}
-use Prim.Native.Nat.{ℕ, suc, _+_, _-_, _*_, _≤_, _<_}
+use Prim.Native.Nat.{ℕ, _+_, _-_, _*_, _≤_, _<_}
 use native.Mathlib.Omega.{arith}
 use lib.ListN.{length, take}
 use Rattle.fields.specs.Bytes.{part, fromLe, overwrite}
@@ -12,7 +12,8 @@ use Rattle.format.specs.Layouts.{CKSM, tag, indexHeaderLength, entryLength, ent
 use Rattle.format.specs.Committing.{keptEntry, keptEntries}
 use Rattle.format.proofs.Tests.{choose-true, choose-false}
 use Rattle.format.proofs.Named.{type-true, type-false}
-use Rattle.records.proofs.Sealed.{length-entryBytes}
+use Rattle.format.proofs.Written.{length-entryBytes}
+use Rattle.index.proofs.Entries.{entries-next, entries-done}
 use Rattle.indexing.specs.Entries.{entriesBytes}
 
 -- 'CKSM' as the code has it
@@ -25,22 +26,18 @@ is-checksumBlock = refl
 
 -- ---- one entry
 module _ (table : ℕ) (img : List ℕ) (left p : ℕ) (h : 0 < left) where
-  next : entriesFrom img left p ≡ entryAt img p ∷ entriesFrom img (left - 1) (p + entryLength)
-  unfolding entriesFrom
-  next = let e : left ≡ suc (left - 1) = omega arith in ap (λ (k : ℕ). entriesFrom img k p) e
-
   kept-skips : entryAt img p .blockType ≡ checksumBlock → keptEntries table (entriesFrom img left p) ≡ keptEntries table (entriesFrom img (left - 1) (p + entryLength))
   unfolding keptEntries
-  kept-skips e = ap (keptEntries table) next ∙ choose-true _ _ _ (type-true CKSM (entryAt img p) (e ∙ is-checksumBlock))
+  kept-skips e = ap (keptEntries table) (entries-next img left p h) ∙ choose-true _ _ _ (type-true CKSM (entryAt img p) (e ∙ is-checksumBlock))
 
   kept-keeps : entryAt img p .blockType ≢ checksumBlock
       → keptEntries table (entriesFrom img left p) ≡ keptEntry table (entryAt img p) ∷ keptEntries table (entriesFrom img (left - 1) (p + entryLength))
   unfolding keptEntries
-  kept-keeps e = ap (keptEntries table) next ∙ choose-false _ _ _ (type-false CKSM (entryAt img p) (λ z. e (z ∙ sym is-checksumBlock)))
+  kept-keeps e = ap (keptEntries table) (entries-next img left p h) ∙ choose-false _ _ _ (type-false CKSM (entryAt img p) (λ z. e (z ∙ sym is-checksumBlock)))
 
 kept-done : (table : ℕ) (img : List ℕ) (left p : ℕ) → left ≤ 0 → keptEntries table (entriesFrom img left p) ≡ []
-unfolding keptEntries entriesFrom
-kept-done table img left p h = let e : left ≡ 0 = omega arith in ap (λ (k : ℕ). keptEntries table (entriesFrom img k p)) e
+unfolding keptEntries
+kept-done table img left p h = ap (keptEntries table) (entries-done img left p h)
 
 -- ---- counting: `kept` so far, of the index at o
 pub record Counting (s : List ℕ) (o left p kept : ℕ) : Type 0 where

@@ -10,13 +10,9 @@ use Rattle.fields.proofs.Overwrite.{overwrite-then, overwrite-nil}
 use Rattle.format.specs.declared.Entry.{Entry}
 use Rattle.format.specs.Layouts.{tag, indexHeaderLength, entryLength, entryBytes, entries, indexHeader, indexBytes}
 use Rattle.format.specs.Committing.{keptEntries}
-use Rattle.records.proofs.Sealed.{length-entryBytes, length-indexHeader, sealed}
+use Rattle.format.proofs.Written.{length-entriesBytes, length-indexHeader}
+use Rattle.records.proofs.Sealed.{sealed}
 use Rattle.indexing.specs.Entries.{blockEntry, newEntries, entriesBytes, Indexes}
-
-length-entriesBytes : (es : List Entry) → length (entriesBytes es) ≡ entryLength * length es
-unfolding entriesBytes flatten
-length-entriesBytes [] = refl
-length-entriesBytes (e ∷ es) = simp length-append (omega (arith, length-entryBytes e, length-entriesBytes es))
 
 entriesBytes-append : (a b : List Entry) → entriesBytes (a ++ b) ≡ entriesBytes a ++ entriesBytes b
 unfolding entriesBytes flatten

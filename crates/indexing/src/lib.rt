@@ -2,7 +2,6 @@
 // out, and the new data block's last.
 //
 // Cost: two passes over the old entries, one to count and one to write, and one over the new ones for their checksum.
-ghost use mathlib.Core.List.{_++_};
 ghost use mathlib.Core.Path.{_≡_};
 ghost use Prim.Native.Nat.{ℕ, _+_, _*_, _≤_, _<_};
 ghost use lib.ListN.{length, take};

@@ -6,17 +6,11 @@ use native.Mathlib.Omega.{arith}
 use lib.ListN.{length, replicate, length-replicate}
 use Rattle.fields.specs.Bytes.{part, fromLe, overwrite}
 use Rattle.fields.proofs.Overwrite.{length-overwrite, overwrite-then}
-use Rattle.fields.proofs.Records.{length-layout}
 use Rattle.format.specs.declared.Entry.{Entry}
 use Rattle.format.specs.Layouts.{tag, applicationLength, headerLength, headerBytes, entryLength, entryBytes, indexHeaderLength, indexHeader, indexBytes, tableHeaderLength, tableHeader, tableEntryLength, tableBytes}
 use Rattle.format.specs.Creating.{createdIndexAt, createdUsed, createdEntries, createdBytes}
-use Rattle.format.proofs.Written.{length-tableBytes}
-use Rattle.records.proofs.Sealed.{length-entryBytes, length-tableHeader, length-indexHeader, sealed}
-
-length-header : (application : List ℕ) (major minor mediaType index created written : ℕ) → length application ≡ applicationLength
-    → length (headerBytes application major minor mediaType index created written) ≡ headerLength
-unfolding headerBytes
-length-header application major minor mediaType index created written h = simp length-layout (omega arith)
+use Rattle.format.proofs.Written.{length-headerBytes, length-entryBytes, length-tableHeader, length-tableBytes, length-indexHeader}
+use Rattle.records.proofs.Sealed.{sealed}
 
 -- ---- a table of zeros, an index of one entry
 table-of-zeros : (s : List ℕ) (at count : ℕ) (between after : List ℕ) → at + tableHeaderLength + tableEntryLength * count ≤ length s
@@ -50,7 +44,7 @@ created-image s count application major minor mediaType created written s1 s2 s3
     let header : List ℕ = headerBytes application major minor mediaType (createdIndexAt count) created written in
     let table : List ℕ = tableBytes 0 count (replicate (tableEntryLength * count) 0) in
     let index : List ℕ = indexBytes createdEntries in
-    let lh : length header ≡ headerLength = length-header application major minor mediaType (createdIndexAt count) created written (h .1) in
+    let lh : length header ≡ headerLength = length-headerBytes application major minor mediaType (createdIndexAt count) created written (h .1) in
     let lt : length table ≡ tableHeaderLength + tableEntryLength * count = length-tableBytes 0 count (replicate (tableEntryLength * count) 0) ∙ ap (λ (n : ℕ). tableHeaderLength + n) (length-replicate {A = ℕ} (tableEntryLength * count) 0) in
     let l1 : length s1 ≡ length s = ap length e1 ∙ length-overwrite s 0 header in
     let t : s3 ≡ overwrite s1 headerLength table = table-of-zeros s1 headerLength count s2 s3 (omega arith) e2 e3 in

@@ -7,21 +7,8 @@ use Rattle.crc64.specs.Crc.{crcOf}
 use Rattle.fields.specs.Bytes.{part, overwrite}
 use Rattle.fields.specs.Layout.{num, raw}
 use Rattle.fields.proofs.Overwrite.{length-part, part-same, overwrite-before}
-use Rattle.fields.proofs.Records.{length-layout, Laid}
-use Rattle.format.specs.declared.Entry.{Entry}
-use Rattle.format.specs.Layouts.{IDX2, DBLK, DDT*, entryLength, entryBytes, indexHeaderLength, indexHeader, blockHeaderLength, blockHeader, tableHeaderLength, tableHeader}
-
-pub length-entryBytes : (e : Entry) → length (entryBytes e) ≡ entryLength
-unfolding entryBytes
-length-entryBytes e = simp length-layout
-
-pub length-tableHeader : (shift count : ℕ) (payload : List ℕ) → length (tableHeader shift count payload) ≡ tableHeaderLength
-unfolding tableHeader
-length-tableHeader shift count payload = simp length-layout
-
-pub length-indexHeader : (count : ℕ) (payload : List ℕ) → length (indexHeader count payload) ≡ indexHeaderLength
-unfolding indexHeader
-length-indexHeader count payload = simp length-layout
+use Rattle.fields.proofs.Records.{Laid}
+use Rattle.format.specs.Layouts.{IDX2, DBLK, DDT*, indexHeaderLength, indexHeader, blockHeaderLength, blockHeader, tableHeaderLength, tableHeader}
 
 -- ---- the header's length and checksum are the payload's
 module _ {s after : List ℕ} {at : ℕ} (n sum : ℕ) where

@@ -1,3 +1,3 @@
 mod Indexed
-mod Known
+pub mod Known
 mod Places

@@ -10,17 +10,16 @@ use Rattle.format.specs.Layouts.{indexOffset, entries}
 use Rattle.format.specs.Opening.{Opened, opening}
 use Rattle.format.specs.Reading.{pointerAt, sectorVerdict, placeOf, readVerdict, locate}
 use Rattle.format.specs.Facts.{ItemOk}
-use Rattle.format.proofs.Refusals.{answer-passes, answer-refuses, answer-accepted, answer-refused, then-rest}
-use Rattle.format.proofs.Checks.{SectorOk, sector-ok, open-ok}
+use Rattle.format.proofs.Refusals.{answer-passes, answer-refuses, answer-accepted, answer-refused}
+use Rattle.format.proofs.Checks.{SectorOk, sector-ok, verdict-opened}
 use Rattle.opening.proofs.Accepted.{opens, opened-is}
 use Rattle.sectors.specs.Found.{Known}
 
 -- ---- in an image that opens to t
 module _ (img : List ℕ) (t : Opened) (e : opening img ≡ accepted t) (a : ℕ) where
   verdict : readVerdict img (indexOffset img) a ≡ sectorVerdict img (entries img (indexOffset img)) t a
-  unfolding readVerdict
   verdict =
-      then-rest _ _ (open-ok img (indexOffset img) .1 (opens img t e))
+      verdict-opened img (indexOffset img) (opens img t e) a
       ∙ ap (λ (u : Opened). sectorVerdict img (entries img (indexOffset img)) u a) (opened-is img t e)
 
   pub locate-refused : (r : Refusal) → refused r ≡ answer (sectorVerdict img (entries img (indexOffset img)) t a) (pointerAt img t a) → refused r ≡ locate img a

@@ -1,5 +1,5 @@
 -- The pass over the addresses of the disc. The loop's invariant: what is left, done from here on, leaves what all leaves.
-use mathlib.Core.List.{List, [], _∷_, _++_, flatten}
+use mathlib.Core.List.{List, _∷_, _++_, flatten}
 use mathlib.Core.Option.{Option, none, some}
 use mathlib.Core.Path.{_≡_, refl, sym, ap, _∙_}
 use Prim.Native.Nat.{ℕ, _+_, _*_, _≤_, _<_}
@@ -16,7 +16,7 @@ use Rattle.format.specs.Opening.{Opened}
 use Rattle.format.specs.Committing.{pieces, tableEntryBytes}
 use Rattle.format.proofs.Lists.{Sized, length-flatten}
 use Rattle.format.proofs.Tests.{choose-cases}
-use Rattle.format.proofs.Storing.{pieces-sized, length-pieces, step-ok, stored-ok}
+use Rattle.format.proofs.Storing.{length-pieces, step-ok, stored-ok, stored-sized}
 use Rattle.search.proofs.Stored.{room}
 use Rattle.planning.specs.Plans.{isNext, sectorOf, storedBy}
 use Rattle.planning.proofs.Cursor.{next-listed, left, Walks, walk-starts, left-starts, walk-old, left-old, walk-new, left-new, walk-done, left-done}
@@ -101,11 +101,8 @@ module _ (buf₀ : List ℕ) (used : ℕ) (t : Opened) (addresses : List ℕ) (s
           bytes = rw (left-starts img t addresses size sectors, mul-zero, add-zero);
         }
 
-    all-sized : All (Sized size) all
-    all-sized = stored-ok img t (length img) (Sized size) (pieces (length addresses) size sectors) [] .keeps done (pieces-sized (length addresses) size sectors (h .commits .whole))
-
     all-long : length (flatten all) ≡ length all * size
-    all-long = length-flatten size all all-sized
+    all-long = length-flatten size all (stored-sized img t (length img) (length addresses) size sectors (h .commits .whole))
 
     module _ {buf : List ℕ} {n k a : ℕ} (g : Going buf n k a) where
       abbrev items : List (List ℕ)

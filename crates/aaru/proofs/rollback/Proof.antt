@@ -9,7 +9,7 @@ use Rattle.format.specs.declared.Verdict.the-variants.{Passes}
 use Rattle.format.specs.Opening.{openVerdict}
 use Rattle.format.specs.Writing.{bufferVerdict}
 use Rattle.format.specs.RollingBack.{rollbackVerdict, rollback}
-use Rattle.format.proofs.Checks.{BufferOk, buffer-ok, open-ok}
+use Rattle.format.proofs.Checks.{buffer-ok, open-ok}
 use Rattle.format.proofs.Chains.{stops, goes, by}
 use Rattle.format.proofs.Answers.{outcome-stops, outcome-done}
 use Rattle.aaru.proofs.rollback.Statement.{statement}

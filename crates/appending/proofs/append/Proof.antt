@@ -1,12 +1,7 @@
 -- `appending::append` meets its contract. Assumes nothing.
 use native.Mathlib.Omega.{arith}
 use borrow.Author.Needs.{needs}
-use mathlib.Core.Path.{_≡_}
-use denote.Ref.{now}
-use lib.ListN.{take}
 use Rattle.fields.specs.Bytes.{part}
-use Rattle.opening.specs.Answers.{contents}
-use Rattle.planning.specs.Plans.{planFor}
 use Rattle.appending.proofs.Appended.{image-inside, commits, planned-few, refused-35, fits-answers}
 use Rattle.appending.proofs.append.Statement.{statement}
 use Rattle.appending.proofs.append.Tie as tie

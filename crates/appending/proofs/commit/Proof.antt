@@ -1,7 +1,7 @@
 -- `appending::commit` meets its contract. Assumes nothing.
 use native.Mathlib.Omega.{arith}
 use borrow.Author.Needs.{needs}
-use mathlib.Core.Path.{_≡_, sym, _∙_}
+use mathlib.Core.Path.{sym, _∙_}
 use Rattle.fields.specs.Bytes.{part}
 use Rattle.format.specs.Committing.{commitVerdict, append, commit}
 use Rattle.format.proofs.Checks.{arguments-ok}

@@ -1,13 +1,11 @@
 -- `appending::lay_out` meets its contract. Assumes nothing.
 use native.Mathlib.Omega.{arith}
 use borrow.Author.Needs.{needs}
-use mathlib.Core.Path.{_≡_}
+use Prim.Native.Nat.{_*_, _≤_}
 use denote.Ref.{now}
-use Rattle.format.specs.Layouts.{indexOffset, entryCount}
-use Rattle.format.proofs.Checks.{OpenOk}
+use lib.ListN.{length}
+use Rattle.format.specs.Layouts.{indexOffset, entryLength}
 use Rattle.opening.proofs.Accepted.{opens, table-inside}
-use Rattle.opening.specs.Answers.{contents}
-use Rattle.appending.specs.Appends.{layoutFor}
 use Rattle.appending.proofs.Appended.{kept-few, layout-is}
 use Rattle.appending.proofs.lay_out.Statement.{statement}
 use Rattle.appending.proofs.lay_out.Tie as tie
@@ -28,30 +26,24 @@ add-index c = omega (arith, table-inside _ _ (c .before .before .before .before 
 add-index-2 : tie.Need-add-index-2
 add-index-2 c = omega (arith, table-inside _ _ (c .before .before .before .before .before .pre .0))
 
-add-end : tie.Need-add-end
+-- the entries that are kept are no longer than the image
+kept-short : (c : tie.After-count-kept) → entryLength * c .count-kept .result ≤ length (now (c .before .before .before .args .s))
 unfolding indexOffset
-add-end c =
-    let d = c .before .before .before in
-    omega (arith, kept-few _ (d .before .get .ensures) (d .count-kept .ensures .1) (opens _ _ (d .before .before .before .pre .0)))
+kept-short c = kept-few _ (c .before .get .ensures) (c .count-kept .ensures .1) (opens _ _ (c .before .before .before .pre .0))
+
+add-end : tie.Need-add-end
+add-end c = omega (arith, kept-short (c .before .before .before))
 
 mul-end : tie.Need-mul-end
-unfolding indexOffset
-mul-end c =
-    let d = c .before .before .before in
-    omega (arith, kept-few _ (d .before .get .ensures) (d .count-kept .ensures .1) (opens _ _ (d .before .before .before .pre .0)))
+mul-end c = omega (arith, kept-short (c .before .before .before))
 
 add-end-2 : tie.Need-add-end-2
-unfolding indexOffset
-add-end-2 c =
-    let d = c .before .before .before in
-    omega (arith, kept-few _ (d .before .get .ensures) (d .count-kept .ensures .1) (opens _ _ (d .before .before .before .pre .0)))
+add-end-2 c = omega (arith, kept-short (c .before .before .before))
 
 add-end-3 : tie.Need-add-end-3
-unfolding indexOffset
 add-end-3 c =
     let d = c .before .before .before in
-    let k = kept-few _ (d .before .get .ensures) (d .count-kept .ensures .1) (opens _ _ (d .before .before .before .pre .0)) in
-    omega (arith, table-inside _ _ (d .before .before .before .pre .0))
+    omega (arith, kept-short d, table-inside _ _ (d .before .before .before .pre .0))
 
 returns : tie.Need-returns
 unfolding indexOffset

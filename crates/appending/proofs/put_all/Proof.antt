@@ -1,7 +1,6 @@
 -- `appending::put_all` meets its contract. Assumes nothing.
 use native.Mathlib.Omega.{arith}
 use borrow.Author.Needs.{needs}
-use mathlib.Core.Path.{_≡_}
 use Rattle.fields.specs.Bytes.{part}
 use Rattle.format.specs.Layouts.{indexOffset}
 use Rattle.appending.proofs.Appended.{length-img, image-inside, image-low, fits-data, fits-index, fits-written}

@@ -1,6 +1,6 @@
 -- `appending::seal_block` meets its contract. Assumes nothing.
 use borrow.Author.Needs.{needs}
-use mathlib.Core.Path.{_≡_, sym, ap, _∙_}
+use mathlib.Core.Path.{sym, ap, _∙_}
 use Rattle.fields.specs.Bytes.{overwrite}
 use Rattle.fields.proofs.Overwrite.{overwrite-nil}
 use Rattle.appending.proofs.Sealed.{header-none, header-some}

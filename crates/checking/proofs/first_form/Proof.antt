@@ -3,6 +3,7 @@ use native.Mathlib.Omega.{arith}
 use borrow.Author.Count.{below-more}
 use borrow.Author.Needs.{needs}
 use borrow.Author.Tests.{not-true, not-false}
+use denote.Ref.{now}
 use mathlib.Core.Logic.{inl, inr}
 use mathlib.Core.Path.{_≡_, refl, sym, _∙_}
 use Prim.Native.Nat.{ℕ, _-_, _≤_, _<_}
@@ -34,23 +35,26 @@ pointer-at-requires c κs = (c .before .before .before .before .before .before .
 form-verdict-requires : tie.Need-form-verdict-requires Inv-loop μ-loop
 form-verdict-requires c κs = (c .before .before .before .before .before .before .before .pre, c .before .before .before .before .loop .inv .2)
 
+-- a written address, by its form
+form-is : (c : tie.After-form-verdict Inv-loop μ-loop)
+    → let l = c .before .before .before .before .before in
+    let r = l .before .before .before .args in
+    addressVerdict (now (r .s)) (contents (r .t)) (indexed (now (r .s))) (l .loop .a) ≡ c .form-verdict .result
+form-is c =
+    form-only _ _ _ (by (c .before .before .before .not-written .ensures) (not-true _ (c .before .before .if1 .taken)))
+    ∙ sym (rw (c .before .pointer-at .ensures) at (c .form-verdict .ensures))
+
 returns : tie.Need-returns Inv-loop μ-loop
 returns c =
     let f = c .before .before .before in
-    let w = f .before .before .before in
-    first-at _ _ _ _ (omega arith) (w .before .before .loop .inv .1)
-    (form-only _ _ _ (by (w .not-written .ensures) (not-true _ (f .before .before .if1 .taken)))
-    ∙ sym (rw (f .before .pointer-at .ensures) at (by (c .before .v .given .1) (f .form-verdict .ensures))))
+    first-at _ _ _ _ (omega arith) (f .before .before .before .before .before .loop .inv .1) (form-is f ∙ c .before .v .given .1)
 
 loop-again : tie.Need-loop-again Inv-loop μ-loop
 loop-again c =
     let f = c .before .before .before in
-    let w = f .before .before .before in
-    let k = by (c .before .enum-told .given .1) (f .form-verdict .ensures) in
-    let ok = form-ok _ _ .0 (sym k) in (
+    let ok = form-ok _ _ .0 (sym (by (c .before .enum-told .given .1) (f .form-verdict .ensures))) in (
       omega arith,
-      below-more _ _ (w .before .before .loop .inv .1)
-          (form-only _ _ _ (by (w .not-written .ensures) (not-true _ (f .before .before .if1 .taken))) ∙ sym (rw (f .before .pointer-at .ensures) at k)),
+      below-more _ _ (f .before .before .before .before .before .loop .inv .1) (form-is f ∙ c .before .enum-told .given .1),
       inr (ok .0, ok .1 .0),
     )
 

@@ -1,30 +1,38 @@
 -- `checking::form_verdict` meets its contract. Assumes nothing.
 use native.Mathlib.Omega.{arith}
 use borrow.Author.Needs.{needs}
-use mathlib.Core.Bool.{not}
-use mathlib.Core.Path.{sym, ap}
+use mathlib.Core.Bool.{true, not}
+use mathlib.Core.Path.{_≡_, sym, ap}
 use denote.Ref.{now}
 use Rattle.format.specs.Layouts.{indexOffset}
+use Rattle.format.specs.Reading.{has}
+use Rattle.format.specs.Facts.{BlockOk}
 use Rattle.format.proofs.Checks.{OpenOk, block-ok}
 use Rattle.format.proofs.Tests.{not-iff}
 use Rattle.format.proofs.Chains.{stop, on, stops, goes, by}
 use Rattle.opening.proofs.Accepted.{opens}
-use Rattle.checking.specs.Checked.{formVerdict}
-use Rattle.checking.proofs.Forms.{formed-known}
+use Rattle.sectors.proofs.Known.{known-block}
+use Rattle.checking.specs.Checked.{indexed, formVerdict}
 use Rattle.checking.proofs.form_verdict.Statement.{statement}
 use Rattle.checking.proofs.form_verdict.Tie as tie
 
 ok : (c : tie.Start) → OpenOk (now (c .args .s)) (indexOffset (now (c .args .s)))
 ok c = opens _ _ (c .pre .0)
 
+-- the block that is known
+known : (c : tie.Then1) → let a = c .before .before .before .before .args in
+    (has (a .p .block .0) (indexed (now (a .s))) ≡ true) × BlockOk (now (a .s)) (a .p .block .0)
+known c =
+    let s = now (c .before .before .before .before .args .s) in
+    known-block (λ b. (has b (indexed s) ≡ true) × BlockOk s b) _ _ (c .before .before .before .before .pre .1) (by (c .before .is-known .ensures) (c .if1 .taken))
+
 number-verdict-requires : tie.Need-number-verdict-requires
-number-verdict-requires c κs =
-    formed-known _ _ _ (c .before .before .before .before .pre .1) (by (c .before .is-known .ensures) (c .if1 .taken)) .1
+number-verdict-requires c κs = known c .1
 
 returns : tie.Need-returns
 unfolding formVerdict
 returns c =
-    let k = formed-known _ _ _ (c .before .before .before .before .before .pre .1) (by (c .before .before .is-known .ensures) (c .before .if1 .taken)) in
+    let k = known (c .before) in
     on _ (not-iff .1 (k .0)) (goes (sym (block-ok _ _ .1 (k .1))) (c .number-verdict .ensures))
 
 get-requires : tie.Need-get-requires

@@ -1,6 +1,6 @@
 -- `opening::open_verdict` meets its contract. Assumes nothing.
 use borrow.Author.Needs.{needs}
-use mathlib.Core.Path.{_≡_, sym, ap, _∙_}
+use mathlib.Core.Path.{sym, ap, _∙_}
 use Rattle.format.specs.Opening.{openVerdict}
 use Rattle.format.proofs.Refusals.{answer-accepted, answer-refused}
 use Rattle.format.proofs.Chains.{stops, by}

@@ -6,6 +6,7 @@ use Prim.Native.Nat.{_-_, _<_}
 use native.Mathlib.Omega.{arith}
 use lib.ListN.{length}
 use Rattle.format.specs.Committing.{holdsSector, onDisc}
+use Rattle.format.proofs.Chains.{by}
 use Rattle.opening.specs.Answers.{contents}
 use Rattle.search.specs.declared.Address.the-variants.{Missing}
 use Rattle.search.specs.Found.{addressFound}
@@ -42,22 +43,24 @@ slot-at-requires c κs = (c .before .before .before .before .before .pre, omega 
 search-again : tie.Need-search-again Inv-loop μ-loop Inv-search μ-search
 search-again c =
     let i = c .before .before .before in
-    (i .before .search .inv .0, search-goes _ _ _ (i .before .search .inv .1) (omega arith) (empty-other _ _ _ _ (cc)))
+    (i .before .search .inv .0, search-goes _ _ _ (i .before .search .inv .1) (omega arith) (empty-other _ _ _ _ (by (c .enum-told .given .1) (c .before .before .slot-at .ensures))))
 
 search-again-2 : tie.Need-search-again-2 Inv-loop μ-loop Inv-search μ-search
 search-again-2 c =
-    let i = c .before .before .before .before .before .before in
-    let p = c .before .before .before .slot .given .0 .0 in (
+    let m = c .before .before .before in
+    let i = m .before .before .before in
+    let p = m .slot .given .0 .0 in (
       i .before .search .inv .0,
       search-goes _ _ _ (i .before .search .inv .1) (omega arith)
-          (size-other _ _ _ _ p (i .before .before .before .before .before .pre) (omega arith) (cc) (c .if1 .taken)),
+          (size-other _ _ _ _ p (i .before .before .before .before .before .pre) (omega arith) (by (m .slot .given .1) (m .before .before .slot-at .ensures)) (c .if1 .taken)),
     )
 
 loop-holds : tie.Need-loop-holds Inv-loop μ-loop Inv-search μ-search
 loop-holds c =
-    let i = c .before .before .before .before .before .before .before in
-    let p = c .before .before .before .before .slot .given .0 .0 in
-    (refl, i .before .search .inv .0, size-same _ _ _ _ p (i .before .before .before .before .before .pre) (omega arith) (cc) (i .before .search .inv .1) (c .before .if1 .left))
+    let m = c .before .before .before .before in
+    let i = m .before .before .before in
+    let p = m .slot .given .0 .0 in
+    (refl, i .before .search .inv .0, size-same _ _ _ _ p (i .before .before .before .before .before .pre) (omega arith) (by (m .slot .given .1) (m .before .before .slot-at .ensures)) (i .before .search .inv .1) (c .before .if1 .left))
 
 search-again-3 : tie.Need-search-again-3 Inv-loop μ-loop Inv-search μ-search
 search-again-3 c =

@@ -10,7 +10,7 @@ use Rattle.format.proofs.Checks.{OpenOk, open-ok}
 use Rattle.format.proofs.Tests.{not-iff}
 use Rattle.format.proofs.Chains.{stop, on, by}
 use Rattle.sectors.specs.Found.{Intact}
-use Rattle.sectors.proofs.Known.{known-intact, known-verdict}
+use Rattle.sectors.proofs.Known.{known-block, known-verdict}
 use Rattle.sectors.proofs.pointer_verdict.Statement.{statement}
 use Rattle.sectors.proofs.pointer_verdict.Tie as tie
 
@@ -18,7 +18,7 @@ opens : (c : tie.Start) → OpenOk (now (c .args .s)) (indexOffset (now (c .args
 opens c = open-ok _ _ .0 (c .pre .0)
 
 known : (c : tie.Then1) → Intact (now (c .before .before .before .before .args .s)) (c .before .before .before .before .args .p .block .0)
-known c = known-intact _ _ _ (c .before .before .before .before .pre .1) (by (c .before .is-known .ensures) (c .if1 .taken))
+known c = known-block (Intact _) _ _ (c .before .before .before .before .pre .1) (by (c .before .is-known .ensures) (c .if1 .taken))
 
 number-verdict-requires : tie.Need-number-verdict-requires
 number-verdict-requires c κs = known c .block

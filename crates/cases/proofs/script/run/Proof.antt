@@ -6,7 +6,7 @@ use Rattle.cases.proofs.script.run.Statement.{statement}
 use Rattle.cases.proofs.script.run.Tie as tie
 
 abbrev Inv-loop : tie.InvT-loop
-Inv-loop disc names rows image₀ start₀ i₀ image start i = i ≤ length rows
+Inv-loop disc names rows image₀ start₀ i₀ image start i = (i ≤ length rows) × (start ≤ length names)
 
 abbrev μ-loop : tie.MeasureT-loop
 μ-loop disc names rows image₀ start₀ i₀ image start i = length rows - i
