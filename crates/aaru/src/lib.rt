@@ -96,8 +96,8 @@ pub fn create(
 // old `used` but the header's indexOffset and lastWrittenTime, and none from the new one on.
 //
 // Cost, with n addresses, a disc of E sectors and I index entries: 2 n (E + n) comparisons of sectors, each of which ends at the first
-// difference; at most 2 E I + I I comparisons of numbers for the index, and E + I I where neighbouring addresses share a block and none is
-// damaged; each block that the index names is summed once; else linear in the image's and the appended bytes.
+// difference; the check of all sectors (see `checking`), in which each block that the index names is summed once; else linear in the image's
+// and the appended bytes.
 pub fn commit(
     buffer: &mut [u8],
     used: u64,

@@ -29,7 +29,7 @@ use Rattle.format.proofs.Written.{length-indexBytes}
 use Rattle.opening.proofs.Accepted.{opened-is}
 use Rattle.planning.specs.declared.Planned.{Planned}
 use Rattle.planning.specs.Plans.{Commits, storedBy, planFor}
-use Rattle.storing.specs.Stores.{Stores, pointersBy, entriesBytes, stored}
+use Rattle.storing.specs.Stores.{Stores, pointersBy, tableEntriesBytes, stored}
 use Rattle.indexing.specs.Entries.{blockEntry, newEntries, Indexes}
 use Rattle.appending.specs.Appends.{Passed, blockLengthFor, headerFor, layoutFor, Data, Fits}
 use Rattle.appending.specs.declared.Layout.{Layout}
@@ -143,7 +143,7 @@ module _ {buf : List ℕ} {used : ℕ} {t : Opened} {addresses : List ℕ} {size
       let behind : table ≡ used + length (newBlock size items) = d .behind ∙ ap (λ m. used + blockLengthFor m size) (d .counted) ∙ ap (λ m. used + m) (sym (length-newBlock size items sized)) in
       data-sealed buf used size table shift (length ps) items _ sized (length-entries shift ps) behind (d .stores .items)
       (omega (arith, d .stores .entries, many)) e₁ (rw (d .counted) at e₂) (rw (c ∙ sym many) at e₃)
-      ∙ ap (λ m. overwrite buf used (newBlock size items ++ tableBytes m (length ps) (entriesBytes m ps))) (d .least)
+      ∙ ap (λ m. overwrite buf used (newBlock size items ++ tableBytes m (length ps) (tableEntriesBytes m ps))) (d .least)
 
 -- ---- a commit all of whose checks but 35 have passed
 module _ (buf : List ℕ) (used : ℕ) (t : Opened) (addresses : List ℕ) (size : ℕ) (sectors : List ℕ) (passed : Passed buf used t addresses size sectors) where

@@ -1,4 +1,4 @@
--- A commit to an opened disc: what it asks for, where what it appends stands, and what it leaves.
+-- A commit to an opened disc: what its parts ask for, and where what it appends stands.
 use mathlib.Core.List.{List, []}
 use mathlib.Core.Path.{_≡_}
 use Prim.Native.Nat.{ℕ, zero, suc, _+_, _*_, _≤_}

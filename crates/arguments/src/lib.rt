@@ -1,4 +1,4 @@
-// Internal: the checks of a call's arguments, before an image is looked at: 30 to 34 of document 01.
+// Internal: the checks of a call's arguments, before an image is looked at: 30 to 34 of document 01, and all of creating's, 35 included.
 ghost use mathlib.Core.Path.{_≡_};
 ghost use Prim.Native.Nat.{_*_};
 ghost use lib.ListN.{length};

@@ -42,7 +42,7 @@ unfoldable pub onlyAfter : Verdict → Bool → Bool
 onlyAfter Passes b = b
 onlyAfter (Refuses r) b = false
 
--- the block at b passes all checks of a block but that of its checksums
+-- the block at b is well formed, and one of its checksums is wrong
 unfoldable pub damaged : List ℕ → ℕ → Bool
 damaged img b = onlyAfter (blockVerdict img b) (wrongSum img b)
 

@@ -1,9 +1,9 @@
 // Internal: the checks that a commit makes of an opened disc: 20 of its addresses, then all sectors by rising address, of which the
 // first that is refused other than with 21 gives its refusal.
 //
-// Cost, with E addresses and I index entries: each data block that the index names is summed once at most, however often it is named;
-// E times I plus I times I comparisons of numbers at most, and E plus I times I where neighbouring addresses share a block and none is
-// damaged.
+// Cost, with E addresses and I index entries: each data block that the index names is summed once at most, however often it is named. To
+// look blocks up takes at most E times I comparisons of numbers, and E plus I for each run of neighbours where neighbouring addresses share
+// a block; to see that an entry's block is named again, at most half of I times I; each damaged block, at most E.
 ghost use mathlib.Core.Bool.{true, false};
 ghost use mathlib.Core.List.{List, _∷_};
 ghost use mathlib.Core.Path.{_≡_};
@@ -98,7 +98,7 @@ fn first_form(s: &[u8], t: Opened) -> First
     }
 }
 
-// Whether the block at b passes all checks of a block but that of its checksums. One pass over it.
+// Whether the block at b is well formed and one of its checksums is wrong. One pass over it.
 fn is_damaged(s: &[u8], b: ByteOffset) -> bool
     ensures { λ r. ⌜ r ≡ damaged (now (s .entry)) (b .0) ⌝ }
 {
@@ -139,8 +139,8 @@ fn first_into(s: &[u8], t: Opened, b: ByteOffset, first: First) -> First
     first
 }
 
-// The first address once the block of the index entry at p, the first of `left`, is looked at. It is not where another of them names it
-// again, so that no block is summed twice.
+// The first address once the block of the index entry at p, the first of `left`, is looked at. An entry whose block a later one names
+// again is passed over, so that no block is summed twice.
 fn with_block(s: &[u8], t: Opened, p: ByteOffset, left: u64, first: First) -> First
     requires { ⌜ (opening (now s) ≡ accepted (contents t)) × (0 < left) × (p .0 + entryLength * left ≤ length (now s)) × FirstFrom (now s) (contents t) left (p .0) first ⌝ }
     ensures { λ r. ⌜ FirstFrom (now (s .entry)) (contents t) (left - 1) (p .0 + entryLength) r ⌝ }

@@ -4,12 +4,12 @@ pub mod Refusals
 pub mod Layouts
 pub mod Opening
 pub mod Reading
-pub mod Answers
 pub mod Facts
 pub mod Writing
 pub mod Creating
 pub mod Committing
 pub mod RollingBack
+pub mod Answers
 pub mod Histories
 pub mod WorkedDisc
 pub mod Demands

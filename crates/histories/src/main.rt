@@ -9,6 +9,7 @@ mod order; // each call's order of checks
 mod takes; // commits and rollbacks, forth and back
 mod sharing; // equal sectors, shifts and sector sizes
 mod strange; // images that no call here writes
+mod damage; // two blocks, one of them damaged
 
 // All 64 bits one: the largest number of 8 bytes.
 const ONES: u64 = 0xffff_ffff_ffff_ffff;
@@ -20,4 +21,5 @@ fn main() {
     takes::all();
     sharing::all();
     strange::all();
+    damage::all();
 }

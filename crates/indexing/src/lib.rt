@@ -15,6 +15,7 @@ use format::ByteOffset;
 use format::Entry;
 use index::entry;
 
+// Identifiers, as the numbers that their letters make.
 const CHECKSUM_BLOCK: u64 = 0x4d53_4b43;
 
 const TABLE: u64 = 0x2a54_4444;
@@ -41,14 +42,14 @@ pub fn count_kept(s: &[u8], o: ByteOffset) -> u64
     ensures { λ r. ⌜ ((table : ℕ) → r ≡ length (keptEntries table (entries (now (s .entry)) (o .0)))) × (r ≤ entryCount (now (s .entry)) (o .0)) ⌝ }
 {
     let index = o.0;
-    let mut left = get(s, index + 4, 8);
+    let mut rest = get(s, index + 4, 8);
     let mut p = index + 20;
     let mut kept: u64 = 0;
     // an iteration for each old entry
-    while 0 < left {
+    while 0 < rest {
         let blockType = get(s, p, 4);
         p += 16;
-        left -= 1;
+        rest -= 1;
         if blockType != CHECKSUM_BLOCK {
             kept += 1;
         }

@@ -147,7 +147,7 @@ pub fn put_image(
     requires { ⌜ (createdUsed count ≤ length (now buf)) × (length (now application) ≡ applicationLength) ⌝ }
     ensures { λ _. ⌜ now (buf .exit) ≡ overwrite (now (buf .entry)) 0 (createdBytes count (now (application .entry)) major minor mediaType created written) ⌝ }
 {
-    let index = 121 + 8 * count;
+    let index = 121 + 8 * count; // behind 72 bytes of the header and 49 of the table's
     put_header(
         buf,
         application,

@@ -21,7 +21,7 @@ use Rattle.search.proofs.Stored.{room}
 use Rattle.planning.specs.Plans.{isNext, sectorOf, storedBy}
 use Rattle.planning.proofs.Cursor.{next-listed, left, Walks, walk-starts, left-starts, walk-old, left-old, walk-new, left-new, walk-done, left-done}
 use Rattle.storing.specs.declared.Next.{Next}
-use Rattle.storing.specs.Stores.{entriesBytes, Stores, stored}
+use Rattle.storing.specs.Stores.{tableEntriesBytes, Stores, stored}
 use Rattle.storing.specs.Turns.{itemsIn, entryOf, Turn, turnAt, Turns, Turned}
 use Rattle.storing.proofs.Pieces.{pieces-stand, pieces-written, written-next}
 
@@ -87,7 +87,7 @@ module _ (buf₀ : List ℕ) (used : ℕ) (t : Opened) (addresses : List ℕ) (s
     pub image : take used buf ≡ img
     pub sized : All (Sized size) (itemsIn buf used n size)
     pub bytes : overwrite (overwrite buf start (flatten all)) (at + tableEntryLength * a)
-        (entriesBytes shift (left img t addresses size sectors a k (itemsIn buf used n size))) ≡ goal
+        (tableEntriesBytes shift (left img t addresses size sectors a k (itemsIn buf used n size))) ≡ goal
 
   module _ (h : Stores buf₀ used t addresses size sectors at shift) where
     pub starts : Going buf₀ 0 0 0
@@ -142,7 +142,7 @@ module _ (buf₀ : List ℕ) (used : ℕ) (t : Opened) (addresses : List ℕ) (s
           entry = toLe tableEntryLength (r .entry)
 
           abbrev later : List ℕ
-          later = entriesBytes shift (left img t addresses size sectors (a + 1) (turn .k) (turn .items))
+          later = tableEntriesBytes shift (left img t addresses size sectors (a + 1) (turn .k) (turn .items))
 
           is : after ≡ overwrite (overwrite buf start run) place entry
           is = e ∙ ap (λ (x : List ℕ). overwrite x place entry) (rw (g .image) at (l .buffer))
@@ -174,7 +174,7 @@ module _ (buf₀ : List ℕ) (used : ℕ) (t : Opened) (addresses : List ℕ) (s
           unfolding flatten
           left-is =
               ap (λ (x : List ℕ). overwrite (overwrite buf start (flatten all)) place (x ++ later)) (sym entry-is)
-              ∙ ap (λ (x : List (Option Pointer)). overwrite (overwrite buf start (flatten all)) place (entriesBytes shift x)) (sym (goes-on .goes)) ∙ g .bytes
+              ∙ ap (λ (x : List (Option Pointer)). overwrite (overwrite buf start (flatten all)) place (tableEntriesBytes shift x)) (sym (goes-on .goes)) ∙ g .bytes
 
           pub goes : Going after (r .stored) (r .k) (a + 1)
           goes =
@@ -199,6 +199,6 @@ module _ (buf₀ : List ℕ) (used : ℕ) (t : Opened) (addresses : List ℕ) (s
           let room : start + n * size ≤ length buf = rw count (omega (arith, h .items, h .entries, g .long)) in
           sym (ap (λ (l : List (List ℕ)). overwrite buf start (flatten l)) (sym is) ∙ pieces-stand buf start n size room)
           ∙ sym (overwrite-nil (overwrite buf start (flatten all)) (at + tableEntryLength * a))
-          ∙ ap (λ (l : List (Option Pointer)). overwrite (overwrite buf start (flatten all)) (at + tableEntryLength * a) (entriesBytes shift l))
+          ∙ ap (λ (l : List (Option Pointer)). overwrite (overwrite buf start (flatten all)) (at + tableEntryLength * a) (tableEntriesBytes shift l))
           (sym (left-done img t addresses size sectors a k items le))
           ∙ g .bytes

@@ -16,8 +16,8 @@ abbrev pub pointersBy : List ℕ → Opened → List ℕ → ℕ → List ℕ �
 pointersBy img t addresses size sectors = newPointers img t addresses (storedBy img t addresses size sectors .pointers) (t .count) 0
 
 -- the new table's entries, one after another
-abbrev pub entriesBytes : ℕ → List (Option Pointer) → List ℕ
-entriesBytes shift ps = flatten (map (tableEntryBytes shift) ps)
+abbrev pub tableEntriesBytes : ℕ → List (Option Pointer) → List ℕ
+tableEntriesBytes shift ps = flatten (map (tableEntryBytes shift) ps)
 
 -- for a buffer whose first `used` bytes are the image, with the new table's entries at `at`
 pub record Stores (buf : List ℕ) (used : ℕ) (t : Opened) (addresses : List ℕ) (size : ℕ) (sectors : List ℕ) (at shift : ℕ) : Type 0 where
@@ -32,4 +32,4 @@ unfoldable pub stored : List ℕ → ℕ → Opened → List ℕ → ℕ → Lis
 stored buf used t addresses size sectors at shift =
     let img = take used buf in
     overwrite (overwrite buf (used + blockHeaderLength) (flatten (storedBy img t addresses size sectors .items)))
-    at (entriesBytes shift (pointersBy img t addresses size sectors))
+    at (tableEntriesBytes shift (pointersBy img t addresses size sectors))

@@ -1,0 +1,90 @@
+// Two data blocks, one of them damaged: the first refusal by rising address, whichever check finds it; and an index that names a block
+// twice.
+use super::asks::DISC;
+use super::calls::AT_0_2;
+use super::calls::AT_1;
+use super::calls::COMMIT;
+use super::calls::CREATE;
+use super::calls::NONE;
+use super::calls::ROLLBACK;
+use super::script::CRC;
+use super::script::FRESH;
+use super::script::SET;
+use super::script::run;
+
+// Where the records of the second commit are; address 1 lies in its block, 0 and 2 in the first one's.
+const BLOCK: u64 = 350;
+
+const TABLE: u64 = 390;
+
+// An index made by hand, behind the image, and the first halves of its entries.
+const INDEX: u64 = 531;
+
+const DDT: u64 = 0x1_2a54_4444; // 'DDT*', dataType 1
+
+const DBLK: u64 = 0x1_4b4c_4244; // 'DBLK', dataType 1
+
+const ROWS: [[u64; 5]; 44] = [
+    [FRESH, 900, 0, 0, 0],
+    [CREATE, 3, 32, 4, 5],
+    [COMMIT, 181, AT_0_2, 4, 6],
+    [COMMIT, 350, AT_1, 4, 7],
+    [SET, BLOCK + 28, 8, 0, 0], // crc64
+    [COMMIT, 531, NONE, 4, 8],
+    [SET, TABLE + 65, 8, 2 * 145, 0], // entry 2: no block there
+    [CRC, TABLE + 33, TABLE + 49, 24, 0],
+    [CRC, TABLE + 41, TABLE + 49, 24, 0],
+    [DISC, 531, 0, 0, 0],
+    [COMMIT, 531, NONE, 4, 8],
+    [SET, TABLE + 49, 8, 2 * BLOCK + 1, 0], // entry 0: an item too many, of the damaged block
+    [CRC, TABLE + 33, TABLE + 49, 24, 0],
+    [CRC, TABLE + 41, TABLE + 49, 24, 0],
+    [DISC, 531, 0, 0, 0],
+    [COMMIT, 531, NONE, 4, 8],
+    [SET, TABLE + 49, 8, 2 * BLOCK, 0], // entry 0: an item of the damaged block
+    [CRC, TABLE + 33, TABLE + 49, 24, 0],
+    [CRC, TABLE + 41, TABLE + 49, 24, 0],
+    [COMMIT, 531, NONE, 4, 8],
+    [SET, TABLE + 49, 8, 362, 0], // entry 0
+    [SET, TABLE + 65, 8, 363, 0], // entry 2
+    [CRC, TABLE + 33, TABLE + 49, 24, 0],
+    [CRC, TABLE + 41, TABLE + 49, 24, 0],
+    [SET, BLOCK + 6, 2, 1, 0], // compression
+    [COMMIT, 531, NONE, 4, 8],
+    [SET, BLOCK + 6, 2, 0, 0], // compression
+    [CRC, BLOCK + 28, BLOCK + 36, 4, 0],
+    [SET, INDEX, 4, 0x3258_4449, 0], // IDX2
+    [SET, INDEX + 4, 8, 4, 0], // entries
+    [SET, INDEX + 20, 8, DBLK, 0],
+    [SET, INDEX + 28, 8, BLOCK, 0],
+    [SET, INDEX + 36, 8, DDT, 0],
+    [SET, INDEX + 44, 8, TABLE, 0],
+    [SET, INDEX + 52, 8, DBLK, 0],
+    [SET, INDEX + 60, 8, BLOCK, 0],
+    [SET, INDEX + 68, 8, DBLK, 0],
+    [SET, INDEX + 76, 8, 181, 0],
+    [CRC, INDEX + 12, INDEX + 20, 64, 0],
+    [ROLLBACK, 615, INDEX, 9, 0],
+    [SET, BLOCK + 20, 8, 0, 0], // cmpCrc64
+    [COMMIT, 615, AT_1, 4, 10],
+    [CRC, BLOCK + 20, BLOCK + 36, 4, 0],
+    [COMMIT, 615, AT_1, 4, 10],
+];
+
+pub fn all() {
+    run(
+        b"P1\nP2\nAAAABBBB\n\
+          a second block, address 1\nCCCC\n\
+          commit, address 1 is 27\n\n\
+          address 1 is 27, address 2 is 22\n\
+          commit, 27 of the lower address\n\n\
+          address 0 is 26 in the damaged block, address 1 is 27, address 2 is 22\n\
+          commit, 26 before 27, of the lower address\n\n\
+          commit, addresses 0 and 1 are 27\n\n\
+          commit, 24 before 27, address 1\n\n\
+          an index that names the second block twice\n\
+          commit, address 1 is 27\nDDDD\n\
+          commit, no address is refused\nDDDD\n",
+        &ROWS,
+    );
+}
