@@ -28,8 +28,8 @@ use Rattle.format.proofs.Appended.{shift-small}
 use Rattle.format.proofs.Written.{length-indexBytes}
 use Rattle.opening.proofs.Accepted.{opened-is}
 use Rattle.planning.specs.declared.Planned.{Planned}
-use Rattle.planning.specs.Plans.{Commits, storedBy, planFor}
-use Rattle.storing.specs.Stores.{Stores, pointersBy, tableEntriesBytes, stored}
+use Rattle.planning.specs.Plans.{Commits, storedBy, planFor, pointersBy}
+use Rattle.storing.specs.Stores.{Stores, tableEntriesBytes, stored}
 use Rattle.indexing.specs.Entries.{blockEntry, newEntries, Indexes}
 use Rattle.appending.specs.Appends.{Passed, blockLengthFor, headerFor, layoutFor, Data, Fits}
 use Rattle.appending.specs.declared.Layout.{Layout}

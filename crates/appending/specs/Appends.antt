@@ -10,8 +10,8 @@ use Rattle.format.specs.Opening.{Opened, opening}
 use Rattle.format.specs.Committing.{argumentsVerdict, discVerdict, largestItem, shiftFor, keptEntries}
 use Rattle.indexing.specs.Entries.{newEntries}
 use Rattle.planning.specs.declared.Planned.{Planned}
-use Rattle.planning.specs.Plans.{storedBy, planFor}
-use Rattle.storing.specs.Stores.{Stores, pointersBy}
+use Rattle.planning.specs.Plans.{storedBy, planFor, pointersBy}
+use Rattle.storing.specs.Stores.{Stores}
 use Rattle.appending.specs.declared.Layout.{Layout}
 
 -- all checks but 35 have passed, and the image is opened as t

@@ -17,8 +17,7 @@ ghost use Rattle.format.specs.Committing.{argumentsVerdict, newBlock, newTable,
 ghost use Rattle.format.specs.Answers.{answered};
 ghost use Rattle.opening.specs.Answers.{contents};
 ghost use Rattle.indexing.specs.Entries.{blockEntry};
-ghost use Rattle.planning.specs.Plans.{storedBy};
-ghost use Rattle.storing.specs.Stores.{pointersBy};
+ghost use Rattle.planning.specs.Plans.{storedBy, pointersBy};
 ghost use Rattle.appending.specs.Appends.{Passed, blockLengthFor, headerFor, layoutFor, Data, Fits};
 use fields::get;
 use fields::part;

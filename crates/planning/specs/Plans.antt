@@ -7,6 +7,7 @@ use mathlib.Core.Path.{_≡_}
 use Prim.Native.Nat.{ℕ, _+_, _*_, _≤_, _<_}
 use lib.ListN.{length, drop}
 use Rattle.fields.specs.Bytes.{part}
+use Rattle.format.specs.declared.Pointer.{Pointer}
 use Rattle.format.specs.Tests.{same, choose}
 use Rattle.format.specs.Opening.{Opened}
 use Rattle.format.specs.Reading.{pointerAt}
@@ -44,11 +45,17 @@ sectorOf size sectors k = part sectors (k * size) size
 abbrev pub storedBy : List ℕ → Opened → List ℕ → ℕ → List ℕ → Stored
 storedBy img t addresses size sectors = storeAll img t (length img) [] (pieces (length addresses) size sectors)
 
+-- the pointers of the new table
+abbrev pub pointersBy : List ℕ → Opened → List ℕ → ℕ → List ℕ → List (Option Pointer)
+pointersBy img t addresses size sectors = newPointers img t addresses (storedBy img t addresses size sectors .pointers) (t .count) 0
+
 -- how many are stored, and the largest item number of the new table
 unfoldable pub planFor : List ℕ → Opened → List ℕ → ℕ → List ℕ → Planned
 planFor img t addresses size sectors =
-    let st = storedBy img t addresses size sectors in
-    record { stored = length (st .items); largest = record { 0 = largestItem (newPointers img t addresses (st .pointers) (t .count) 0) } }
+    record {
+      stored = length (storedBy img t addresses size sectors .items);
+      largest = record { 0 = largestItem (pointersBy img t addresses size sectors) };
+    }
 
 -- ---- one address of the pass
 -- the handed-in sector k lies among the sectors, and at most as many are stored as were handed in before it

@@ -8,12 +8,8 @@ use Rattle.format.specs.declared.Pointer.{Pointer}
 use Rattle.format.specs.Layouts.{blockHeaderLength, tableEntryLength}
 use Rattle.format.specs.Opening.{Opened}
 use Rattle.format.specs.Writing.{longestBuffer}
-use Rattle.format.specs.Committing.{newPointers, tableEntryBytes}
-use Rattle.planning.specs.Plans.{Commits, storedBy}
-
--- the pointers of the new table
-abbrev pub pointersBy : List ℕ → Opened → List ℕ → ℕ → List ℕ → List (Option Pointer)
-pointersBy img t addresses size sectors = newPointers img t addresses (storedBy img t addresses size sectors .pointers) (t .count) 0
+use Rattle.format.specs.Committing.{tableEntryBytes}
+use Rattle.planning.specs.Plans.{Commits, storedBy, pointersBy}
 
 -- the new table's entries, one after another
 abbrev pub tableEntriesBytes : ℕ → List (Option Pointer) → List ℕ
