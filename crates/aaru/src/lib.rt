@@ -37,7 +37,7 @@ pub fn locate(image: &[u8], a: SectorAddress) -> Located
     let opened = opening::open(image);
     match opened {
         Opening::Refused(r) => Located::Refused(r),
-        Opening::Opens(t) => sectors::locate(image, t, a),
+        Opening::Opens(t) => sectors::locate_of(image, t, a),
     }
 }
 
@@ -45,13 +45,10 @@ pub fn locate(image: &[u8], a: SectorAddress) -> Located
 pub fn read<'a>(image: &'a [u8], a: SectorAddress) -> &'a [u8]
     ensures { λ r. ⌜ now r ≡ bytesRead (read (now (image .entry)) (a .0)) ⌝ }
 {
-    let l = locate(image, a);
-    match l {
-        Located::Refused(_) => fields::part(image, 0, 0),
-        Located::At(p) => {
-            let start = p.start;
-            fields::part(image, start.0, p.size)
-        }
+    let opened = opening::open(image);
+    match opened {
+        Opening::Refused(_) => fields::part(image, 0, 0),
+        Opening::Opens(t) => sectors::read_of(image, t, a),
     }
 }
 

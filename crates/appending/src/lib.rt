@@ -181,7 +181,7 @@ pub fn commit(
     requires { ⌜ (argumentsVerdict (now buf) used (now addresses) size (now sectors) ≡ Passes) × (opening (take used (now buf)) ≡ accepted (contents t)) ⌝ }
     ensures { λ r. ⌜ answered r (now (buf .exit)) ≡ commit (now (buf .entry)) used (now (addresses .entry)) size (now (sectors .entry)) time ⌝ }
 {
-    let v = checking::disc_verdict(part(buf, 0, used), t, addresses);
+    let v = checking::disc_verdict_of(part(buf, 0, used), t, addresses);
     if let Verdict::Refuses(r) = v {
         return Updated::Refused(r);
     }

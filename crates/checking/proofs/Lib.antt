@@ -3,3 +3,4 @@ mod Firsts
 mod Forms
 mod Looked
 mod Whole
+mod Promises

@@ -14,7 +14,7 @@ ghost use Rattle.format.specs.Layouts.{indexOffset, entryLength, entries};
 ghost use Rattle.format.specs.Opening.{opening};
 ghost use Rattle.format.specs.Reading.{has};
 ghost use Rattle.format.specs.Committing.{anyOutside, sectorsVerdict};
-ghost use Rattle.opening.specs.Answers.{contents};
+ghost use Rattle.opening.specs.Answers.{contents, held};
 ghost use Rattle.checking.specs.Checked.{indexed, formVerdict, Formed, damaged, FirstLeft, FirstFrom};
 use fields::get;
 use fields::part;
@@ -23,6 +23,7 @@ use format::Pointer;
 use format::Refusal;
 use format::SectorAddress;
 use format::Verdict;
+use opening::Image;
 use opening::Opened;
 
 // The identifier 'DBLK', as the number that its letters make.
@@ -177,8 +178,8 @@ fn sectors_verdict(s: &[u8], t: Opened) -> Verdict
     first.verdict
 }
 
-// A commit's checks of the disc: 20, then all sectors.
-pub fn disc_verdict(s: &[u8], t: Opened, addresses: &[u64]) -> Verdict
+// A commit's checks of the disc that opened as t: 20, then all sectors.
+fn disc_verdict_at(s: &[u8], t: Opened, addresses: &[u64]) -> Verdict
     requires { ⌜ opening (now s) ≡ accepted (contents t) ⌝ }
     ensures { λ r. ⌜ r ≡ (row (anyOutside (contents t .count) (now (addresses .entry))) (refusal 20) then sectorsVerdict (now (s .entry)) (entries (now (s .entry)) (indexOffset (now (s .entry)))) (contents t)) ⌝ }
 {
@@ -186,4 +187,20 @@ pub fn disc_verdict(s: &[u8], t: Opened, addresses: &[u64]) -> Verdict
         return Verdict::Refuses(Refusal { number: 20 });
     }
     sectors_verdict(s, t)
+}
+
+// The same of an opened image.
+pub fn disc_verdict<'a, 'b>(image: Image<'a>, addresses: &'b [u64]) -> Verdict
+    requires { ⌜ opening (now (image .bytes)) ≡ accepted (held image) ⌝ }
+    ensures { λ r. ⌜ r ≡ (row (anyOutside (held (image .entry) .count) (now (addresses .entry))) (refusal 20) then sectorsVerdict (now (image .entry .bytes)) (entries (now (image .entry .bytes)) (indexOffset (now (image .entry .bytes)))) (held (image .entry))) ⌝ }
+{
+    disc_verdict_at(opening::bytes(image), opening::numbers(image), addresses)
+}
+
+// The same of the image that opened as t.
+pub fn disc_verdict_of(s: &[u8], t: Opened, addresses: &[u64]) -> Verdict
+    requires { ⌜ opening (now s) ≡ accepted (contents t) ⌝ }
+    ensures { λ r. ⌜ r ≡ (row (anyOutside (contents t .count) (now (addresses .entry))) (refusal 20) then sectorsVerdict (now (s .entry)) (entries (now (s .entry)) (indexOffset (now (s .entry)))) (contents t)) ⌝ }
+{
+    disc_verdict(opening::view(s, t), addresses)
 }

@@ -15,6 +15,7 @@ use format::Counted;
 use format::SectorAddress;
 use opening::Opened;
 use opening::Opening;
+use sectors::Visit;
 
 // The lines of all addresses of an opened image. Neighbours in one intact block cost one pass over the index and the block.
 fn address_lines(image: &[u8], t: Opened, out: &mut [u8], at: usize) -> usize
@@ -27,7 +28,14 @@ fn address_lines(image: &[u8], t: Opened, out: &mut [u8], at: usize) -> usize
     let mut a: u64 = 0;
     // an iteration for each address
     while a < count {
-        let near = sectors::locate_near(image, t, SectorAddress(a), known);
+        let near = sectors::locate_near_of(
+            image,
+            t,
+            Visit {
+                address: SectorAddress(a),
+                known,
+            },
+        );
         let located = near.located;
         next = lines::line(out, next, SectorAddress(a), located);
         known = near.known;

@@ -1,15 +1,29 @@
 -- What the answers of this crate say in the terms of the definitions.
+use mathlib.Core.List.{List}
+use Prim.Native.Nat.{ℕ}
+use denote.Ref.{RefT}
 use Rattle.format.specs.Refusals.{Answer, refused, accepted}
 use Rattle.format.specs.Opening as format
+use Rattle.opening.specs.declared.Image.{Image}
 use Rattle.opening.specs.declared.Opened.{Opened}
 use Rattle.opening.specs.declared.Opening.{Opening}
 use Rattle.opening.specs.declared.Opening.the-variants as opening
 
--- what the opened image holds
+-- what opening found
 abbrev pub contents : Opened → format.Opened
 contents t = record { table = t .table .0; count = t .count; shift = t .shift }
 
--- what opening found, or the refusal
+-- ---- the opened image: the lent bytes, and what opening found in them
+abbrev pub viewOf : RefT (List ℕ) → Opened → Image
+viewOf s t = record { bytes = s; table = t .table; count = t .count; shift = t .shift }
+
+abbrev pub numbersOf : Image → Opened
+numbersOf image = record { table = image .table; count = image .count; shift = image .shift }
+
+abbrev pub held : Image → format.Opened
+held image = contents (numbersOf image)
+
+-- ---- what opening found, or the refusal
 unfoldable pub outcome : Opening → Answer format.Opened
 outcome (opening.Opens t) = accepted (contents t)
 outcome (opening.Refused r) = refused r

@@ -1,5 +1,8 @@
 // Internal: opening an image, checks 1 to 14 of document 01 (1 to 10 by `index`), and the opened image, which nothing else makes.
 //
+// A function over an opened image takes it apart and hands the slice and the numbers to one that does the work, `.._at`; beside it
+// `.._of` makes the opened image for callers that have the two apart.
+//
 // Cost: the index is passed over twice, for its checksum and for its entries, and the table once, for its checksum.
 ghost use mathlib.Core.List.{List};
 ghost use mathlib.Core.Path.{_≡_};
@@ -11,7 +14,7 @@ ghost use Rattle.format.specs.Refusals.{accepted, answer};
 ghost use Rattle.format.specs.Layouts.{decode};
 ghost use Rattle.format.specs.Opening.{headerVerdict, tableMalformed, sumsDiffer, tableVerdict, openVerdict, openedAt, opened, opening};
 ghost use Rattle.format.specs.Reading.{tableEntry, notWritten, pointerAt};
-ghost use Rattle.opening.specs.Answers.{contents, outcome};
+ghost use Rattle.opening.specs.Answers.{contents, outcome, numbersOf, viewOf, held};
 use crc64::checksum;
 use fields::get;
 use fields::part;
@@ -24,15 +27,23 @@ use format::SectorAddress;
 use format::Verdict;
 use index::Named;
 
-// An opened image, beside its bytes: its table's place (that of the header), count and shift. The fields are private, so
-// that opening alone makes one.
+// What opening finds: the table's place (that of the header), count and shift. The fields are private, so that opening alone makes
+// one.
 pub struct Opened {
     table: ByteOffset,
     count: u64,
     shift: u64,
 }
 
-// What opening answers.
+// An opened image: the lent bytes, and what opening found in them.
+pub struct Image<'a> {
+    bytes: &'a [u8],
+    table: ByteOffset,
+    count: u64,
+    shift: u64,
+}
+
+// What opening answers. No enum can hold a slice, so `view` puts the bytes and what was found together.
 pub enum Opening {
     Opens(Opened),
     Refused(Refusal),
@@ -165,6 +176,37 @@ pub fn open_verdict(s: &[u8], o: ByteOffset) -> Verdict
     }
 }
 
+// The opened image of these bytes, which opened as t.
+pub fn view<'a>(s: &'a [u8], t: Opened) -> Image<'a>
+    requires { ⌜ opening (now s) ≡ accepted (contents t) ⌝ }
+    ensures { λ r. ⌜ r ≡ viewOf (s .entry) t ⌝ }
+{
+    Image {
+        bytes: s,
+        table: t.table,
+        count: t.count,
+        shift: t.shift,
+    }
+}
+
+// The bytes of an opened image.
+pub fn bytes<'a>(image: Image<'a>) -> &'a [u8]
+    ensures { λ r. ⌜ r ≡ image .entry .bytes ⌝ }
+{
+    image.bytes
+}
+
+// What opening found in them.
+pub fn numbers<'a>(image: Image<'a>) -> Opened
+    ensures { λ r. ⌜ r ≡ numbersOf (image .entry) ⌝ }
+{
+    Opened {
+        table: image.table,
+        count: image.count,
+        shift: image.shift,
+    }
+}
+
 // How many sectors an opened image has.
 pub fn count(t: Opened) -> u64
     ensures { λ r. ⌜ r ≡ contents t .count ⌝ }
@@ -207,6 +249,22 @@ pub fn pointer_at(s: &[u8], t: Opened, a: SectorAddress) -> Pointer
     ensures { λ r. ⌜ r ≡ pointerAt (now (s .entry)) (contents t) (a .0) ⌝ }
 {
     decode(t.shift, table_entry(s, t, a))
+}
+
+// The same of an opened image.
+pub fn pointer<'a>(image: Image<'a>, a: SectorAddress) -> Pointer
+    requires { ⌜ (opening (now (image .bytes)) ≡ accepted (held image)) × (a .0 < held image .count) ⌝ }
+    ensures { λ r. ⌜ r ≡ pointerAt (now (image .entry .bytes)) (held (image .entry)) (a .0) ⌝ }
+{
+    pointer_at(bytes(image), numbers(image), a)
+}
+
+// The same of the image that opened as t.
+pub fn pointer_of(s: &[u8], t: Opened, a: SectorAddress) -> Pointer
+    requires { ⌜ (opening (now s) ≡ accepted (contents t)) × (a .0 < contents t .count) ⌝ }
+    ensures { λ r. ⌜ r ≡ pointerAt (now (s .entry)) (contents t) (a .0) ⌝ }
+{
+    pointer(view(s, t), a)
 }
 
 // Whether the entry that encodes p is that of an address that is not written: exactly 0 encodes block 0 and item 0. A caller that wants

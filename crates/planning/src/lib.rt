@@ -48,15 +48,15 @@ pub fn is_next(addresses: &[u64], k: usize, a: SectorAddress) -> bool
     addresses[k] == a.0
 }
 
-// The item number that address a has, 0 where it is not written.
+// The item number that address a has, 0 where it is not written. Its table entry is read once.
 fn old_item(s: &[u8], t: Opened, a: SectorAddress) -> ItemNumber
     requires { ⌜ (opening (now s) ≡ accepted (contents t)) × (a .0 < contents t .count) ⌝ }
     ensures { λ r. ⌜ r .0 ≡ itemOrZero (oldPointer (now (s .entry)) (contents t) (a .0)) ⌝ }
 {
-    if opening::not_written(s, t, a) {
+    let p = opening::pointer_of(s, t, a);
+    if opening::encodes_nothing(p) {
         return ItemNumber(0);
     }
-    let p = opening::pointer_at(s, t, a);
     p.item
 }
 
@@ -67,9 +67,9 @@ fn look(s: &[u8], t: Opened, size: u64, sectors: &[u8], k: usize, stored: u64) -
 {
     let handed = k as u64;
     let sector = fields::part(sectors, handed * size, size);
-    let old = search::on_disc(s, t, sector);
+    let old = search::on_disc_of(s, t, sector);
     if let Address::Is(a) = old {
-        let p = opening::pointer_at(s, t, a);
+        let p = opening::pointer_of(s, t, a);
         let item = p.item;
         return Looked {
             item,

@@ -1,3 +1,4 @@
 mod First
 pub mod Disc
 pub mod Stored
+mod Promises

@@ -6,12 +6,13 @@ ghost use mathlib.Core.Path.{_≡_};
 ghost use Prim.Native.Nat.{_+_, _*_, _≤_, _<_};
 ghost use lib.ListN.{length, drop};
 ghost use Rattle.format.specs.Committing.{onDisc, amongStored, pieces};
-ghost use Rattle.opening.specs.Answers.{contents};
+ghost use Rattle.opening.specs.Answers.{contents, held};
 ghost use Rattle.search.specs.Found.{Checked, addressFound, itemFound, slotAt};
 use format::ByteOffset;
 use format::ItemNumber;
 use format::Place;
 use format::SectorAddress;
+use opening::Image;
 use opening::Opened;
 
 // The address at which a search ends.
@@ -44,8 +45,8 @@ fn slot_at(s: &[u8], t: Opened, a: SectorAddress) -> Slot
     Slot::Sector(sectors::place(s, p))
 }
 
-// The first address of the disc whose sector holds these bytes, length included.
-pub fn on_disc(s: &[u8], t: Opened, sector: &[u8]) -> Address
+// The first address of the disc that opened as t whose sector holds these bytes, length included.
+pub fn on_disc_at(s: &[u8], t: Opened, sector: &[u8]) -> Address
     requires { ⌜ Checked (now s) (contents t) ⌝ }
     ensures { λ r. ⌜ addressFound r ≡ onDisc (now (s .entry)) (contents t) (now (sector .entry)) ⌝ }
 {
@@ -75,6 +76,22 @@ pub fn on_disc(s: &[u8], t: Opened, sector: &[u8]) -> Address
         }
     }
     found
+}
+
+// The same of an opened image.
+pub fn on_disc<'a, 'b>(image: Image<'a>, sector: &'b [u8]) -> Address
+    requires { ⌜ Checked (now (image .bytes)) (held image) ⌝ }
+    ensures { λ r. ⌜ addressFound r ≡ onDisc (now (image .entry .bytes)) (held (image .entry)) (now (sector .entry)) ⌝ }
+{
+    on_disc_at(opening::bytes(image), opening::numbers(image), sector)
+}
+
+// The same of the image that opened as t.
+pub fn on_disc_of(s: &[u8], t: Opened, sector: &[u8]) -> Address
+    requires { ⌜ Checked (now s) (contents t) ⌝ }
+    ensures { λ r. ⌜ addressFound r ≡ onDisc (now (s .entry)) (contents t) (now (sector .entry)) ⌝ }
+{
+    on_disc(opening::view(s, t), sector)
 }
 
 // The first of the n sectors that stand one after another from `at` on that holds these bytes; each has as many.

@@ -1,3 +1,4 @@
 mod Indexed
 pub mod Known
 mod Places
+mod Promises

@@ -9,10 +9,10 @@ ghost use Rattle.format.specs.Tests.{same, differs, atLeast, _and_};
 ghost use Rattle.format.specs.Refusals.{refusal, row, accepted, answer};
 ghost use Rattle.format.specs.Layouts.{DBLK, indexOffset, indexHeaderLength, entryCount, entryLength, entriesFrom, entries, blockLength, sectorSize};
 ghost use Rattle.format.specs.Opening.{isUserData, offsetsOf, openVerdict, opening};
-ghost use Rattle.format.specs.Reading.{has, pointerAt, blockMalformed, blockVerdict, itemVerdict, pointerVerdict, sectorVerdict, placeOf, locate};
+ghost use Rattle.format.specs.Reading.{has, pointerAt, blockMalformed, blockVerdict, itemVerdict, pointerVerdict, sectorVerdict, placeOf, locate, read};
 ghost use Rattle.format.specs.Facts.{BlockOk, ItemOk};
-ghost use Rattle.format.specs.Answers.{located};
-ghost use Rattle.opening.specs.Answers.{contents};
+ghost use Rattle.format.specs.Answers.{located, bytesRead};
+ghost use Rattle.opening.specs.Answers.{contents, held};
 ghost use Rattle.sectors.specs.Found.{found, Known};
 use fields::get;
 use fields::part;
@@ -27,6 +27,7 @@ use format::SectorAddress;
 use format::Verdict;
 use index::entry;
 use index::is_user_data;
+use opening::Image;
 use opening::Opened;
 
 // The identifier 'DBLK', as the number that its letters make.
@@ -38,8 +39,13 @@ enum Found {
     Refused(Refusal),
 }
 
+// An address to locate, and a block that is known to be intact. ByteOffset(0) is none.
+pub struct Visit {
+    pub address: SectorAddress,
+    pub known: ByteOffset,
+}
+
 // Where a sector lies, and a block that is known to be intact: the sector's, or where it is refused the one handed in.
-// ByteOffset(0) is none.
 pub struct Near {
     pub located: Located,
     pub known: ByteOffset,
@@ -229,13 +235,14 @@ pub fn place(s: &[u8], p: Pointer) -> Place
     Place { start, size }
 }
 
-// Where the sector at address a of an opened image lies. A caller that goes from address to address hands in the block that
-// the last answer left known, so that neighbours in one intact block cost one pass over the index and the block, not one each.
-pub fn locate_near(s: &[u8], t: Opened, a: SectorAddress, known: ByteOffset) -> Near
-    requires { ⌜ (opening (now s) ≡ accepted (contents t)) × Known (now s) (known .0) ⌝ }
-    ensures { λ r. ⌜ (located (r .located) ≡ locate (now (s .entry)) (a .0)) × Known (now (s .entry)) (r .known .0) ⌝ }
+// Where the sector at an address of the image that opened as t lies. A caller that goes from address to address hands in the block
+// that the last answer left known, so that neighbours in one intact block cost one pass over the index and the block, not one each.
+fn locate_near_at(s: &[u8], t: Opened, v: Visit) -> Near
+    requires { ⌜ (opening (now s) ≡ accepted (contents t)) × Known (now s) (v .known .0) ⌝ }
+    ensures { λ r. ⌜ (located (r .located) ≡ locate (now (s .entry)) (v .address .0)) × Known (now (s .entry)) (r .known .0) ⌝ }
 {
-    let f = find(s, t, a, known);
+    let known = v.known;
+    let f = find(s, t, v.address, known);
     match f {
         Found::Refused(r) => Near {
             located: Located::Refused(r),
@@ -251,11 +258,81 @@ pub fn locate_near(s: &[u8], t: Opened, a: SectorAddress, known: ByteOffset) -> 
     }
 }
 
-// The same of one address.
-pub fn locate(s: &[u8], t: Opened, a: SectorAddress) -> Located
+// The same of an opened image.
+pub fn locate_near<'a>(image: Image<'a>, v: Visit) -> Near
+    requires { ⌜ (opening (now (image .bytes)) ≡ accepted (held image)) × Known (now (image .bytes)) (v .known .0) ⌝ }
+    ensures { λ r. ⌜ (located (r .located) ≡ locate (now (image .entry .bytes)) (v .address .0)) × Known (now (image .entry .bytes)) (r .known .0) ⌝ }
+{
+    locate_near_at(opening::bytes(image), opening::numbers(image), v)
+}
+
+// The same of the image that opened as t.
+pub fn locate_near_of(s: &[u8], t: Opened, v: Visit) -> Near
+    requires { ⌜ (opening (now s) ≡ accepted (contents t)) × Known (now s) (v .known .0) ⌝ }
+    ensures { λ r. ⌜ (located (r .located) ≡ locate (now (s .entry)) (v .address .0)) × Known (now (s .entry)) (r .known .0) ⌝ }
+{
+    locate_near(opening::view(s, t), v)
+}
+
+// Where the sector at address a of the image that opened as t lies.
+fn locate_at(s: &[u8], t: Opened, a: SectorAddress) -> Located
     requires { ⌜ opening (now s) ≡ accepted (contents t) ⌝ }
     ensures { λ r. ⌜ located r ≡ locate (now (s .entry)) (a .0) ⌝ }
 {
-    let near = locate_near(s, t, a, ByteOffset(0));
+    let near = locate_near_at(
+        s,
+        t,
+        Visit {
+            address: a,
+            known: ByteOffset(0),
+        },
+    );
     near.located
+}
+
+// The same of an opened image.
+pub fn locate<'a>(image: Image<'a>, a: SectorAddress) -> Located
+    requires { ⌜ opening (now (image .bytes)) ≡ accepted (held image) ⌝ }
+    ensures { λ r. ⌜ located r ≡ locate (now (image .entry .bytes)) (a .0) ⌝ }
+{
+    locate_at(opening::bytes(image), opening::numbers(image), a)
+}
+
+// The same of the image that opened as t.
+pub fn locate_of(s: &[u8], t: Opened, a: SectorAddress) -> Located
+    requires { ⌜ opening (now s) ≡ accepted (contents t) ⌝ }
+    ensures { λ r. ⌜ located r ≡ locate (now (s .entry)) (a .0) ⌝ }
+{
+    locate(opening::view(s, t), a)
+}
+
+// The sector at address a of the image that opened as t: the part that `locate_at` names, and the empty part exactly where it refuses.
+fn read_at<'a>(s: &'a [u8], t: Opened, a: SectorAddress) -> &'a [u8]
+    requires { ⌜ opening (now s) ≡ accepted (contents t) ⌝ }
+    ensures { λ r. ⌜ now r ≡ bytesRead (read (now (s .entry)) (a .0)) ⌝ }
+{
+    let l = locate_at(s, t, a);
+    match l {
+        Located::Refused(_) => part(s, 0, 0),
+        Located::At(p) => {
+            let start = p.start;
+            part(s, start.0, p.size)
+        }
+    }
+}
+
+// The same of an opened image: a part of the lent bytes.
+pub fn read<'a>(image: Image<'a>, a: SectorAddress) -> &'a [u8]
+    requires { ⌜ opening (now (image .bytes)) ≡ accepted (held image) ⌝ }
+    ensures { λ r. ⌜ now r ≡ bytesRead (read (now (image .entry .bytes)) (a .0)) ⌝ }
+{
+    read_at(opening::bytes(image), opening::numbers(image), a)
+}
+
+// The same of the image that opened as t.
+pub fn read_of<'a>(s: &'a [u8], t: Opened, a: SectorAddress) -> &'a [u8]
+    requires { ⌜ opening (now s) ≡ accepted (contents t) ⌝ }
+    ensures { λ r. ⌜ now r ≡ bytesRead (read (now (s .entry)) (a .0)) ⌝ }
+{
+    read(opening::view(s, t), a)
 }

@@ -51,7 +51,7 @@ fn store(buf: &mut [u8], used: u64, t: Opened, sector: &[u8], stored: u64) -> Ha
     requires { ⌜ Steps (now buf) used (contents t) (now sector) stored ⌝ }
     ensures { λ r. ⌜ Stepped (now (buf .entry)) (now (buf .exit)) used (contents t) (now (sector .entry)) stored r ⌝ }
 {
-    let old = search::on_disc(part(buf, 0, used), t, sector);
+    let old = search::on_disc_at(part(buf, 0, used), t, sector);
     if let Address::Is(a) = old {
         return Handed {
             pointer: opening::pointer_at(part(buf, 0, used), t, a),

@@ -7,17 +7,17 @@ use Rattle.opening.specs.Answers.{outcome}
 use Rattle.aaru.proofs.locate.Statement.{statement}
 use Rattle.aaru.proofs.locate.Tie as tie
 
-locate-requires : tie.Need-locate-requires
+locate-of-requires : tie.Need-locate-of-requires
 unfolding outcome
-locate-requires c κs = sym (c .before .before .before .«open» .ensures) ∙ ap outcome (c .before .opened2 .given .1)
+locate-of-requires c κs = sym (c .before .before .before .«open» .ensures) ∙ ap outcome (c .before .opened2 .given .1)
 
 returns : tie.Need-returns
 unfolding located outcome
 returns c = locate-unopened _ _ _ (ap outcome (sym (c .before .opened .given .1)) ∙ c .before .before .before .«open» .ensures)
 
 returns-2 : tie.Need-returns-2
-returns-2 c = c .locate .ensures
+returns-2 c = c .locate-of .ensures
 
 pub locate-spec : {M : Type 1} → statement M
 locate-spec =
-    tie.close (tie.spec (λ c κs. search needs) (λ c. search needs) (λ c. search needs) locate-requires returns returns-2)
+    tie.close (tie.spec (λ c κs. search needs) (λ c. search needs) (λ c. search needs) locate-of-requires returns returns-2)

@@ -1,36 +1,27 @@
 -- `aaru::read` meets its contract. Assumes nothing.
 use borrow.Author.Needs.{needs}
-use mathlib.Core.Path.{_≡_, sym, ap, _∙_}
-use denote.Ref.{now}
+use mathlib.Core.Path.{sym, ap, _∙_}
 use Rattle.fields.specs.Bytes.{part}
-use Rattle.format.specs.Refusals.{accepted}
-use Rattle.format.specs.Reading.{locate}
-use Rattle.format.specs.Answers.{located}
 use Rattle.format.specs.Demands.{partAt}
-use Rattle.format.proofs.Answers.{place-inside}
+use Rattle.format.proofs.Answers.{locate-unopened}
 use Rattle.format.proofs.Reading.{read-is-located}
+use Rattle.opening.specs.Answers.{outcome}
 use Rattle.aaru.proofs.read.Statement.{statement}
 use Rattle.aaru.proofs.read.Tie as tie
 
-given : (c : tie.After-l) → accepted (c .l .given .0 .0) ≡ locate (now (c .before .before .before .before .args .image)) (c .before .before .before .before .args .a .0)
-unfolding located
-given c = ap located (sym (c .l .given .1)) ∙ c .before .before .locate .ensures
+read-of-requires : tie.Need-read-of-requires
+unfolding outcome
+read-of-requires c κs = sym (c .before .before .before .«open» .ensures) ∙ ap outcome (c .before .opened .given .1)
 
-part-requires-2 : tie.Need-part-requires-2
-part-requires-2 c κs = place-inside _ _ _ (given (c .before .before))
-
--- what is read is the part that `locate` names
+-- where the image does not open, the empty part is what is read
 returns : tie.Need-returns
-unfolding part located partAt
+unfolding part partAt outcome
 returns c =
-    let l = ap located (sym (c .before .enum-told .given .1)) ∙ c .before .before .before .locate .ensures in
+    let l = locate-unopened _ _ _ (ap outcome (sym (c .before .enum-told .given .1)) ∙ c .before .before .before .«open» .ensures) in
     c .part .ensures ∙ ap (partAt _) l ∙ sym (read-is-located _ _ .0)
 
 returns-2 : tie.Need-returns-2
-unfolding partAt
-returns-2 c = c .part2 .ensures ∙ ap (partAt _) (given (c .before .before .before)) ∙ sym (read-is-located _ _ .0)
+returns-2 c = c .read-of .ensures
 
 pub read-spec : {M : Type 1} → statement M
-read-spec =
-    tie.close
-    (tie.spec (λ c κs. search needs) (λ c. search needs) (λ c κs. search needs) (λ c. search needs) part-requires-2 returns returns-2)
+read-spec = tie.close (tie.spec (λ c κs. search needs) (λ c. search needs) (λ c κs. search needs) (λ c. search needs) read-of-requires returns returns-2)

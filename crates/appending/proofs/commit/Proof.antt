@@ -14,9 +14,9 @@ use Rattle.appending.proofs.commit.Tie as tie
 part-requires : tie.Need-part-requires
 part-requires c κs = omega (arith, arguments-ok _ _ _ _ _ .0 (c .before .before .before .before .pre .0) .bufferOk .inside)
 
-disc-verdict-requires : tie.Need-disc-verdict-requires
+disc-verdict-of-requires : tie.Need-disc-verdict-of-requires
 unfolding part
-disc-verdict-requires c κs = rw (c .part .ensures) (c .before .before .before .before .before .pre .1)
+disc-verdict-of-requires c κs = rw (c .part .ensures) (c .before .before .before .before .before .pre .1)
 
 returns : tie.Need-returns
 unfolding commit append commitVerdict part
@@ -24,7 +24,7 @@ returns c =
     let p = c .before .before .before .before .before .before .before .before .before .pre in
     outcome-stops _ _ _
     (goes (sym (p .0))
-    (stops _ (rw (c .before .before .before .before .part .ensures) at (by (c .before .v .given .1) (c .before .before .before .disc-verdict .ensures)) ∙ sym (disc-opened _ _ _ (p .1)))))
+    (stops _ (rw (c .before .before .before .before .part .ensures) at (by (c .before .v .given .1) (c .before .before .before .disc-verdict-of .ensures)) ∙ sym (disc-opened _ _ _ (p .1)))))
 
 append-requires : tie.Need-append-requires
 unfolding part
@@ -33,7 +33,7 @@ append-requires c κs =
     record {
       arguments = p .0;
       opens = p .1;
-      disc = disc-opened _ _ _ (p .1) ∙ sym (rw (c .before .before .before .before .part .ensures) at (by (c .before .enum-told .given .1) (c .before .before .before .disc-verdict .ensures)));
+      disc = disc-opened _ _ _ (p .1) ∙ sym (rw (c .before .before .before .before .part .ensures) at (by (c .before .enum-told .given .1) (c .before .before .before .disc-verdict-of .ensures)));
     }
 
 returns-2 : tie.Need-returns-2
@@ -44,7 +44,7 @@ commit-spec =
     tie.close
     (tie.spec
     part-requires
-    disc-verdict-requires
+    disc-verdict-of-requires
     (λ c. search needs)
     (λ c. search needs)
     returns

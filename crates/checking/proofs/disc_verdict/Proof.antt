@@ -1,16 +1,13 @@
--- `checking::disc_verdict` meets its contract. Assumes nothing.
-use borrow.Author.Needs.{needs}
-use Rattle.format.proofs.Chains.{stop, on, by}
+-- `checking::disc_verdict` takes the image apart for `disc_verdict_at`, whose contract it has. Assumes nothing.
+use Rattle.opening.proofs.Views.{apart-meets}
+use Rattle.checking.proofs.Promises.{disc-verdict-promise}
+use Rattle.checking.proofs.disc_verdict_at.Symbol as work
+use Rattle.checking.proofs.disc_verdict_at.Met as work-thm
+use Rattle.checking.proofs.disc_verdict.Key.{name}
 use Rattle.checking.proofs.disc_verdict.Statement.{statement}
-use Rattle.checking.proofs.disc_verdict.Tie as tie
-
-returns : tie.Need-returns
-returns c = stop _ (rw (c .before .before .count .ensures) at (by (c .before .any-outside .ensures) (c .if1 .taken)))
-
-returns-2 : tie.Need-returns-2
-returns-2 c =
-    let d = c .before in
-    on _ (rw (d .before .before .count .ensures) at (by (d .before .any-outside .ensures) (d .if1 .left))) (c .sectors-verdict .ensures)
+use Rattle.checking.proofs.disc_verdict.Code as code
 
 pub disc-verdict-spec : {M : Type 1} → statement M
-disc-verdict-spec = tie.close (tie.spec (λ c κs. search needs) (λ c κs. search needs) returns (λ c κs. search needs) returns-2)
+unfolding code.routine
+disc-verdict-spec 𝓤 H 𝓜 𝓖 𝓡 =
+    apart-meets disc-verdict-promise 𝓤 H 𝓜 𝓖 𝓡 code.env name work.name work.routine code.calls-checking·disc-verdict-at (code.unfolded 𝓤 H 𝓜 𝓡) code.calls-opening·bytes code.calls-opening·numbers (work-thm.met 𝓤 H 𝓜 𝓖 𝓡)

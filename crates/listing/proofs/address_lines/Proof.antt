@@ -25,8 +25,8 @@ loop-holds : tie.Need-loop-holds Inv-loop μ-loop
 unfolding linesFrom
 loop-holds c = (omega arith, refl, writes-none _ _ (omega arith), inl refl)
 
-locate-near-requires : tie.Need-locate-near-requires Inv-loop μ-loop
-locate-near-requires c κs = (c .before .before .before .before .before .pre .0, c .before .loop .inv .3)
+locate-near-of-requires : tie.Need-locate-near-of-requires Inv-loop μ-loop
+locate-near-of-requires c κs = (c .before .before .before .before .before .pre .0, c .before .loop .inv .3)
 
 line-requires : tie.Need-line-requires Inv-loop μ-loop
 line-requires c κs = let w = c .before .before .before .loop .inv .2 .place in omega arith
@@ -34,7 +34,7 @@ line-requires c κs = let w = c .before .before .before .loop .inv .2 .place in 
 loop-again : tie.Need-loop-again Inv-loop μ-loop
 loop-again c =
     let l = c .before .before .before .before .before .before .before .loop .inv in
-    let n = c .before .before .before .before .before .locate-near .ensures in (
+    let n = c .before .before .before .before .before .locate-near-of .ensures in (
       omega arith,
       omega arith,
       lines-next _ _ (l .2) (rw (n .0) at (c .before .before .before .line .ensures)),
@@ -54,7 +54,7 @@ address-lines-spec =
     μ-loop
     (λ c κs. search needs)
     loop-holds
-    locate-near-requires
+    locate-near-of-requires
     line-requires
     (λ c. omega arith)
     (λ c. omega arith)

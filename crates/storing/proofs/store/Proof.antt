@@ -9,20 +9,20 @@ use Rattle.storing.proofs.Steps.{inside, few, readable, found, again, r
 use Rattle.storing.proofs.store.Statement.{statement}
 use Rattle.storing.proofs.store.Tie as tie
 
-on-disc-requires : tie.Need-on-disc-requires
+on-disc-at-requires : tie.Need-on-disc-at-requires
 unfolding part
-on-disc-requires c κs = rw (c .part .ensures) (c .before .before .before .before .pre .checked)
+on-disc-at-requires c κs = rw (c .part .ensures) (c .before .before .before .before .pre .checked)
 
 -- in what follows d is the place after the search of the disc
 pointer-at-requires : tie.Need-pointer-at-requires
 pointer-at-requires c κs =
     let d = c .before .before .before .before .before in
-    readable (d .before .before .before .before .before .pre) (d .before .part .ensures) (d .on-disc .ensures) (c .before .before .before .old .given .1) (c .part2 .ensures)
+    readable (d .before .before .before .before .before .pre) (d .before .part .ensures) (d .on-disc-at .ensures) (c .before .before .before .old .given .1) (c .part2 .ensures)
 
 returns : tie.Need-returns
 returns c =
     let d = c .before .before .before .before .before .before in
-    found (d .before .before .before .before .before .pre) (d .before .part .ensures) (d .on-disc .ensures) (c .before .before .before .before .old .given .1) (c .before .part2 .ensures)
+    found (d .before .before .before .before .before .pre) (d .before .part .ensures) (d .on-disc-at .ensures) (c .before .before .before .before .old .given .1) (c .before .part2 .ensures)
     (c .pointer-at .ensures)
 
 among-requires : tie.Need-among-requires
@@ -31,7 +31,7 @@ among-requires c κs = inside (c .before .before .before .before .before .before
 returns-2 : tie.Need-returns-2
 returns-2 c =
     let d = c .before .before .before .before .before .before .before in
-    again (d .before .before .before .before .before .pre) (d .before .part .ensures) (d .on-disc .ensures) (c .before .before .before .before .before .enum-told .given .1)
+    again (d .before .before .before .before .before .pre) (d .before .part .ensures) (d .on-disc-at .ensures) (c .before .before .before .before .before .enum-told .given .1)
     (c .before .before .before .among .ensures) (c .before .new .given .1)
 
 -- the sector has room behind those that are stored
@@ -40,7 +40,7 @@ fits : (c : tie.After-copy-arg)
     s .used + 36 + s .stored * length (now (s .sector)) + length (now (s .sector)) ≤ length (now (s .buf)))
 fits c =
     let d = c .before .before .before .before .before .before .before in
-    room (d .before .before .before .before .before .pre) (d .before .part .ensures) (d .on-disc .ensures) (c .before .before .before .before .before .enum-told .given .1)
+    room (d .before .before .before .before .before .pre) (d .before .part .ensures) (d .on-disc-at .ensures) (c .before .before .before .before .before .enum-told .given .1)
     (c .before .before .before .among .ensures) (c .before .enum-told2 .given .1)
 
 mul-copy : tie.Need-mul-copy
@@ -58,7 +58,7 @@ add-t29 c = let h = c .before .before .before .before .before .before .before .b
 returns-3 : tie.Need-returns-3
 returns-3 c =
     let d = c .before .before .before .before .before .before .before .before .before .before in
-    fresh (d .before .before .before .before .before .pre) (d .before .part .ensures) (d .on-disc .ensures) (c .before .before .before .before .before .before .before .before .enum-told .given .1)
+    fresh (d .before .before .before .before .before .pre) (d .before .part .ensures) (d .on-disc-at .ensures) (c .before .before .before .before .before .before .before .before .enum-told .given .1)
     (c .before .before .before .before .before .before .among .ensures) (c .before .before .before .before .enum-told2 .given .1) (c .before .before .copy .ensures)
 
 pub store-spec : {M : Type 1} → statement M
@@ -66,7 +66,7 @@ store-spec =
     tie.close
     (tie.spec
     (λ c κs. search needs)
-    on-disc-requires
+    on-disc-at-requires
     (λ c. search needs)
     (λ c κs. search needs)
     pointer-at-requires

@@ -1,0 +1,20 @@
+-- What the functions over an opened image promise.
+use mathlib.Core.Path.{_≡_, refl}
+use denote.Builtin.{u8}
+use denote.Ref.{now}
+use Rattle.format.specs.Committing.{onDisc}
+use Rattle.opening.specs.Answers.{contents}
+use Rattle.opening.proofs.Passed.{enum-of, slice-of}
+use Rattle.opening.proofs.Views.{Promise}
+use Rattle.search.specs.Found.{Checked, addressFound}
+use Rattle.search.proofs.Address as address-type
+use Rattle.search.proofs.Address.Laws as address-type′
+
+abbrev pub on-disc-promise : Promise
+on-disc-promise = record {
+  m = 1;
+  X = slice-of 1 tt u8;
+  R = enum-of address-type.the-type address-type′.the-laws tt address-type′.lowers refl;
+  φ = λ κs s t sector. Checked (now s) (contents t);
+  ψ = λ κs s t sector r. addressFound r ≡ onDisc (now s) (contents t) (now sector);
+}
