@@ -13,20 +13,21 @@ use Rattle.format.specs.declared.Placed.{Placed}
 use Rattle.format.specs.declared.Pointer.{Pointer}
 use Rattle.format.specs.declared.Updated.the-variants as update
 use Rattle.format.specs.Layouts.{headerLength, indexOffset, entryCount, entries, indexBytes, entryLength, blockHeaderLength, tableHeaderLength, tableHeader, tableBytes, tableEntryLength}
-use Rattle.format.specs.Refusals.{refusal, row, _then_, accepted}
-use Rattle.format.specs.Opening.{Opened, opened, opening}
+use Rattle.format.specs.Refusals.{refusal}
+use Rattle.format.specs.Opening.{Opened, opened}
 use Rattle.format.specs.Writing.{mostAddresses, longestBuffer, placed, setHeader}
-use Rattle.format.specs.Committing.{anyOutside, sectorsVerdict, discVerdict, pieces, Stored, storedFor, pointersFor, largestItem, shiftFor, newBlock, newBlockEntry, newTable, keptEntries, Appended, tableStart, indexStart, usedAfter, appendedFor, appended, appendedBytes, append, commitVerdict, commit}
+use Rattle.format.specs.Committing.{anyOutside, pieces, Stored, storedFor, pointersFor, largestItem, shiftFor, newBlock, newBlockEntry, newTable, keptEntries, Appended, tableStart, indexStart, usedAfter, appendedFor, appended, appendedBytes, append, commitVerdict, commit}
 use Rattle.format.specs.Answers.{answered}
 use Rattle.format.proofs.Tests.{below-true, below-iff}
 use Rattle.format.proofs.Chains.{stop-last, on-last, goes}
 use Rattle.format.proofs.Answers.{outcome-stops, outcome-done}
 use Rattle.format.proofs.Checks.{OpenOk, ArgumentsOk, DiscOk, arguments-ok, disc-ok}
-use Rattle.format.proofs.Refusals.{row-passes, then-rest, answer-accepted}
+use Rattle.format.proofs.Refusals.{row-passes, then-rest}
 use Rattle.format.proofs.Storing.{stored-few, stored-sized, length-pieces, length-newPointers, length-entries}
 use Rattle.format.proofs.Appended.{shift-small}
 use Rattle.format.proofs.Written.{length-indexBytes}
 use Rattle.opening.proofs.Accepted.{opened-is}
+use Rattle.checking.proofs.Disc.{disc-opened}
 use Rattle.planning.specs.declared.Planned.{Planned}
 use Rattle.planning.specs.Plans.{Commits, storedBy, planFor, pointersBy}
 use Rattle.storing.specs.Stores.{Stores, tableEntriesBytes, stored}
@@ -114,14 +115,6 @@ module _ (img : List ℕ) {o : ℕ} (e : o ≡ indexOffset img) where
         end = length img + b i + (49 + 8 * c i) + (20 + 16 * n i);
         kept = k′ i;
       }
-
--- ---- the checks of a disc that is opened as t
-pub disc-opened : (img : List ℕ) (t : Opened) (addresses : List ℕ) → opening img ≡ accepted t
-    → discVerdict img (indexOffset img) addresses ≡ (row (anyOutside (t .count) addresses) (refusal 20) then sectorsVerdict img (entries img (indexOffset img)) t)
-unfolding discVerdict opening
-disc-opened img t addresses e =
-    let (v, o) = answer-accepted _ _ t e in
-    then-rest _ _ v ∙ ap (λ (u : Opened). row (anyOutside (u .count) addresses) (refusal 20) then sectorsVerdict img (entries img (indexOffset img)) u) o
 
 -- ---- the block and the table
 module _ {buf : List ℕ} {used : ℕ} {t : Opened} {addresses : List ℕ} {size : ℕ} {sectors : List ℕ} {table shift n : ℕ}

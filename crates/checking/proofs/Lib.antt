@@ -3,4 +3,5 @@ mod Firsts
 mod Forms
 mod Looked
 mod Whole
+pub mod Disc
 mod Promises

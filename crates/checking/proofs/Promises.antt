@@ -2,10 +2,10 @@
 use mathlib.Core.Path.{_≡_, refl}
 use denote.Builtin.{u64}
 use denote.Ref.{now}
-use Rattle.format.specs.Refusals.{refusal, row, _then_, accepted}
-use Rattle.format.specs.Layouts.{indexOffset, entries}
+use Rattle.format.specs.Refusals.{accepted}
+use Rattle.format.specs.Layouts.{indexOffset}
 use Rattle.format.specs.Opening.{opening}
-use Rattle.format.specs.Committing.{anyOutside, sectorsVerdict}
+use Rattle.format.specs.Committing.{discVerdict}
 use Rattle.format.proofs.Verdict as verdict
 use Rattle.format.proofs.Verdict.Laws as verdict′
 use Rattle.opening.specs.Answers.{contents}
@@ -14,9 +14,9 @@ use Rattle.opening.proofs.Views.{Promise}
 
 abbrev pub disc-verdict-promise : Promise
 disc-verdict-promise = record {
-  m = 1;
-  X = slice-of 1 tt u64;
-  R = enum-of verdict.the-type verdict′.the-laws tt verdict′.lowers refl;
-  φ = λ κs s t addresses. opening (now s) ≡ accepted (contents t);
-  ψ = λ κs s t addresses r. r ≡ (row (anyOutside (contents t .count) (now addresses)) (refusal 20) then sectorsVerdict (now s) (entries (now s) (indexOffset (now s))) (contents t));
+  others = 1;
+  argument = slice-of 1 tt u64;
+  result = enum-of verdict.the-type verdict′.the-laws tt verdict′.lowers refl;
+  asks = λ κs s t addresses. opening (now s) ≡ accepted (contents t);
+  answers = λ κs s t addresses r. r ≡ discVerdict (now s) (indexOffset (now s)) (now addresses);
 }

@@ -9,11 +9,11 @@ ghost use mathlib.Core.List.{List, _∷_};
 ghost use mathlib.Core.Path.{_≡_};
 ghost use Prim.Native.Nat.{ℕ, _+_, _-_, _*_, _≤_, _<_};
 ghost use lib.ListN.{length};
-ghost use Rattle.format.specs.Refusals.{refusal, row, _then_, accepted};
+ghost use Rattle.format.specs.Refusals.{accepted};
 ghost use Rattle.format.specs.Layouts.{indexOffset, entryLength, entries};
 ghost use Rattle.format.specs.Opening.{opening};
 ghost use Rattle.format.specs.Reading.{has};
-ghost use Rattle.format.specs.Committing.{anyOutside, sectorsVerdict};
+ghost use Rattle.format.specs.Committing.{anyOutside, sectorsVerdict, discVerdict};
 ghost use Rattle.opening.specs.Answers.{contents, held};
 ghost use Rattle.checking.specs.Checked.{indexed, formVerdict, Formed, damaged, FirstLeft, FirstFrom};
 use fields::get;
@@ -181,7 +181,7 @@ fn sectors_verdict(s: &[u8], t: Opened) -> Verdict
 // A commit's checks of the disc that opened as t: 20, then all sectors.
 fn disc_verdict_at(s: &[u8], t: Opened, addresses: &[u64]) -> Verdict
     requires { ⌜ opening (now s) ≡ accepted (contents t) ⌝ }
-    ensures { λ r. ⌜ r ≡ (row (anyOutside (contents t .count) (now (addresses .entry))) (refusal 20) then sectorsVerdict (now (s .entry)) (entries (now (s .entry)) (indexOffset (now (s .entry)))) (contents t)) ⌝ }
+    ensures { λ r. ⌜ r ≡ discVerdict (now (s .entry)) (indexOffset (now (s .entry))) (now (addresses .entry)) ⌝ }
 {
     if any_outside(opening::count(t), addresses) {
         return Verdict::Refuses(Refusal { number: 20 });
@@ -192,7 +192,7 @@ fn disc_verdict_at(s: &[u8], t: Opened, addresses: &[u64]) -> Verdict
 // The same of an opened image.
 pub fn disc_verdict<'a, 'b>(image: Image<'a>, addresses: &'b [u64]) -> Verdict
     requires { ⌜ opening (now (image .bytes)) ≡ accepted (held image) ⌝ }
-    ensures { λ r. ⌜ r ≡ (row (anyOutside (held (image .entry) .count) (now (addresses .entry))) (refusal 20) then sectorsVerdict (now (image .entry .bytes)) (entries (now (image .entry .bytes)) (indexOffset (now (image .entry .bytes)))) (held (image .entry))) ⌝ }
+    ensures { λ r. ⌜ r ≡ discVerdict (now (image .entry .bytes)) (indexOffset (now (image .entry .bytes))) (now (addresses .entry)) ⌝ }
 {
     disc_verdict_at(opening::bytes(image), opening::numbers(image), addresses)
 }
@@ -200,7 +200,7 @@ pub fn disc_verdict<'a, 'b>(image: Image<'a>, addresses: &'b [u64]) -> Verdict
 // The same of the image that opened as t.
 pub fn disc_verdict_of(s: &[u8], t: Opened, addresses: &[u64]) -> Verdict
     requires { ⌜ opening (now s) ≡ accepted (contents t) ⌝ }
-    ensures { λ r. ⌜ r ≡ (row (anyOutside (contents t .count) (now (addresses .entry))) (refusal 20) then sectorsVerdict (now (s .entry)) (entries (now (s .entry)) (indexOffset (now (s .entry)))) (contents t)) ⌝ }
+    ensures { λ r. ⌜ r ≡ discVerdict (now (s .entry)) (indexOffset (now (s .entry))) (now (addresses .entry)) ⌝ }
 {
     disc_verdict(opening::view(s, t), addresses)
 }

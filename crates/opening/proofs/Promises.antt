@@ -18,9 +18,9 @@ address = struct-of A.the-type A′.the-laws A′.lowers refl
 
 abbrev pub pointer-promise : Promise
 pointer-promise = record {
-  m = 0;
-  X = address;
-  R = struct-of P.the-type P′.the-laws P′.lowers refl;
-  φ = λ κs s t a. (opening (now s) ≡ accepted (contents t)) × (a .0 < contents t .count);
-  ψ = λ κs s t a r. r ≡ pointerAt (now s) (contents t) (a .0);
+  others = 0;
+  argument = address;
+  result = struct-of P.the-type P′.the-laws P′.lowers refl;
+  asks = λ κs s t a. (opening (now s) ≡ accepted (contents t)) × (a .0 < contents t .count);
+  answers = λ κs s t a r. r ≡ pointerAt (now s) (contents t) (a .0);
 }

@@ -19,19 +19,18 @@ use ghost.Atoms.{Atoms, sem}
 use contract.Lifetimes.{Lfts, Shares, toks}
 use contract.Monad.{Fun, fact, factI}
 use contract.Running.{GhostRules, Running, givenOf, tables, tablesOf}
-use types.Kit.{Given, ‵, raw, _⊛_, _$_, _∵_, !, qed, by, move, rewrite, use1, use2, split, join, pick, learn, fsplit, fjoin, frame, await, done}
+use types.Kit.{Given, ‵, raw, _⊛_, _$_, _∵_, !, qed, by, move, use1, use2, split, join, fsplit, fjoin, frame, done}
 use types.Run.{look, init, forget, stop, from, load, of-opd, and-then, no-more, assigns, land, returns, enter, alloc1, alloc0, params1, pass1, pass0, free1, free0}
 use sound.WpLaws.{fmOf}
 use denote.RattleType.{RattleType, owns}
-use denote.Laws.{Is, shows}
+use denote.Laws.{Is}
 use denote.Builtin.{u8}
 use denote.Exit.{yes}
 use denote.Ref.{RefT, NamedLft}
 use denote.Signature.{plain, namedLft}
 use denote.Slice.{ShrSlice, sliceTy, sliceVal, slice-vals, shr-slice-tells, shr-slice-lawful}
-use denote.Steps.{nothing, peeks}
+use denote.Steps.{nothing}
 use denote.Struct.Laws as LL
-use denote.Triple.Call.{calls-at}
 use denote.Triple.Clauses.{Clauses, Ended, closing}
 use denote.Triple.Entry.{Vals, onEntry}
 use denote.Triple.Spec.{Meets, tripleOf}
@@ -43,7 +42,7 @@ use Rattle.format.specs.Opening.{opening}
 use Rattle.opening.specs.declared.Image.{Image}
 use Rattle.opening.specs.declared.Opened.{Opened}
 use Rattle.opening.specs.Answers.{contents, viewOf, numbersOf, held}
-use Rattle.opening.proofs.Walks.{Ends, ends, Back, back, walk-proves}
+use Rattle.opening.proofs.Walks.{Ends, ends, called, called-for, walk-proves}
 use Rattle.opening.proofs.Passed.{Kind, fits, last, silent}
 use Rattle.opening.proofs.Image as T
 use Rattle.opening.proofs.Image.Laws as T′
@@ -83,29 +82,30 @@ made m over x r = record {
       (seq (call over (copy (place 4 []) ∷ copy (place 3 []) ∷ []) (place 0 [])) return);
 }
 
--- what such functions promise: over m lifetimes beside the view's, an argument of kind X and a result of kind R, the fact φ that is asked for, and the fact ψ of the result
+-- what such functions promise: over so many lifetimes beside the view's, the kinds of x and of the result, the fact that is asked of the slice, the
+-- numbers and x, and the fact that is answered of the result
 pub record Promise : Type 2 where
-  pub m : ℕ
-  pub X : Kind m
-  pub R : Kind m
-  pub φ : (κs : Lfts (suc m)) → RefT (List ℕ) → Opened → X .row κs .Denot → Type 0
-  pub ψ : (κs : Lfts (suc m)) → RefT (List ℕ) → Opened → X .row κs .Denot → R .row κs .Denot → Type 0
+  pub others : ℕ
+  pub argument : Kind others
+  pub result : Kind others
+  pub asks : (κs : Lfts (suc others)) → RefT (List ℕ) → Opened → argument .row κs .Denot → Type 0
+  pub answers : (κs : Lfts (suc others)) → RefT (List ℕ) → Opened → argument .row κs .Denot → result .row κs .Denot → Type 0
 
 module _ (P : Promise) where
   abbrev m : ℕ
-  m = P .m
+  m = P .others
 
   abbrev X : Kind m
-  X = P .X
+  X = P .argument
 
   abbrev R : Kind m
-  R = P .R
+  R = P .result
 
   abbrev φ : (κs : Lfts (suc m)) → RefT (List ℕ) → Opened → X .row κs .Denot → Type 0
-  φ = P .φ
+  φ = P .asks
 
   abbrev ψ : (κs : Lfts (suc m)) → RefT (List ℕ) → Opened → X .row κs .Denot → R .row κs .Denot → Type 0
-  ψ = P .ψ
+  ψ = P .answers
 
   -- ---- the contract, of the slice and the numbers and of the view
   abbrev pub on-numbers : Ended
@@ -206,32 +206,28 @@ module _ (P : Promise) where
           → Is (T.the-row α) d (mach ∷ []) → Is (X .row κs) x (xv ∷ []) → φ κs (d .bytes) (numbersOf d) x
           → ent 𝓤 (onEntry 𝓤 H A (on-view .signature) κs qs (d, (x, tt)) at-view) (WpFn 𝓤 H (𝓣 .C) (𝓣 .Λ) (taken-apart m work (X .mir) (R .mir)) (mach ∷ xv ∷ []) (Ends 𝓤 H A W on-view (of-view 𝓤) .post to-view))
       walk-apart work met-bytes met-numbers met-work is is-x p =
-          qed W ((‵ (flft κ q) ⊛ raw Others) ∷ ‵ (owns (T.the-row α ∷ X .row κs ∷ []) (d, (x, tt)) at-view) ∷ []) ∵ split ! $ nothing ! $ move ! (1 ∷ 0 ∷ 3 ∷ []) $ join ! $ enter ! (𝓣 .C) (𝓣 .Λ) (taken-apart m work (X .mir) (R .mir)) (mach ∷ xv ∷ []) _ $
+          qed W ((‵ (flft κ q) ⊛ raw Others) ∷ ‵ (owns (T.the-row α ∷ X .row κs ∷ []) (d, (x, tt)) at-view) ∷ []) ∵ split ! $ nothing ! $ move ! (1 ∷ 0 ∷ 3 ∷ []) $ join ! $
+          enter ! (𝓣 .C) (𝓣 .Λ) (taken-apart m work (X .mir) (R .mir)) (mach ∷ xv ∷ []) _ $
           alloc1 ! (λ l₀. alloc1 ! (λ l₁. alloc1 ! (λ l₂. alloc1 ! (λ l₃. alloc1 ! (λ l₄. alloc1 ! (λ l₅. alloc1 ! (λ l₆. alloc0 ! $ params1 ! $
           pass1 ! (init ! 10 refl (LL.lawful (T.the-type α) (T′.the-laws α) 𝓤 H A W .typed d (mach ∷ []) is .0)) $ pass1 ! (init ! 8 refl (fits X κs 𝓤 H A W x xv is-x)) $ pass0 ! $
-          -- what the view owns is had twice. [the view's; the same; x's; the token; _6; …; _0; …]
+          -- what the view owns is had twice. [the view's; the same; x's; the token; _6; …; _0; …; the other tokens]
           move ! (15 ∷ 14 ∷ []) $ fsplit ! $ use1 W (‵ Own ⊛ ‵ Own) (LL.copy (T.the-type α) (T′.the-copy α) 𝓤 H A W .twice d (mach ∷ [])) $ split ! $
-          assigns ! (of-opd ! (load ! (from ! (stop !)) (look ! 14 refl))) (from ! (stop !)) (init ! 8 refl (storable mach is)) $
-          move ! (3 ∷ 0 ∷ []) $ use2 W (raw (Bytes .pre to-part)) asks-part $ calls-at ! (fmOf 𝓤 H (W .laws) 𝓣) Bytes met-bytes to-part (and-then ! (load ! (from ! (stop !)) (look ! 7 refl)) (no-more !)) (λ s.
-          use1 W (Back 𝓤 H A W bytes.ended (bytes.clauses 𝓤 H A mem run) (κ, tt) (q, tt) s (λ r. r ≡ d .bytes)) (back 𝓤 H A W bytes.ended (bytes.clauses 𝓤 H A mem run) to-part s (λ r. r ≡ d .bytes) (λ r ws. id⊢ 𝓤 _)) $
-          await ! tt $ pick ! (λ r. learn ! (λ e. split ! $ rewrite ! 1 (λ (z : RefT (List ℕ)). ‵ (Slice .own z (s ∷ []))) e refl $ move ! (1 ∷ []) $ peeks ! Slice (Is Slice) (shows 𝓤 H A Slice) (d .bytes) (s ∷ []) (λ is-s.
-          -- [the slice's; the token; the view's; x's; _6; …; _0; …]
+          assigns ! (of-opd ! (load ! (from ! (stop !)) (look ! 14 refl))) (from ! (stop !)) (init ! 8 refl (storable mach is)) $ move ! (3 ∷ 0 ∷ []) $ use2 W (raw (Bytes .pre to-part)) asks-part $
+          called-for 𝓤 H A W bytes.ended (bytes.clauses 𝓤 H A mem run) ! (fmOf 𝓤 H (W .laws) 𝓣) met-bytes to-part (d .bytes) (λ r ws. id⊢ 𝓤 _) (and-then ! (load ! (from ! (stop !)) (look ! 7 refl)) (no-more !)) (λ s is-s.
+          -- [the slice's; the token; the view's; x's; _6; …; _0; …; the other tokens]
           land ! (from ! (stop !)) (init ! 10 refl (shr-slice-lawful 𝓤 H A W erased κ u8 .typed (d .bytes) (s ∷ []) is-s .0)) $
-          assigns ! (of-opd ! (load ! (from ! (stop !)) (look ! 14 refl))) (from ! (stop !)) (init ! 4 refl (storable mach is)) $
-          move ! (1 ∷ 2 ∷ []) $ use2 W (raw (Numbers .pre to-part)) asks-part $ calls-at ! (fmOf 𝓤 H (W .laws) 𝓣) Numbers met-numbers to-part (and-then ! (load ! (from ! (stop !)) (look ! 3 refl)) (no-more !)) (λ n.
-          use1 W (Back 𝓤 H A W numbers.ended (numbers.clauses 𝓤 H A mem run) (κ, tt) (q, tt) n (λ r. r ≡ numbersOf d)) (back 𝓤 H A W numbers.ended (numbers.clauses 𝓤 H A mem run) to-part n (λ r. r ≡ numbersOf d) (λ r ws. id⊢ 𝓤 _)) $
-          await ! tt $ pick ! (λ t. learn ! (λ f. split ! $ rewrite ! 1 (λ (z : Opened). ‵ (S.the-row .own z (n ∷ []))) f refl $ move ! (1 ∷ []) $ peeks ! S.the-row (Is S.the-row) (shows 𝓤 H A S.the-row) (numbersOf d) (n ∷ []) (λ is-n.
-          -- [the numbers'; the token; the slice's; x's; _6; …; _0; …]
+          assigns ! (of-opd ! (load ! (from ! (stop !)) (look ! 14 refl))) (from ! (stop !)) (init ! 4 refl (storable mach is)) $ move ! (1 ∷ 2 ∷ []) $ use2 W (raw (Numbers .pre to-part)) asks-part $
+          called-for 𝓤 H A W numbers.ended (numbers.clauses 𝓤 H A mem run) ! (fmOf 𝓤 H (W .laws) 𝓣) met-numbers to-part (numbersOf d) (λ r ws. id⊢ 𝓤 _) (and-then ! (load ! (from ! (stop !)) (look ! 3 refl)) (no-more !)) (λ n is-n.
+          -- [the numbers'; the token; the slice's; x's; _6; …; _0; …; the other tokens]
           land ! (from ! (stop !)) (init ! 6 refl (LL.lawful S.the-type S′.the-laws 𝓤 H A W .typed (numbersOf d) (n ∷ []) is-n .0)) $
           move ! (0 ∷ 3 ∷ []) $ fjoin ! $ move ! (2 ∷ 0 ∷ []) $ fjoin ! $ move ! (1 ∷ 16 ∷ []) $ use2 W (raw All) all-again $ use2 W (raw (On-numbers .pre (to-work s n))) (asks-work s n p) $
-          calls-at ! (fmOf 𝓤 H (W .laws) 𝓣) On-numbers met-work (to-work s n) (and-then ! (load ! (from ! (stop !)) (look ! 7 refl)) (and-then ! (load ! (from ! (stop !)) (look ! 3 refl)) (and-then ! (load ! (from ! (stop !)) (look ! 9 refl)) (no-more !)))) (λ u.
-          use1 W (Back 𝓤 H A W on-numbers (of-numbers 𝓤) κs qs u (ψ κs (d .bytes) (numbersOf d) x)) (back 𝓤 H A W on-numbers (of-numbers 𝓤) (to-work s n) u (ψ κs (d .bytes) (numbersOf d) x) (λ r ws. id⊢ 𝓤 _)) $
-          await ! tt $ pick ! (λ o. learn ! (λ g. split ! $ move ! (1 ∷ []) $ peeks ! (R .row κs) (Is (R .row κs)) (shows 𝓤 H A (R .row κs)) o (u ∷ []) (λ is-o.
-          -- [the result's; the token; _6; …; _0; …]
+          called 𝓤 H A W on-numbers (of-numbers 𝓤) ! (fmOf 𝓤 H (W .laws) 𝓣) met-work (to-work s n) (ψ κs (d .bytes) (numbersOf d) x) (λ r ws. id⊢ 𝓤 _)
+          (and-then ! (load ! (from ! (stop !)) (look ! 7 refl)) (and-then ! (load ! (from ! (stop !)) (look ! 3 refl)) (and-then ! (load ! (from ! (stop !)) (look ! 9 refl)) (no-more !)))) (λ u o g is-o.
+          -- [the result's; the tokens; _6; …; _0; …]
           land ! (from ! (stop !)) (init ! 14 refl (fits R κs 𝓤 H A W o u is-o)) $
           returns ! (look ! 14 refl) $ forget ! 2 refl $ forget ! 4 refl $ forget ! 6 refl $ forget ! 8 refl $ forget ! 10 refl $ forget ! 12 refl $ forget ! 14 refl $
           move ! (14 ∷ 15 ∷ []) $ free1 ! $ move ! (12 ∷ 13 ∷ []) $ free1 ! $ move ! (10 ∷ 11 ∷ []) $ free1 ! $ move ! (8 ∷ 9 ∷ []) $ free1 ! $ move ! (6 ∷ 7 ∷ []) $ free1 ! $ move ! (4 ∷ 5 ∷ []) $ free1 ! $ move ! (2 ∷ 3 ∷ []) $ free1 ! $ free0 ! $
-          move ! (1 ∷ []) $ by ! (ends 𝓤 H A W on-view (of-view 𝓤) to-view u o (tt, (last X κs x, tt)) (factI 𝓤 (ψ κs (d .bytes) (numbersOf d) x o) (emp 𝓤) g)))))))))))))))))))))
+          move ! (1 ∷ []) $ by ! (ends 𝓤 H A W on-view (of-view 𝓤) to-view u o (tt, (last X κs x, tt)) (factI 𝓤 (ψ κs (d .bytes) (numbersOf d) x o) (emp 𝓤) g))))))))))))
 
       -- ---- a view is made, and handed on
       abbrev v : Val
@@ -258,24 +254,21 @@ module _ (P : Promise) where
           → Is Slice (d .bytes) (v ∷ []) → Is S.the-row (numbersOf d) (n ∷ []) → Is (X .row κs) x (xv ∷ []) → φ κs (d .bytes) (numbersOf d) x → opening (d .bytes .now) ≡ accepted (held d)
           → ent 𝓤 (onEntry 𝓤 H A (on-numbers .signature) κs qs (d .bytes, (numbersOf d, (x, tt))) (v ∷ [], (n ∷ [], (xv ∷ [], tt)))) (WpFn 𝓤 H (𝓣 .C) (𝓣 .Λ) (made m over (X .mir) (R .mir)) (v ∷ n ∷ xv ∷ []) (Ends 𝓤 H A W on-numbers (of-numbers 𝓤) .post (to-work v n)))
       walk-made over met-view met-over is-s is-n is-x p opens =
-          qed W ((‵ (flft κ q) ⊛ raw Others) ∷ ‵ (owns (Slice ∷ S.the-row ∷ X .row κs ∷ []) (d .bytes, (numbersOf d, (x, tt))) (v ∷ [], (n ∷ [], (xv ∷ [], tt)))) ∷ []) ∵ split ! $ nothing ! $ move ! (1 ∷ 0 ∷ 3 ∷ []) $ join ! $ enter ! (𝓣 .C) (𝓣 .Λ) (made m over (X .mir) (R .mir)) (v ∷ n ∷ xv ∷ []) _ $
+          qed W ((‵ (flft κ q) ⊛ raw Others) ∷ ‵ (owns (Slice ∷ S.the-row ∷ X .row κs ∷ []) (d .bytes, (numbersOf d, (x, tt))) (v ∷ [], (n ∷ [], (xv ∷ [], tt)))) ∷ []) ∵ split ! $ nothing ! $ move ! (1 ∷ 0 ∷ 3 ∷ []) $ join ! $
+          enter ! (𝓣 .C) (𝓣 .Λ) (made m over (X .mir) (R .mir)) (v ∷ n ∷ xv ∷ []) _ $
           alloc1 ! (λ l₀. alloc1 ! (λ l₁. alloc1 ! (λ l₂. alloc1 ! (λ l₃. alloc1 ! (λ l₄. alloc0 ! $ params1 ! $
           pass1 ! (init ! 6 refl (shr-slice-lawful 𝓤 H A W (named 0) κ u8 .typed (d .bytes) (v ∷ []) is-s .0)) $ pass1 ! (init ! 4 refl (LL.lawful S.the-type S′.the-laws 𝓤 H A W .typed (numbersOf d) (n ∷ []) is-n .0)) $
           pass1 ! (init ! 2 refl (fits X κs 𝓤 H A W x xv is-x)) $ pass0 ! $
-          -- [the numbers'; x's; the slice's; the token; _4; …; _0; …]
+          -- [the numbers'; x's; the slice's; the token; _4; …; _0; …; the other tokens]
           move ! (11 ∷ 10 ∷ []) $ fsplit ! $ move ! (1 ∷ []) $ fsplit ! $ nothing ! $ move ! (1 ∷ 0 ∷ []) $ fjoin ! $ move ! (2 ∷ 0 ∷ []) $ fjoin ! $ move ! (2 ∷ 0 ∷ []) $ use2 W (raw (View .pre to-make)) (asks-make opens) $
-          calls-at ! (fmOf 𝓤 H (W .laws) 𝓣) View met-view to-make (and-then ! (load ! (from ! (stop !)) (look ! 8 refl)) (and-then ! (load ! (from ! (stop !)) (look ! 6 refl)) (no-more !))) (λ w.
-          use1 W (Back 𝓤 H A W view.ended (view.clauses 𝓤 H A mem run) (κ, tt) (q, tt) w (λ r. r ≡ d)) (back 𝓤 H A W view.ended (view.clauses 𝓤 H A mem run) to-make w (λ r. r ≡ d) (λ r ws. id⊢ 𝓤 _)) $
-          await ! tt $ pick ! (λ r. learn ! (λ e. split ! $ rewrite ! 1 (λ (z : Image). ‵ (T.the-row α .own z (w ∷ []))) e refl $ move ! (1 ∷ []) $ peeks ! (T.the-row α) (Is (T.the-row α)) (shows 𝓤 H A (T.the-row α)) d (w ∷ []) (λ is-w.
-          -- [the view's; the token; x's; _4; …; _0; …]
+          called-for 𝓤 H A W view.ended (view.clauses 𝓤 H A mem run) ! (fmOf 𝓤 H (W .laws) 𝓣) met-view to-make d (λ r ws. id⊢ 𝓤 _) (and-then ! (load ! (from ! (stop !)) (look ! 8 refl)) (and-then ! (load ! (from ! (stop !)) (look ! 6 refl)) (no-more !))) (λ w is-w.
+          -- [the view's; the token; x's; _4; …; _0; …; the other tokens]
           land ! (from ! (stop !)) (init ! 3 refl (storable w is-w)) $ move ! (0 ∷ 2 ∷ []) $ fjoin ! $ move ! (1 ∷ 12 ∷ []) $ use2 W (raw All) all-again $ use2 W (raw (On-view .pre (to-over w))) (asks-over w p) $
-          calls-at ! (fmOf 𝓤 H (W .laws) 𝓣) On-view met-over (to-over w) (and-then ! (load ! (from ! (stop !)) (look ! 1 refl)) (and-then ! (load ! (from ! (stop !)) (look ! 3 refl)) (no-more !))) (λ u.
-          use1 W (Back 𝓤 H A W on-view (of-view 𝓤) κs qs u (ψ κs (d .bytes) (numbersOf d) x)) (back 𝓤 H A W on-view (of-view 𝓤) (to-over w) u (ψ κs (d .bytes) (numbersOf d) x) (λ r ws. id⊢ 𝓤 _)) $
-          await ! tt $ pick ! (λ o. learn ! (λ g. split ! $ move ! (1 ∷ []) $ peeks ! (R .row κs) (Is (R .row κs)) (shows 𝓤 H A (R .row κs)) o (u ∷ []) (λ is-o.
-          -- [the result's; the token; _4; …; _0; …]
+          called 𝓤 H A W on-view (of-view 𝓤) ! (fmOf 𝓤 H (W .laws) 𝓣) met-over (to-over w) (ψ κs (d .bytes) (numbersOf d) x) (λ r ws. id⊢ 𝓤 _) (and-then ! (load ! (from ! (stop !)) (look ! 1 refl)) (and-then ! (load ! (from ! (stop !)) (look ! 3 refl)) (no-more !))) (λ u o g is-o.
+          -- [the result's; the tokens; _4; …; _0; …]
           land ! (from ! (stop !)) (init ! 10 refl (fits R κs 𝓤 H A W o u is-o)) $ returns ! (look ! 10 refl) $ forget ! 2 refl $ forget ! 4 refl $ forget ! 6 refl $ forget ! 8 refl $ forget ! 10 refl $
           move ! (10 ∷ 11 ∷ []) $ free1 ! $ move ! (8 ∷ 9 ∷ []) $ free1 ! $ move ! (6 ∷ 7 ∷ []) $ free1 ! $ move ! (4 ∷ 5 ∷ []) $ free1 ! $ move ! (2 ∷ 3 ∷ []) $ free1 ! $ free0 ! $
-          move ! (1 ∷ []) $ by ! (ends 𝓤 H A W on-numbers (of-numbers 𝓤) (to-work v n) u o (tt, (tt, (last X κs x, tt))) (factI 𝓤 (ψ κs (d .bytes) (numbersOf d) x o) (emp 𝓤) g)))))))))))))))
+          move ! (1 ∷ []) $ by ! (ends 𝓤 H A W on-numbers (of-numbers 𝓤) (to-work v n) u o (tt, (tt, (last X κs x, tt))) (factI 𝓤 (ψ κs (d .bytes) (numbersOf d) x o) (emp 𝓤) g)))))))))
 
   -- ---- so each meets its contract if what it calls does
   module _ {M : Type 1} (𝓤 : URA M) (H : Heap 𝓤) (𝓜 : Model 𝓤 H) (𝓖 : GhostRules 𝓤 H) (𝓡 : Running 𝓤 H 𝓜) (γ : Env) (k : Name) (callee : Name) (routine : Routine) (calls : γ callee ≡ routine) where

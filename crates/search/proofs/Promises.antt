@@ -12,9 +12,9 @@ use Rattle.search.proofs.Address.Laws as address-type′
 
 abbrev pub on-disc-promise : Promise
 on-disc-promise = record {
-  m = 1;
-  X = slice-of 1 tt u8;
-  R = enum-of address-type.the-type address-type′.the-laws tt address-type′.lowers refl;
-  φ = λ κs s t sector. Checked (now s) (contents t);
-  ψ = λ κs s t sector r. addressFound r ≡ onDisc (now s) (contents t) (now sector);
+  others = 1;
+  argument = slice-of 1 tt u8;
+  result = enum-of address-type.the-type address-type′.the-laws tt address-type′.lowers refl;
+  asks = λ κs s t sector. Checked (now s) (contents t);
+  answers = λ κs s t sector r. addressFound r ≡ onDisc (now s) (contents t) (now sector);
 }

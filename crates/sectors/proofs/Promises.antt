@@ -20,27 +20,27 @@ use Rattle.sectors.proofs.Visit.Laws as visit′
 
 abbrev pub locate-near-promise : Promise
 locate-near-promise = record {
-  m = 0;
-  X = struct-of visit.the-type visit′.the-laws visit′.lowers refl;
-  R = struct-of near.the-type near′.the-laws near′.lowers refl;
-  φ = λ κs s t v. (opening (now s) ≡ accepted (contents t)) × Known (now s) (v .known .0);
-  ψ = λ κs s t v r. (located (r .located) ≡ locate (now s) (v .address .0)) × Known (now s) (r .known .0);
+  others = 0;
+  argument = struct-of visit.the-type visit′.the-laws visit′.lowers refl;
+  result = struct-of near.the-type near′.the-laws near′.lowers refl;
+  asks = λ κs s t v. (opening (now s) ≡ accepted (contents t)) × Known (now s) (v .known .0);
+  answers = λ κs s t v r. (located (r .located) ≡ locate (now s) (v .address .0)) × Known (now s) (r .known .0);
 }
 
 abbrev pub locate-promise : Promise
 locate-promise = record {
-  m = 0;
-  X = address;
-  R = enum-of located-type.the-type located-type′.the-laws tt located-type′.lowers refl;
-  φ = λ κs s t a. opening (now s) ≡ accepted (contents t);
-  ψ = λ κs s t a r. located r ≡ locate (now s) (a .0);
+  others = 0;
+  argument = address;
+  result = enum-of located-type.the-type located-type′.the-laws tt located-type′.lowers refl;
+  asks = λ κs s t a. opening (now s) ≡ accepted (contents t);
+  answers = λ κs s t a r. located r ≡ locate (now s) (a .0);
 }
 
 abbrev pub read-promise : Promise
 read-promise = record {
-  m = 0;
-  X = address;
-  R = slice-of 0 tt u8;
-  φ = λ κs s t a. opening (now s) ≡ accepted (contents t);
-  ψ = λ κs s t a r. now r ≡ bytesRead (read (now s) (a .0));
+  others = 0;
+  argument = address;
+  result = slice-of 0 tt u8;
+  asks = λ κs s t a. opening (now s) ≡ accepted (contents t);
+  answers = λ κs s t a r. now r ≡ bytesRead (read (now s) (a .0));
 }

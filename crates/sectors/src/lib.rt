@@ -203,7 +203,8 @@ fn pointer_verdict(s: &[u8], p: Pointer, known: ByteOffset) -> Verdict
     Verdict::Refuses(Refusal { number: 22 })
 }
 
-// The sector at address a of an opened image: checks 20 to 27. Of the block that is known only the item's number is looked at.
+// The sector at address a of the image that opened as t: checks 20 to 27. Its table entry is read once; of the block that is known only the
+// item's number is looked at.
 fn find(s: &[u8], t: Opened, a: SectorAddress, known: ByteOffset) -> Found
     requires { ⌜ (opening (now s) ≡ accepted (contents t)) × Known (now s) (known .0) ⌝ }
     ensures { λ r. ⌜ found r ≡ answer (sectorVerdict (now (s .entry)) (entries (now (s .entry)) (indexOffset (now (s .entry)))) (contents t) (a .0)) (pointerAt (now (s .entry)) (contents t) (a .0)) ⌝ }
@@ -211,10 +212,10 @@ fn find(s: &[u8], t: Opened, a: SectorAddress, known: ByteOffset) -> Found
     if opening::count(t) <= a.0 {
         return Found::Refused(Refusal { number: 20 });
     }
-    if opening::not_written(s, t, a) {
+    let p = opening::pointer_at(s, t, a);
+    if opening::encodes_nothing(p) {
         return Found::Refused(Refusal { number: 21 });
     }
-    let p = opening::pointer_at(s, t, a);
     let v = pointer_verdict(s, p, known);
     if let Verdict::Refuses(r) = v {
         return Found::Refused(r);

@@ -1,13 +1,12 @@
 -- `appending::commit` meets its contract. Assumes nothing.
 use native.Mathlib.Omega.{arith}
 use borrow.Author.Needs.{needs}
-use mathlib.Core.Path.{sym, _∙_}
+use mathlib.Core.Path.{sym}
 use Rattle.fields.specs.Bytes.{part}
 use Rattle.format.specs.Committing.{commitVerdict, append, commit}
 use Rattle.format.proofs.Checks.{arguments-ok}
 use Rattle.format.proofs.Chains.{stops, goes, by}
 use Rattle.format.proofs.Answers.{outcome-stops}
-use Rattle.appending.proofs.Appended.{disc-opened}
 use Rattle.appending.proofs.commit.Statement.{statement}
 use Rattle.appending.proofs.commit.Tie as tie
 
@@ -24,7 +23,7 @@ returns c =
     let p = c .before .before .before .before .before .before .before .before .before .pre in
     outcome-stops _ _ _
     (goes (sym (p .0))
-    (stops _ (rw (c .before .before .before .before .part .ensures) at (by (c .before .v .given .1) (c .before .before .before .disc-verdict-of .ensures)) ∙ sym (disc-opened _ _ _ (p .1)))))
+    (stops _ (rw (c .before .before .before .before .part .ensures) at (by (c .before .v .given .1) (c .before .before .before .disc-verdict-of .ensures)))))
 
 append-requires : tie.Need-append-requires
 unfolding part
@@ -33,7 +32,7 @@ append-requires c κs =
     record {
       arguments = p .0;
       opens = p .1;
-      disc = disc-opened _ _ _ (p .1) ∙ sym (rw (c .before .before .before .before .part .ensures) at (by (c .before .enum-told .given .1) (c .before .before .before .disc-verdict-of .ensures)));
+      disc = sym (rw (c .before .before .before .before .part .ensures) at (by (c .before .enum-told .given .1) (c .before .before .before .disc-verdict-of .ensures)));
     }
 
 returns-2 : tie.Need-returns-2

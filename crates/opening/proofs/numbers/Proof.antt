@@ -22,7 +22,6 @@ use denote.Steps.{owned}
 use denote.Struct.Laws as LL
 use denote.Triple.Entry.{onEntry}
 use Rattle.opening.specs.declared.Image.{Image}
-use Rattle.opening.specs.declared.Opened.{Opened}
 use Rattle.opening.specs.Answers.{numbersOf}
 use Rattle.opening.proofs.Walks.{Ends, ends, walk-proves}
 use Rattle.opening.proofs.Image as T

@@ -17,7 +17,7 @@ returns c = refuses _ (stop _ (atLeast-true _ _ (omega arith)))
 returns-2 : tie.Need-returns-2
 unfolding sectorVerdict found
 returns-2 c =
-    refuses _ (on _ (atLeast-iff .1 (omega arith)) (stop _ (by (c .before .not-written .ensures) (c .if2 .taken))))
+    refuses _ (on _ (atLeast-iff .1 (omega arith)) (stop _ (by (c .before .encodes-nothing .ensures _ _ _ (c .before .before .pointer-at .ensures)) (c .if2 .taken))))
 
 pointer-verdict-requires : tie.Need-pointer-verdict-requires
 pointer-verdict-requires c κs = (open-ok _ _ .1 (opens _ _ (c .before .before .before .before .before .before .before .pre .0)), c .before .before .before .before .before .before .before .pre .1)
@@ -25,21 +25,23 @@ pointer-verdict-requires c κs = (open-ok _ _ .1 (opens _ _ (c .before .before .
 returns-3 : tie.Need-returns-3
 unfolding sectorVerdict found
 returns-3 c =
-    let p = c .before .before .before .before in
+    let i = c .before .before .before .before in
+    let p = i .before .before .pointer-at .ensures in
     refuses _
     (on _ (atLeast-iff .1 (omega arith))
-    (on _ (by (p .before .before .not-written .ensures) (p .before .if2 .left))
-    (rw (p .pointer-at .ensures) at (by (c .before .v .given .1) (c .before .before .before .pointer-verdict .ensures)))))
+    (on _ (by (i .before .encodes-nothing .ensures _ _ _ p) (i .if2 .left))
+    (rw p at (by (c .before .v .given .1) (c .before .before .before .pointer-verdict .ensures)))))
 
 returns-4 : tie.Need-returns-4
 unfolding sectorVerdict found
 returns-4 c =
-    let p = c .before .before .before in
+    let i = c .before .before .before in
+    let p = i .before .before .pointer-at .ensures in
     accepts
     (on _ (atLeast-iff .1 (omega arith))
-    (on _ (by (p .before .before .not-written .ensures) (p .before .if2 .left))
-    (rw (p .pointer-at .ensures) at (by (c .enum-told .given .1) (c .before .before .pointer-verdict .ensures)))))
-    (p .pointer-at .ensures)
+    (on _ (by (i .before .encodes-nothing .ensures _ _ _ p) (i .if2 .left))
+    (rw p at (by (c .enum-told .given .1) (c .before .before .pointer-verdict .ensures)))))
+    p
 
 pub find-spec : {M : Type 1} → statement M
 find-spec =
@@ -48,8 +50,8 @@ find-spec =
     (λ c κs. search needs)
     returns
     (λ c κs. search needs)
-    returns-2
     (λ c κs. search needs)
+    returns-2
     pointer-verdict-requires
     (λ c. search needs)
     returns-3
