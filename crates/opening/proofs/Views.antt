@@ -25,15 +25,13 @@ use sound.WpLaws.{fmOf}
 use denote.RattleType.{RattleType, owns}
 use denote.Laws.{Is}
 use denote.Builtin.{u8}
-use denote.Exit.{yes}
 use denote.Ref.{RefT, NamedLft}
-use denote.Signature.{plain, namedLft}
-use denote.Slice.{ShrSlice, sliceTy, sliceVal, slice-vals, shr-slice-tells, shr-slice-lawful}
+use denote.Signature.{namedLft}
+use denote.Slice.{ShrSlice, sliceTy, sliceVal, shr-slice-lawful}
 use denote.Steps.{nothing}
 use denote.Struct.Laws as LL
-use denote.Triple.Clauses.{Clauses, Ended, closing}
+use denote.Triple.Clauses.{Clauses}
 use denote.Triple.Entry.{Vals, onEntry}
-use denote.Triple.Spec.{Meets, tripleOf}
 use denote.Triple.Statement.{Contract, Triple}
 use denote.Triple.Table.{cited}
 use denote.Triple.Walked.{needs, says}
@@ -42,8 +40,8 @@ use Rattle.format.specs.Opening.{opening}
 use Rattle.opening.specs.declared.Image.{Image}
 use Rattle.opening.specs.declared.Opened.{Opened}
 use Rattle.opening.specs.Answers.{contents, viewOf, numbersOf, held}
-use Rattle.opening.proofs.Walks.{Ends, ends, called, called-for, walk-proves}
-use Rattle.opening.proofs.Passed.{Kind, fits, last, silent}
+use Rattle.opening.proofs.Walks.{Ends, Meant, ends, called, called-for, walk-proves}
+use Rattle.opening.proofs.Passed.{Kind, the-view, the-bytes, the-numbers, fits, shape}
 use Rattle.opening.proofs.Image as T
 use Rattle.opening.proofs.Image.Laws as T′
 use Rattle.opening.proofs.Opened as S
@@ -108,40 +106,34 @@ module _ (P : Promise) where
   ψ = P .answers
 
   -- ---- the contract, of the slice and the numbers and of the view
-  abbrev pub on-numbers : Ended
-  on-numbers = record {
-    signature = record { lifetimes = suc m; outlives = []; params = plain (λ κs. ShrSlice (named 0) (κs .0) u8) ∷ plain (λ κs. S.the-row) ∷ plain (X .row) ∷ []; result = plain (R .row) };
-    kept = (yes, (yes, (yes, tt)));
-  }
+  abbrev on-numbers : List (Kind m)
+  on-numbers = the-bytes ∷ the-numbers ∷ X ∷ []
 
-  abbrev pub on-view : Ended
-  on-view = record {
-    signature = record { lifetimes = suc m; outlives = []; params = plain (λ κs. T.the-row (namedLft (suc m) 0 tt κs)) ∷ plain (X .row) ∷ []; result = plain (R .row) };
-    kept = (yes, (yes, tt));
-  }
+  abbrev on-view : List (Kind m)
+  on-view = the-view ∷ X ∷ []
 
   module _ {M : Type 1} (𝓤 : URA M) where
-    abbrev pub of-numbers : Clauses 𝓤 on-numbers
+    abbrev of-numbers : Clauses 𝓤 (shape on-numbers R)
     of-numbers κs a = record { ghost = Unit {0}; requires = λ g. fact 𝓤 (φ κs (a .0) (a .1 .0) (a .1 .1 .0)); ensures = λ g r e. fact 𝓤 (ψ κs (a .0) (a .1 .0) (a .1 .1 .0) r) }
 
-    abbrev pub of-view : Clauses 𝓤 on-view
+    abbrev of-view : Clauses 𝓤 (shape on-view R)
     of-view κs a = record { ghost = Unit {0}; requires = λ g. fact 𝓤 (φ κs (a .0 .bytes) (numbersOf (a .0)) (a .1 .0)); ensures = λ g r e. fact 𝓤 (ψ κs (a .0 .bytes) (numbersOf (a .0)) (a .1 .0) r) }
 
   module _ {M : Type 1} (𝓤 : URA M) (H : Heap 𝓤) (A : Atoms 𝓤) (W : Given 𝓤 H A) (mem : Memory → SProp 𝓤) (run : Routine → Fun 𝓤) where
     abbrev On-numbers : Contract 𝓤
-    On-numbers = tripleOf 𝓤 H A (on-numbers .signature) (closing 𝓤 H A on-numbers (of-numbers 𝓤))
+    On-numbers = Meant 𝓤 H A W on-numbers R (of-numbers 𝓤)
 
     abbrev On-view : Contract 𝓤
-    On-view = tripleOf 𝓤 H A (on-view .signature) (closing 𝓤 H A on-view (of-view 𝓤))
+    On-view = Meant 𝓤 H A W on-view R (of-view 𝓤)
 
     abbrev Bytes : Contract 𝓤
-    Bytes = tripleOf 𝓤 H A bytes.signature (bytes.spec 𝓤 H A mem run)
+    Bytes = Meant {m = 0} 𝓤 H A W (the-view ∷ []) the-bytes (bytes.clauses 𝓤 H A mem run)
 
     abbrev Numbers : Contract 𝓤
-    Numbers = tripleOf 𝓤 H A numbers.signature (numbers.spec 𝓤 H A mem run)
+    Numbers = Meant {m = 0} 𝓤 H A W (the-view ∷ []) the-numbers (numbers.clauses 𝓤 H A mem run)
 
     abbrev View : Contract 𝓤
-    View = tripleOf 𝓤 H A view.signature (view.spec 𝓤 H A mem run)
+    View = Meant {m = 0} 𝓤 H A W (the-bytes ∷ the-numbers ∷ []) the-view (view.clauses 𝓤 H A mem run)
 
     module _ (𝓣 : Tables 𝓤 H) (κs : Lfts (suc m)) (qs : Shares (suc m)) (d : Image) (x : X .row κs .Denot) where
       abbrev κ : Lft
@@ -181,7 +173,7 @@ module _ (P : Promise) where
       storable w is = LL.lawful (T.the-type (record { mir = erased; lft = κ })) (T′.the-laws (record { mir = erased; lft = κ })) 𝓤 H A W .typed d (w ∷ []) is .0
 
       -- ---- a view is taken apart
-      abbrev at-view : Vals (on-view .signature) κs
+      abbrev at-view : Vals (shape on-view R .signature) κs
       at-view = (mach ∷ [], (xv ∷ [], tt))
 
       abbrev to-view : On-view .Ghost
@@ -204,30 +196,30 @@ module _ (P : Promise) where
 
       walk-apart : (work : Name) → Triple 𝓤 (𝓣 .C bytes-def.name) Bytes → Triple 𝓤 (𝓣 .C numbers-def.name) Numbers → Triple 𝓤 (𝓣 .C work) On-numbers
           → Is (T.the-row α) d (mach ∷ []) → Is (X .row κs) x (xv ∷ []) → φ κs (d .bytes) (numbersOf d) x
-          → ent 𝓤 (onEntry 𝓤 H A (on-view .signature) κs qs (d, (x, tt)) at-view) (WpFn 𝓤 H (𝓣 .C) (𝓣 .Λ) (taken-apart m work (X .mir) (R .mir)) (mach ∷ xv ∷ []) (Ends 𝓤 H A W on-view (of-view 𝓤) .post to-view))
+          → ent 𝓤 (onEntry 𝓤 H A (shape on-view R .signature) κs qs (d, (x, tt)) at-view) (WpFn 𝓤 H (𝓣 .C) (𝓣 .Λ) (taken-apart m work (X .mir) (R .mir)) (mach ∷ xv ∷ []) (Ends 𝓤 H A W on-view R (of-view 𝓤) .post to-view))
       walk-apart work met-bytes met-numbers met-work is is-x p =
           qed W ((‵ (flft κ q) ⊛ raw Others) ∷ ‵ (owns (T.the-row α ∷ X .row κs ∷ []) (d, (x, tt)) at-view) ∷ []) ∵ split ! $ nothing ! $ move ! (1 ∷ 0 ∷ 3 ∷ []) $ join ! $
           enter ! (𝓣 .C) (𝓣 .Λ) (taken-apart m work (X .mir) (R .mir)) (mach ∷ xv ∷ []) _ $
           alloc1 ! (λ l₀. alloc1 ! (λ l₁. alloc1 ! (λ l₂. alloc1 ! (λ l₃. alloc1 ! (λ l₄. alloc1 ! (λ l₅. alloc1 ! (λ l₆. alloc0 ! $ params1 ! $
-          pass1 ! (init ! 10 refl (LL.lawful (T.the-type α) (T′.the-laws α) 𝓤 H A W .typed d (mach ∷ []) is .0)) $ pass1 ! (init ! 8 refl (fits X κs 𝓤 H A W x xv is-x)) $ pass0 ! $
+          pass1 ! (init ! 10 refl (fits {m = m} the-view κs 𝓤 H A W d mach is)) $ pass1 ! (init ! 8 refl (fits X κs 𝓤 H A W x xv is-x)) $ pass0 ! $
           -- what the view owns is had twice. [the view's; the same; x's; the token; _6; …; _0; …; the other tokens]
           move ! (15 ∷ 14 ∷ []) $ fsplit ! $ use1 W (‵ Own ⊛ ‵ Own) (LL.copy (T.the-type α) (T′.the-copy α) 𝓤 H A W .twice d (mach ∷ [])) $ split ! $
           assigns ! (of-opd ! (load ! (from ! (stop !)) (look ! 14 refl))) (from ! (stop !)) (init ! 8 refl (storable mach is)) $ move ! (3 ∷ 0 ∷ []) $ use2 W (raw (Bytes .pre to-part)) asks-part $
-          called-for 𝓤 H A W bytes.ended (bytes.clauses 𝓤 H A mem run) ! (fmOf 𝓤 H (W .laws) 𝓣) met-bytes to-part (d .bytes) (λ r ws. id⊢ 𝓤 _) (and-then ! (load ! (from ! (stop !)) (look ! 7 refl)) (no-more !)) (λ s is-s.
+          called-for {m = 0} 𝓤 H A W (the-view ∷ []) the-bytes (bytes.clauses 𝓤 H A mem run) to-part (d .bytes) (λ r ws. id⊢ 𝓤 _) ! (fmOf 𝓤 H (W .laws) 𝓣) met-bytes (and-then ! (load ! (from ! (stop !)) (look ! 7 refl)) (no-more !)) (λ s is-s.
           -- [the slice's; the token; the view's; x's; _6; …; _0; …; the other tokens]
           land ! (from ! (stop !)) (init ! 10 refl (shr-slice-lawful 𝓤 H A W erased κ u8 .typed (d .bytes) (s ∷ []) is-s .0)) $
           assigns ! (of-opd ! (load ! (from ! (stop !)) (look ! 14 refl))) (from ! (stop !)) (init ! 4 refl (storable mach is)) $ move ! (1 ∷ 2 ∷ []) $ use2 W (raw (Numbers .pre to-part)) asks-part $
-          called-for 𝓤 H A W numbers.ended (numbers.clauses 𝓤 H A mem run) ! (fmOf 𝓤 H (W .laws) 𝓣) met-numbers to-part (numbersOf d) (λ r ws. id⊢ 𝓤 _) (and-then ! (load ! (from ! (stop !)) (look ! 3 refl)) (no-more !)) (λ n is-n.
+          called-for {m = 0} 𝓤 H A W (the-view ∷ []) the-numbers (numbers.clauses 𝓤 H A mem run) to-part (numbersOf d) (λ r ws. id⊢ 𝓤 _) ! (fmOf 𝓤 H (W .laws) 𝓣) met-numbers (and-then ! (load ! (from ! (stop !)) (look ! 3 refl)) (no-more !)) (λ n is-n.
           -- [the numbers'; the token; the slice's; x's; _6; …; _0; …; the other tokens]
-          land ! (from ! (stop !)) (init ! 6 refl (LL.lawful S.the-type S′.the-laws 𝓤 H A W .typed (numbersOf d) (n ∷ []) is-n .0)) $
+          land ! (from ! (stop !)) (init ! 6 refl (fits {m = m} the-numbers κs 𝓤 H A W (numbersOf d) n is-n)) $
           move ! (0 ∷ 3 ∷ []) $ fjoin ! $ move ! (2 ∷ 0 ∷ []) $ fjoin ! $ move ! (1 ∷ 16 ∷ []) $ use2 W (raw All) all-again $ use2 W (raw (On-numbers .pre (to-work s n))) (asks-work s n p) $
-          called 𝓤 H A W on-numbers (of-numbers 𝓤) ! (fmOf 𝓤 H (W .laws) 𝓣) met-work (to-work s n) (ψ κs (d .bytes) (numbersOf d) x) (λ r ws. id⊢ 𝓤 _)
+          called 𝓤 H A W on-numbers R (of-numbers 𝓤) (to-work s n) (ψ κs (d .bytes) (numbersOf d) x) (λ r ws. id⊢ 𝓤 _) ! (fmOf 𝓤 H (W .laws) 𝓣) met-work
           (and-then ! (load ! (from ! (stop !)) (look ! 7 refl)) (and-then ! (load ! (from ! (stop !)) (look ! 3 refl)) (and-then ! (load ! (from ! (stop !)) (look ! 9 refl)) (no-more !)))) (λ u o g is-o.
           -- [the result's; the tokens; _6; …; _0; …]
           land ! (from ! (stop !)) (init ! 14 refl (fits R κs 𝓤 H A W o u is-o)) $
           returns ! (look ! 14 refl) $ forget ! 2 refl $ forget ! 4 refl $ forget ! 6 refl $ forget ! 8 refl $ forget ! 10 refl $ forget ! 12 refl $ forget ! 14 refl $
           move ! (14 ∷ 15 ∷ []) $ free1 ! $ move ! (12 ∷ 13 ∷ []) $ free1 ! $ move ! (10 ∷ 11 ∷ []) $ free1 ! $ move ! (8 ∷ 9 ∷ []) $ free1 ! $ move ! (6 ∷ 7 ∷ []) $ free1 ! $ move ! (4 ∷ 5 ∷ []) $ free1 ! $ move ! (2 ∷ 3 ∷ []) $ free1 ! $ free0 ! $
-          move ! (1 ∷ []) $ by ! (ends 𝓤 H A W on-view (of-view 𝓤) to-view u o (tt, (last X κs x, tt)) (factI 𝓤 (ψ κs (d .bytes) (numbersOf d) x o) (emp 𝓤) g))))))))))))
+          move ! (1 ∷ []) $ by ! (ends 𝓤 H A W on-view R (of-view 𝓤) to-view u o (factI 𝓤 (ψ κs (d .bytes) (numbersOf d) x o) (emp 𝓤) g))))))))))))
 
       -- ---- a view is made, and handed on
       abbrev v : Val
@@ -252,46 +244,45 @@ module _ (P : Promise) where
 
       walk-made : (over : Name) → Triple 𝓤 (𝓣 .C view-def.name) View → Triple 𝓤 (𝓣 .C over) On-view
           → Is Slice (d .bytes) (v ∷ []) → Is S.the-row (numbersOf d) (n ∷ []) → Is (X .row κs) x (xv ∷ []) → φ κs (d .bytes) (numbersOf d) x → opening (d .bytes .now) ≡ accepted (held d)
-          → ent 𝓤 (onEntry 𝓤 H A (on-numbers .signature) κs qs (d .bytes, (numbersOf d, (x, tt))) (v ∷ [], (n ∷ [], (xv ∷ [], tt)))) (WpFn 𝓤 H (𝓣 .C) (𝓣 .Λ) (made m over (X .mir) (R .mir)) (v ∷ n ∷ xv ∷ []) (Ends 𝓤 H A W on-numbers (of-numbers 𝓤) .post (to-work v n)))
+          → ent 𝓤 (onEntry 𝓤 H A (shape on-numbers R .signature) κs qs (d .bytes, (numbersOf d, (x, tt))) (v ∷ [], (n ∷ [], (xv ∷ [], tt)))) (WpFn 𝓤 H (𝓣 .C) (𝓣 .Λ) (made m over (X .mir) (R .mir)) (v ∷ n ∷ xv ∷ []) (Ends 𝓤 H A W on-numbers R (of-numbers 𝓤) .post (to-work v n)))
       walk-made over met-view met-over is-s is-n is-x p opens =
           qed W ((‵ (flft κ q) ⊛ raw Others) ∷ ‵ (owns (Slice ∷ S.the-row ∷ X .row κs ∷ []) (d .bytes, (numbersOf d, (x, tt))) (v ∷ [], (n ∷ [], (xv ∷ [], tt)))) ∷ []) ∵ split ! $ nothing ! $ move ! (1 ∷ 0 ∷ 3 ∷ []) $ join ! $
           enter ! (𝓣 .C) (𝓣 .Λ) (made m over (X .mir) (R .mir)) (v ∷ n ∷ xv ∷ []) _ $
           alloc1 ! (λ l₀. alloc1 ! (λ l₁. alloc1 ! (λ l₂. alloc1 ! (λ l₃. alloc1 ! (λ l₄. alloc0 ! $ params1 ! $
-          pass1 ! (init ! 6 refl (shr-slice-lawful 𝓤 H A W (named 0) κ u8 .typed (d .bytes) (v ∷ []) is-s .0)) $ pass1 ! (init ! 4 refl (LL.lawful S.the-type S′.the-laws 𝓤 H A W .typed (numbersOf d) (n ∷ []) is-n .0)) $
+          pass1 ! (init ! 6 refl (fits {m = m} the-bytes κs 𝓤 H A W (d .bytes) v is-s)) $ pass1 ! (init ! 4 refl (fits {m = m} the-numbers κs 𝓤 H A W (numbersOf d) n is-n)) $
           pass1 ! (init ! 2 refl (fits X κs 𝓤 H A W x xv is-x)) $ pass0 ! $
           -- [the numbers'; x's; the slice's; the token; _4; …; _0; …; the other tokens]
           move ! (11 ∷ 10 ∷ []) $ fsplit ! $ move ! (1 ∷ []) $ fsplit ! $ nothing ! $ move ! (1 ∷ 0 ∷ []) $ fjoin ! $ move ! (2 ∷ 0 ∷ []) $ fjoin ! $ move ! (2 ∷ 0 ∷ []) $ use2 W (raw (View .pre to-make)) (asks-make opens) $
-          called-for 𝓤 H A W view.ended (view.clauses 𝓤 H A mem run) ! (fmOf 𝓤 H (W .laws) 𝓣) met-view to-make d (λ r ws. id⊢ 𝓤 _) (and-then ! (load ! (from ! (stop !)) (look ! 8 refl)) (and-then ! (load ! (from ! (stop !)) (look ! 6 refl)) (no-more !))) (λ w is-w.
+          called-for {m = 0} 𝓤 H A W (the-bytes ∷ the-numbers ∷ []) the-view (view.clauses 𝓤 H A mem run) to-make d (λ r ws. id⊢ 𝓤 _) ! (fmOf 𝓤 H (W .laws) 𝓣) met-view (and-then ! (load ! (from ! (stop !)) (look ! 8 refl)) (and-then ! (load ! (from ! (stop !)) (look ! 6 refl)) (no-more !))) (λ w is-w.
           -- [the view's; the token; x's; _4; …; _0; …; the other tokens]
           land ! (from ! (stop !)) (init ! 3 refl (storable w is-w)) $ move ! (0 ∷ 2 ∷ []) $ fjoin ! $ move ! (1 ∷ 12 ∷ []) $ use2 W (raw All) all-again $ use2 W (raw (On-view .pre (to-over w))) (asks-over w p) $
-          called 𝓤 H A W on-view (of-view 𝓤) ! (fmOf 𝓤 H (W .laws) 𝓣) met-over (to-over w) (ψ κs (d .bytes) (numbersOf d) x) (λ r ws. id⊢ 𝓤 _) (and-then ! (load ! (from ! (stop !)) (look ! 1 refl)) (and-then ! (load ! (from ! (stop !)) (look ! 3 refl)) (no-more !))) (λ u o g is-o.
+          called 𝓤 H A W on-view R (of-view 𝓤) (to-over w) (ψ κs (d .bytes) (numbersOf d) x) (λ r ws. id⊢ 𝓤 _) ! (fmOf 𝓤 H (W .laws) 𝓣) met-over (and-then ! (load ! (from ! (stop !)) (look ! 1 refl)) (and-then ! (load ! (from ! (stop !)) (look ! 3 refl)) (no-more !))) (λ u o g is-o.
           -- [the result's; the tokens; _4; …; _0; …]
           land ! (from ! (stop !)) (init ! 10 refl (fits R κs 𝓤 H A W o u is-o)) $ returns ! (look ! 10 refl) $ forget ! 2 refl $ forget ! 4 refl $ forget ! 6 refl $ forget ! 8 refl $ forget ! 10 refl $
           move ! (10 ∷ 11 ∷ []) $ free1 ! $ move ! (8 ∷ 9 ∷ []) $ free1 ! $ move ! (6 ∷ 7 ∷ []) $ free1 ! $ move ! (4 ∷ 5 ∷ []) $ free1 ! $ move ! (2 ∷ 3 ∷ []) $ free1 ! $ free0 ! $
-          move ! (1 ∷ []) $ by ! (ends 𝓤 H A W on-numbers (of-numbers 𝓤) (to-work v n) u o (tt, (tt, (last X κs x, tt))) (factI 𝓤 (ψ κs (d .bytes) (numbersOf d) x o) (emp 𝓤) g)))))))))
+          move ! (1 ∷ []) $ by ! (ends 𝓤 H A W on-numbers R (of-numbers 𝓤) (to-work v n) u o (factI 𝓤 (ψ κs (d .bytes) (numbersOf d) x o) (emp 𝓤) g)))))))))
 
   -- ---- so each meets its contract if what it calls does
   module _ {M : Type 1} (𝓤 : URA M) (H : Heap 𝓤) (𝓜 : Model 𝓤 H) (𝓖 : GhostRules 𝓤 H) (𝓡 : Running 𝓤 H 𝓜) (γ : Env) (k : Name) (callee : Name) (routine : Routine) (calls : γ callee ≡ routine) where
+    abbrev W : Given 𝓤 H (𝓖 .A)
+    W = givenOf 𝓤 H 𝓜 𝓖
+
     pub apart-meets : Closed 𝓤 H (tables 𝓤 H 𝓜 𝓡 γ .C) (tables 𝓤 H 𝓜 𝓡 γ .Λ) k (taken-apart m callee (X .mir) (R .mir)) → γ bytes-def.name ≡ bytes-def.routine → γ numbers-def.name ≡ numbers-def.routine
-        → Meets 𝓤 H (𝓖 .A) (on-numbers .signature) (𝓡 .run routine) (closing 𝓤 H (𝓖 .A) on-numbers (of-numbers 𝓤)) → Meets 𝓤 H (𝓖 .A) (on-view .signature) (tables 𝓤 H 𝓜 𝓡 γ .C k) (closing 𝓤 H (𝓖 .A) on-view (of-view 𝓤))
+        → Triple 𝓤 (𝓡 .run routine) (Meant 𝓤 H (𝓖 .A) W on-numbers R (of-numbers 𝓤)) → Triple 𝓤 (tables 𝓤 H 𝓜 𝓡 γ .C k) (Meant 𝓤 H (𝓖 .A) W on-view R (of-view 𝓤))
     unfolding tablesOf
     apart-meets closed calls-bytes calls-numbers met =
-        let W : Given 𝓤 H (𝓖 .A) = givenOf 𝓤 H 𝓜 𝓖 in
-        walk-proves 𝓤 H 𝓜 𝓖 𝓡 on-view (of-view 𝓤) γ k (taken-apart m callee (X .mir) (R .mir)) closed ((λ κs x f. refl), (silent X, tt))
-        (λ κs. (LL.vals (T.the-type (namedLft (suc m) 0 tt κs)) (T′.the-laws (namedLft (suc m) 0 tt κs)), ((λ x. X .val κs x ∷ []), tt))) (λ κs. (LL.tells (T.the-type (namedLft (suc m) 0 tt κs)) (T′.the-laws (namedLft (suc m) 0 tt κs)), (X .tells κs, tt)))
-        (λ κs qs bounds a g are. needs 𝓤 _ _ (λ p. walk-apart 𝓤 H (𝓖 .A) W (𝓜 .mem) (𝓡 .run) (tablesOf 𝓤 H 𝓜 (tables 𝓤 H 𝓜 𝓡 γ)) κs qs (a .0) (a .1 .0) callee
+        walk-proves 𝓤 H 𝓜 𝓖 𝓡 on-view R (of-view 𝓤) γ k (taken-apart m callee (X .mir) (R .mir)) closed
+        (λ κs qs a g are. needs 𝓤 _ _ (λ p. walk-apart 𝓤 H (𝓖 .A) W (𝓜 .mem) (𝓡 .run) (tablesOf 𝓤 H 𝓜 (tables 𝓤 H 𝓜 𝓡 γ)) κs qs (a .0) (a .1 .0) callee
         (cited 𝓤 H (Bytes 𝓤 H (𝓖 .A) W (𝓜 .mem) (𝓡 .run)) 𝓜 𝓡 γ bytes-def.name bytes-def.routine calls-bytes (bytes-thm.met 𝓤 H 𝓜 𝓖 𝓡))
         (cited 𝓤 H (Numbers 𝓤 H (𝓖 .A) W (𝓜 .mem) (𝓡 .run)) 𝓜 𝓡 γ numbers-def.name numbers-def.routine calls-numbers (numbers-thm.met 𝓤 H 𝓜 𝓖 𝓡))
         (cited 𝓤 H (On-numbers 𝓤 H (𝓖 .A) W (𝓜 .mem) (𝓡 .run)) 𝓜 𝓡 γ callee routine calls met) (are .0) (are .1 .0) p))
 
     pub made-meets : Closed 𝓤 H (tables 𝓤 H 𝓜 𝓡 γ .C) (tables 𝓤 H 𝓜 𝓡 γ .Λ) k (made m callee (X .mir) (R .mir)) → γ view-def.name ≡ view-def.routine
         → ((κs : Lfts (suc m)) (s : RefT (List ℕ)) (t : Opened) (x : X .row κs .Denot) → φ κs s t x → opening (s .now) ≡ accepted (contents t))
-        → Meets 𝓤 H (𝓖 .A) (on-view .signature) (𝓡 .run routine) (closing 𝓤 H (𝓖 .A) on-view (of-view 𝓤)) → Meets 𝓤 H (𝓖 .A) (on-numbers .signature) (tables 𝓤 H 𝓜 𝓡 γ .C k) (closing 𝓤 H (𝓖 .A) on-numbers (of-numbers 𝓤))
+        → Triple 𝓤 (𝓡 .run routine) (Meant 𝓤 H (𝓖 .A) W on-view R (of-view 𝓤)) → Triple 𝓤 (tables 𝓤 H 𝓜 𝓡 γ .C k) (Meant 𝓤 H (𝓖 .A) W on-numbers R (of-numbers 𝓤))
     unfolding tablesOf
     made-meets closed calls-view opens met =
-        let W : Given 𝓤 H (𝓖 .A) = givenOf 𝓤 H 𝓜 𝓖 in
-        walk-proves 𝓤 H 𝓜 𝓖 𝓡 on-numbers (of-numbers 𝓤) γ k (made m callee (X .mir) (R .mir)) closed ((λ κs x f. refl), ((λ κs x f. refl), (silent X, tt)))
-        (λ κs. (slice-vals, (LL.vals S.the-type S′.the-laws, ((λ x. X .val κs x ∷ []), tt)))) (λ κs. (shr-slice-tells (named 0) (κs .0) u8, (LL.tells S.the-type S′.the-laws, (X .tells κs, tt))))
-        (λ κs qs bounds a g are. needs 𝓤 _ _ (λ p. walk-made 𝓤 H (𝓖 .A) W (𝓜 .mem) (𝓡 .run) (tablesOf 𝓤 H 𝓜 (tables 𝓤 H 𝓜 𝓡 γ)) κs qs (viewOf (a .0) (a .1 .0)) (a .1 .1 .0) callee
+        walk-proves 𝓤 H 𝓜 𝓖 𝓡 on-numbers R (of-numbers 𝓤) γ k (made m callee (X .mir) (R .mir)) closed
+        (λ κs qs a g are. needs 𝓤 _ _ (λ p. walk-made 𝓤 H (𝓖 .A) W (𝓜 .mem) (𝓡 .run) (tablesOf 𝓤 H 𝓜 (tables 𝓤 H 𝓜 𝓡 γ)) κs qs (viewOf (a .0) (a .1 .0)) (a .1 .1 .0) callee
         (cited 𝓤 H (View 𝓤 H (𝓖 .A) W (𝓜 .mem) (𝓡 .run)) 𝓜 𝓡 γ view-def.name view-def.routine calls-view (view-thm.met 𝓤 H 𝓜 𝓖 𝓡))
         (cited 𝓤 H (On-view 𝓤 H (𝓖 .A) W (𝓜 .mem) (𝓡 .run)) 𝓜 𝓡 γ callee routine calls met) (are .0) (are .1 .0) (are .1 .1 .0) p (opens κs (a .0) (a .1 .0) (a .1 .1 .0) p)))
