@@ -189,7 +189,7 @@ fn disc_verdict_at(s: &[u8], t: Opened, addresses: &[u64]) -> Verdict
     sectors_verdict(s, t)
 }
 
-// The same of an opened image.
+// Over an opened image, which it takes apart.
 pub fn disc_verdict<'a, 'b>(image: Image<'a>, addresses: &'b [u64]) -> Verdict
     requires { ⌜ opening (now (image .bytes)) ≡ accepted (held image) ⌝ }
     ensures { λ r. ⌜ r ≡ discVerdict (now (image .entry .bytes)) (indexOffset (now (image .entry .bytes))) (now (addresses .entry)) ⌝ }
@@ -197,7 +197,7 @@ pub fn disc_verdict<'a, 'b>(image: Image<'a>, addresses: &'b [u64]) -> Verdict
     disc_verdict_at(opening::bytes(image), opening::numbers(image), addresses)
 }
 
-// The same of the image that opened as t.
+// Makes the opened image and hands it on.
 pub fn disc_verdict_of(s: &[u8], t: Opened, addresses: &[u64]) -> Verdict
     requires { ⌜ opening (now s) ≡ accepted (contents t) ⌝ }
     ensures { λ r. ⌜ r ≡ discVerdict (now (s .entry)) (indexOffset (now (s .entry))) (now (addresses .entry)) ⌝ }

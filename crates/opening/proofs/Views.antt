@@ -1,6 +1,5 @@
--- The functions that a view is handed on by, walked by hand once for all of them, over their own argument x, their result and what they
--- say: one that takes the view apart, `work(bytes(m), numbers(m), x)`, and one above it that makes the view, `over(view(s, t), x)`.
--- Both say just what `work` says: φ is the fact that it asks for, of the slice, the numbers and x, and ψ the fact of its result.
+-- The functions that hand an opened image on, walked by hand once for all of them: one that takes it apart, `work(bytes(image), numbers(image), x)`,
+-- and one that makes it, `over(view(s, t), x)`. Both promise just what `work` promises, whatever x, the result and the promise are.
 use mathlib.Core.Path.{_≡_, refl}
 use mathlib.Core.List.{List, [], _∷_}
 use Prim.Native.Nat.{ℕ, suc}
@@ -80,8 +79,8 @@ made m over x r = record {
       (seq (call over (copy (place 4 []) ∷ copy (place 3 []) ∷ []) (place 0 [])) return);
 }
 
--- what such functions promise: over so many lifetimes beside the view's, the kinds of x and of the result, the fact that is asked of the slice, the
--- numbers and x, and the fact that is answered of the result
+-- ---- what they promise: with so many lifetimes beside the view's, the kinds of x and of the result, the fact that is asked of the slice, the numbers and x,
+-- and the fact that is answered of these and the result
 pub record Promise : Type 2 where
   pub others : ℕ
   pub argument : Kind others

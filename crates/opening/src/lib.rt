@@ -176,7 +176,7 @@ pub fn open_verdict(s: &[u8], o: ByteOffset) -> Verdict
     }
 }
 
-// The opened image of these bytes, which opened as t.
+// The opened image of these bytes, which opened as t. Nothing else makes one.
 pub fn view<'a>(s: &'a [u8], t: Opened) -> Image<'a>
     requires { ⌜ opening (now s) ≡ accepted (contents t) ⌝ }
     ensures { λ r. ⌜ r ≡ viewOf (s .entry) t ⌝ }
@@ -251,7 +251,7 @@ pub fn pointer_at(s: &[u8], t: Opened, a: SectorAddress) -> Pointer
     decode(t.shift, table_entry(s, t, a))
 }
 
-// The same of an opened image.
+// Over an opened image, which it takes apart.
 pub fn pointer<'a>(image: Image<'a>, a: SectorAddress) -> Pointer
     requires { ⌜ (opening (now (image .bytes)) ≡ accepted (held image)) × (a .0 < held image .count) ⌝ }
     ensures { λ r. ⌜ r ≡ pointerAt (now (image .entry .bytes)) (held (image .entry)) (a .0) ⌝ }
@@ -259,7 +259,7 @@ pub fn pointer<'a>(image: Image<'a>, a: SectorAddress) -> Pointer
     pointer_at(bytes(image), numbers(image), a)
 }
 
-// The same of the image that opened as t.
+// Makes the opened image and hands it on.
 pub fn pointer_of(s: &[u8], t: Opened, a: SectorAddress) -> Pointer
     requires { ⌜ (opening (now s) ≡ accepted (contents t)) × (a .0 < contents t .count) ⌝ }
     ensures { λ r. ⌜ r ≡ pointerAt (now (s .entry)) (contents t) (a .0) ⌝ }

@@ -78,7 +78,7 @@ pub fn on_disc_at(s: &[u8], t: Opened, sector: &[u8]) -> Address
     found
 }
 
-// The same of an opened image.
+// Over an opened image, which it takes apart.
 pub fn on_disc<'a, 'b>(image: Image<'a>, sector: &'b [u8]) -> Address
     requires { ⌜ Checked (now (image .bytes)) (held image) ⌝ }
     ensures { λ r. ⌜ addressFound r ≡ onDisc (now (image .entry .bytes)) (held (image .entry)) (now (sector .entry)) ⌝ }
@@ -86,7 +86,7 @@ pub fn on_disc<'a, 'b>(image: Image<'a>, sector: &'b [u8]) -> Address
     on_disc_at(opening::bytes(image), opening::numbers(image), sector)
 }
 
-// The same of the image that opened as t.
+// Makes the opened image and hands it on.
 pub fn on_disc_of(s: &[u8], t: Opened, sector: &[u8]) -> Address
     requires { ⌜ Checked (now s) (contents t) ⌝ }
     ensures { λ r. ⌜ addressFound r ≡ onDisc (now (s .entry)) (contents t) (now (sector .entry)) ⌝ }

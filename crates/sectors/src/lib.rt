@@ -39,7 +39,7 @@ enum Found {
     Refused(Refusal),
 }
 
-// An address to locate, and a block that is known to be intact. ByteOffset(0) is none.
+// An address to locate, and a block that is known to be intact; ByteOffset(0) stands for none.
 pub struct Visit {
     pub address: SectorAddress,
     pub known: ByteOffset,
@@ -259,7 +259,7 @@ fn locate_near_at(s: &[u8], t: Opened, v: Visit) -> Near
     }
 }
 
-// The same of an opened image.
+// Over an opened image, which it takes apart.
 pub fn locate_near<'a>(image: Image<'a>, v: Visit) -> Near
     requires { ⌜ (opening (now (image .bytes)) ≡ accepted (held image)) × Known (now (image .bytes)) (v .known .0) ⌝ }
     ensures { λ r. ⌜ (located (r .located) ≡ locate (now (image .entry .bytes)) (v .address .0)) × Known (now (image .entry .bytes)) (r .known .0) ⌝ }
@@ -267,7 +267,7 @@ pub fn locate_near<'a>(image: Image<'a>, v: Visit) -> Near
     locate_near_at(opening::bytes(image), opening::numbers(image), v)
 }
 
-// The same of the image that opened as t.
+// Makes the opened image and hands it on.
 pub fn locate_near_of(s: &[u8], t: Opened, v: Visit) -> Near
     requires { ⌜ (opening (now s) ≡ accepted (contents t)) × Known (now s) (v .known .0) ⌝ }
     ensures { λ r. ⌜ (located (r .located) ≡ locate (now (s .entry)) (v .address .0)) × Known (now (s .entry)) (r .known .0) ⌝ }
@@ -291,7 +291,7 @@ fn locate_at(s: &[u8], t: Opened, a: SectorAddress) -> Located
     near.located
 }
 
-// The same of an opened image.
+// Over an opened image, which it takes apart.
 pub fn locate<'a>(image: Image<'a>, a: SectorAddress) -> Located
     requires { ⌜ opening (now (image .bytes)) ≡ accepted (held image) ⌝ }
     ensures { λ r. ⌜ located r ≡ locate (now (image .entry .bytes)) (a .0) ⌝ }
@@ -299,7 +299,7 @@ pub fn locate<'a>(image: Image<'a>, a: SectorAddress) -> Located
     locate_at(opening::bytes(image), opening::numbers(image), a)
 }
 
-// The same of the image that opened as t.
+// Makes the opened image and hands it on.
 pub fn locate_of(s: &[u8], t: Opened, a: SectorAddress) -> Located
     requires { ⌜ opening (now s) ≡ accepted (contents t) ⌝ }
     ensures { λ r. ⌜ located r ≡ locate (now (s .entry)) (a .0) ⌝ }
@@ -322,7 +322,7 @@ fn read_at<'a>(s: &'a [u8], t: Opened, a: SectorAddress) -> &'a [u8]
     }
 }
 
-// The same of an opened image: a part of the lent bytes.
+// Over an opened image, which it takes apart; the answer is a part of the lent bytes.
 pub fn read<'a>(image: Image<'a>, a: SectorAddress) -> &'a [u8]
     requires { ⌜ opening (now (image .bytes)) ≡ accepted (held image) ⌝ }
     ensures { λ r. ⌜ now r ≡ bytesRead (read (now (image .entry .bytes)) (a .0)) ⌝ }
@@ -330,7 +330,7 @@ pub fn read<'a>(image: Image<'a>, a: SectorAddress) -> &'a [u8]
     read_at(opening::bytes(image), opening::numbers(image), a)
 }
 
-// The same of the image that opened as t.
+// Makes the opened image and hands it on.
 pub fn read_of<'a>(s: &'a [u8], t: Opened, a: SectorAddress) -> &'a [u8]
     requires { ⌜ opening (now s) ≡ accepted (contents t) ⌝ }
     ensures { λ r. ⌜ now r ≡ bytesRead (read (now (s .entry)) (a .0)) ⌝ }
