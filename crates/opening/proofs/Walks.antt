@@ -109,15 +109,15 @@ module _ {m : ℕ} {M : Type 1} (𝓤 : URA M) (H : Heap 𝓤) (A : Atoms 𝓤) 
 
 -- ---- a function meets its contract if its code is walked from every entry, where the machine values of what is passed are written out
 module _ {m : ℕ} {M : Type 1} (𝓤 : URA M) (H : Heap 𝓤) (𝓜 : Model 𝓤 H) (𝓖 : GhostRules 𝓤 H) (𝓡 : Running 𝓤 H 𝓜) (Xs : List (Kind m)) (R : Kind m) (c : Clauses 𝓤 (shape Xs R)) where
-  abbrev Passed : (κs : Lfts (suc m)) → Args (shape Xs R .signature) κs → Vals (shape Xs R .signature) κs
-  Passed κs a = valss (typesAt (shape Xs R .signature .params) κs) (spelled Xs κs) a
+  abbrev Spelt : (κs : Lfts (suc m)) → Args (shape Xs R .signature) κs → Vals (shape Xs R .signature) κs
+  Spelt κs a = valss (typesAt (shape Xs R .signature .params) κs) (spelled Xs κs) a
 
   pub walk-proves : (γ : Env) (k : Name) (f : Fn) → Closed 𝓤 H (tables 𝓤 H 𝓜 𝓡 γ .C) (tables 𝓤 H 𝓜 𝓡 γ .Λ) k f
       → ((κs : Lfts (suc m)) (qs : Shares (suc m)) (a : Args (shape Xs R .signature) κs) (g : c κs a .ghost)
-      → Are (typesAt (shape Xs R .signature .params) κs) (Ises (typesAt (shape Xs R .signature .params) κs)) a (Passed κs a)
-      → ent 𝓤 (sep 𝓤 (onEntry 𝓤 H (𝓖 .A) (shape Xs R .signature) κs qs a (Passed κs a)) (c κs a .requires g))
-      (WpFn 𝓤 H (tablesOf 𝓤 H 𝓜 (tables 𝓤 H 𝓜 𝓡 γ) .C) (tablesOf 𝓤 H 𝓜 (tables 𝓤 H 𝓜 𝓡 γ) .Λ) f (flat (typesAt (shape Xs R .signature .params) κs) (Passed κs a))
-      (Ends 𝓤 H (𝓖 .A) (givenOf 𝓤 H 𝓜 𝓖) Xs R c .post ((κs, qs, tt, a, Passed κs a), g))))
+      → Are (typesAt (shape Xs R .signature .params) κs) (Ises (typesAt (shape Xs R .signature .params) κs)) a (Spelt κs a)
+      → ent 𝓤 (sep 𝓤 (onEntry 𝓤 H (𝓖 .A) (shape Xs R .signature) κs qs a (Spelt κs a)) (c κs a .requires g))
+      (WpFn 𝓤 H (tablesOf 𝓤 H 𝓜 (tables 𝓤 H 𝓜 𝓡 γ) .C) (tablesOf 𝓤 H 𝓜 (tables 𝓤 H 𝓜 𝓡 γ) .Λ) f (flat (typesAt (shape Xs R .signature .params) κs) (Spelt κs a))
+      (Ends 𝓤 H (𝓖 .A) (givenOf 𝓤 H 𝓜 𝓖) Xs R c .post ((κs, qs, tt, a, Spelt κs a), g))))
       → Triple 𝓤 (tables 𝓤 H 𝓜 𝓡 γ .C k) (Meant 𝓤 H (𝓖 .A) (givenOf 𝓤 H 𝓜 𝓖) Xs R c)
   unfolding tablesOf
   walk-proves γ k f closed walk =

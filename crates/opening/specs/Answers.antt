@@ -14,12 +14,15 @@ abbrev pub contents : Opened → format.Opened
 contents t = record { table = t .table .0; count = t .count; shift = t .shift }
 
 -- ---- the opened image: the lent bytes, and what opening found in them
+-- how it is made
 abbrev pub viewOf : RefT (List ℕ) → Opened → Image
 viewOf s t = record { bytes = s; table = t .table; count = t .count; shift = t .shift }
 
+-- what it holds beside the bytes
 abbrev pub numbersOf : Image → Opened
 numbersOf image = record { table = image .table; count = image .count; shift = image .shift }
 
+-- the same in the terms of the definitions
 abbrev pub held : Image → format.Opened
 held image = contents (numbersOf image)
 
