@@ -2,5 +2,5 @@ pub mod Accepted
 pub mod Passed
 pub mod Promises
 pub mod Views
-pub mod Walks
+mod Walks
 mod Zero

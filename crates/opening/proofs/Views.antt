@@ -56,7 +56,7 @@ use Rattle.opening.proofs.view.Symbol as view-def
 use Rattle.opening.proofs.view.Met as view-thm
 
 -- ---- the code, by the name of the function that it calls and the types of x and of the result
-abbrev pub taken-apart : ℕ → Name → Ty → Ty → Fn
+abbrev taken-apart : ℕ → Name → Ty → Ty → Fn
 taken-apart m work x r = record {
   lifetimes = suc m;
   outlives = [];
@@ -69,7 +69,7 @@ taken-apart m work x r = record {
       (seq (call work (copy (place 3 []) ∷ copy (place 5 []) ∷ copy (place 2 []) ∷ []) (place 0 [])) return))));
 }
 
-abbrev pub made : ℕ → Name → Ty → Ty → Fn
+abbrev made : ℕ → Name → Ty → Ty → Fn
 made m over x r = record {
   lifetimes = suc m;
   outlives = [];

@@ -207,7 +207,7 @@ pub fn numbers<'a>(image: Image<'a>) -> Opened
     }
 }
 
-// How many sectors an opened image has.
+// How many sectors the image that opened as t has.
 pub fn count(t: Opened) -> u64
     ensures { λ r. ⌜ r ≡ contents t .count ⌝ }
 {

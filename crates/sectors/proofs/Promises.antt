@@ -1,6 +1,5 @@
 -- What the functions over an opened image promise.
 use mathlib.Core.Path.{_≡_, refl}
-use denote.Builtin.{u8}
 use denote.Ref.{now}
 use Rattle.format.specs.Refusals.{accepted}
 use Rattle.format.specs.Opening.{opening}
@@ -9,7 +8,7 @@ use Rattle.format.specs.Answers.{located, bytesRead}
 use Rattle.format.proofs.Located as located-type
 use Rattle.format.proofs.Located.Laws as located-type′
 use Rattle.opening.specs.Answers.{contents}
-use Rattle.opening.proofs.Passed.{struct-of, enum-of, slice-of}
+use Rattle.opening.proofs.Passed.{struct-of, enum-of, the-bytes}
 use Rattle.opening.proofs.Promises.{address}
 use Rattle.opening.proofs.Views.{Promise}
 use Rattle.sectors.specs.Found.{Known}
@@ -40,7 +39,7 @@ abbrev pub read-promise : Promise
 read-promise = record {
   others = 0;
   argument = address;
-  result = slice-of 0 tt u8;
+  result = the-bytes;
   asks = λ κs s t a. opening (now s) ≡ accepted (contents t);
   answers = λ κs s t a r. now r ≡ bytesRead (read (now s) (a .0));
 }
