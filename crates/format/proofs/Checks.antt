@@ -24,7 +24,7 @@ use Rattle.format.specs.RollingBack.{rollbackVerdict}
 use Rattle.format.specs.Facts.{HeaderOk, IndexOk, EntryOk, TableOk, BlockOk, ItemOk, Identified}
 use Rattle.format.proofs.Lists.{all-head, all-tail}
 use Rattle.format.proofs.Tests.{on-or-off, not-iff, below-iff, atLeast-true, atLeast-iff, same-on, same-true, same-iff, differs-iff, or-iff, and-iff, choose-true, choose-false}
-use Rattle.format.proofs.Refusals.{answer-passes, answer-refuses, not-passes, row-iff, then-iff, then-rest, row-refuses, then-refuses, firstRefusal-iff, Gives, row-not, then-not}
+use Rattle.format.proofs.Refusals.{answer-passes, answer-refuses, not-passes, row-iff, then-iff, then-rest, row-refuses, then-refuses, firstRefusal-iff, Number, row-number, then-number, Gives, number-not}
 
 -- the facts of a chain of checks, put into a record or a list
 facts : {A B C : Type 0} → A ↔ B → (B → C) → (C → B) → A ↔ C
@@ -127,20 +127,21 @@ item-inside img b i k =
     rw suc-mul at (le-trans (mul-le-mul-right (sectorSize img b) (k .item)) (div-mul-le-self (blockLength img b) (sectorSize img b)))
 
 -- the numbers that an item's checks give are among 23 to 27
-pub item-not : (n : ℕ) → ((m : ℕ) → 23 ≤ m → m ≤ 27 → m ≢ n) → (img : List ℕ) (p : Pointer) → ¬ Gives n (itemVerdict img p)
+pub item-number : (P : ℕ → Type 0) → ((m : ℕ) → 23 ≤ m → m ≤ 27 → P m) → (img : List ℕ) (p : Pointer) → Number P (itemVerdict img p)
 unfolding itemVerdict blockVerdict
-item-not n out img p =
-    then-not _ _ n
-    (then-not _ _ n (number _ 23 (omega arith) (omega arith))
-    (then-not _ _ n (number _ 24 (omega arith) (omega arith)) (then-not _ _ n (number _ 25 (omega arith) (omega arith)) (number _ 23 (omega arith) (omega arith)))))
-    (then-not _ _ n (number _ 26 (omega arith) (omega arith)) (number _ 27 (omega arith) (omega arith)))
+item-number P among img p =
+    then-number P _ _
+    (then-number P _ _ (number _ 23 (omega arith) (omega arith))
+    (then-number P _ _ (number _ 24 (omega arith) (omega arith)) (then-number P _ _ (number _ 25 (omega arith) (omega arith)) (number _ 23 (omega arith) (omega arith)))))
+    (then-number P _ _ (number _ 26 (omega arith) (omega arith)) (number _ 27 (omega arith) (omega arith)))
   where
-    number : (b : Bool) (m : ℕ) → 23 ≤ m → m ≤ 27 → ¬ Gives n (row b (refusal m))
-    number b m h k = row-not b (refusal m) n (out m h k)
+    number : (b : Bool) (m : ℕ) → 23 ≤ m → m ≤ 27 → Number P (row b (refusal m))
+    number b m h k = row-number P b (refusal m) (among m h k)
 
 pub pointer-not-21 : (img : List ℕ) (es : List Entry) (p : Pointer) → ¬ Gives 21 (pointerVerdict img es p)
 unfolding pointerVerdict
-pointer-not-21 img es p = then-not _ _ 21 (row-not _ (refusal 22) 21 (omega arith)) (item-not 21 (λ m h k e. omega arith) img p)
+pointer-not-21 img es p =
+    number-not 21 _ (then-number (λ m. m ≢ 21) _ _ (row-number _ _ (refusal 22) (λ e. omega arith)) (item-number _ (λ m h k e. omega arith) img p))
 
 -- a verdict but for 21
 pub keeps-others : (v : Verdict) → ¬ Gives 21 v → otherThan21 v ≡ v

@@ -1,4 +1,5 @@
 -- Chains of checks: what it takes to pass, and what the first refusal is.
+use Prim.{Unit, tt}
 use mathlib.Core.Bool.{Bool, true, false, true≢false}
 use mathlib.Core.Logic.{_≢_, ⊎-elim, _↔_, Iff·rfl}
 use mathlib.Core.Path.{_≡_, refl, subst}
@@ -62,20 +63,41 @@ pub then-refuses : (v w : Verdict) (r : Refusal) → v ≡ Refuses r → (v then
 unfolding _then_
 then-refuses v w r p = rw p
 
--- a number that no row of a chain has is not given
+-- ---- the number of a refusal
+-- what holds of the number that a verdict refuses with, if it does
+unfoldable pub Number : (ℕ → Type 0) → Verdict → Type 0
+Number P Passes = Unit {0}
+Number P (Refuses r) = P (r .number)
+
+module _ (P : ℕ → Type 0) where
+  pub row-number : (b : Bool) (r : Refusal) → P (r .number) → Number P (row b r)
+  unfolding row Number
+  row-number true r p = p
+  row-number false r p = tt
+
+  pub then-number : (v w : Verdict) → Number P v → Number P w → Number P (v then w)
+  unfolding _then_ Number
+  then-number Passes w p q = q
+  then-number (Refuses r) w p q = p
+
+  pub first-number : (f : ℕ → Verdict) (k i : ℕ) → ((a : ℕ) → Number P (f a)) → Number P (firstRefusal f k i)
+  unfolding firstRefusal Number
+  first-number f zero i p = tt
+  first-number f (suc k) i p = then-number (f i) _ (p i) (first-number f k (suc i) p)
+
+  pub number-refused : (v : Verdict) (r : Refusal) → Number P v → v ≡ Refuses r → P (r .number)
+  unfolding Number
+  number-refused v r p e = subst (Number P) e p
+
+-- a verdict refuses with this number
 unfoldable pub Gives : ℕ → Verdict → Type 0
 Gives n Passes = ⊥
 Gives n (Refuses r) = r .number ≡ n
 
-pub row-not : (b : Bool) (r : Refusal) (n : ℕ) → r .number ≢ n → ¬ Gives n (row b r)
-unfolding row Gives
-row-not true r n p = p
-row-not false r n p = λ x. x
-
-pub then-not : (v w : Verdict) (n : ℕ) → ¬ Gives n v → ¬ Gives n w → ¬ Gives n (v then w)
-unfolding _then_
-then-not Passes w n p q = q
-then-not (Refuses r) w n p q = p
+pub number-not : (n : ℕ) (v : Verdict) → Number (λ m. m ≢ n) v → ¬ Gives n v
+unfolding Gives Number
+number-not n Passes p = λ x. x
+number-not n (Refuses r) p = p
 
 -- ---- answers
 pub answer-passes : {A : Type 0} (v : Verdict) (a : A) → v ≡ Passes → answer v a ≡ accepted a

@@ -1,8 +1,8 @@
 -- The demands, as the claims that proofs/ proves of these definitions.
 use mathlib.Core.List.{List, [], _∷_}
-use mathlib.Core.Logic.{_≢_, _↔_}
+use mathlib.Core.Logic.{_≢_, _⊎_, _↔_}
 use mathlib.Core.Path.{_≡_}
-use Prim.Native.Nat.{ℕ, _+_, _*_, _/_, _%_, _^_, _<_}
+use Prim.Native.Nat.{ℕ, _+_, _*_, _/_, _%_, _^_, _≤_, _<_}
 use lib.ListN.{length, take, getD}
 use Rattle.fields.specs.Bytes.{part, field}
 use Rattle.format.specs.declared.Entry.{Entry}
@@ -12,13 +12,33 @@ use Rattle.format.specs.declared.Refusal.{Refusal}
 use Rattle.format.specs.Lists.{All, Any, Only, IsBytes}
 use Rattle.format.specs.Refusals.{Answer, refused, accepted}
 use Rattle.format.specs.Layouts.{DBLK, DDT*, CKSM, tag, indexOffset, entries, blockHeaderLength, sectorSize, tableHeaderLength, tableShift, tableCount, tableEntryLength}
+use Rattle.format.specs.Opening.{sectorCount}
 use Rattle.format.specs.Reading.{read, locate}
 use Rattle.format.specs.Answers.{bytesRead}
 use Rattle.format.specs.Writing.{placed}
 use Rattle.format.specs.Creating.{create}
 use Rattle.format.specs.Committing.{commit}
+use Rattle.format.specs.RollingBack.{rollback}
 use Rattle.format.specs.Histories.{Call, commits, rollsBack, Point, Moment, reads, ReadTheSame, started, outcomeOf, after, atEnd, Throughout, Permitted}
 use Rattle.format.specs.Facts.{HeaderOk, IndexOk, EntryOk, UserData, TableOk, ItemOk}
+
+-- ---- Demand 1: every call refuses by 01's numbers. These are the numbers that each call gives; none is 0, so that an interface can answer 0 for
+-- "accepted". (That they are given in 01's order, and exactly when their check applies, is how the calls are defined.)
+abbrev pub FromTo : ℕ → ℕ → ℕ → Type 0
+FromTo least most n = (least ≤ n) × (n ≤ most)
+
+-- where the answer is a refusal, its number is such
+abbrev pub RefusesBy : {A : Type 0} → (ℕ → Type 0) → Answer A → Type 0
+RefusesBy P a = (r : Refusal) → a ≡ refused r → P (r .number)
+
+pub record Demand1Numbers : Type 0 where
+  pub counting : (img : List ℕ) → RefusesBy (FromTo 1 14) (sectorCount img)
+  pub locating : (img : List ℕ) (a : ℕ) → RefusesBy (λ n. FromTo 1 14 n ⊎ FromTo 20 27 n) (locate img a)
+  pub creating : (buffer : List ℕ) (count : ℕ) (application : List ℕ) (major minor mediaType creationTime lastWrittenTime : ℕ)
+      → RefusesBy (λ n. FromTo 30 31 n ⊎ (n ≡ 33) ⊎ (n ≡ 35)) (create buffer count application major minor mediaType creationTime lastWrittenTime .result)
+  pub committing : (buffer : List ℕ) (used : ℕ) (addresses : List ℕ) (size : ℕ) (sectors : List ℕ) (time : ℕ)
+      → RefusesBy (λ n. FromTo 1 14 n ⊎ (n ≡ 20) ⊎ FromTo 22 27 n ⊎ FromTo 30 35 n) (commit buffer used addresses size sectors time .result)
+  pub rollingBack : (buffer : List ℕ) (used offset time : ℕ) → RefusesBy (λ n. FromTo 1 14 n ⊎ FromTo 31 32 n) (rollback buffer used offset time .result)
 
 -- ---- Demand 2, reading: in an image that opens, a sector is given exactly if its table entry names an item of an indexed, intact,
 -- unpacked data block, and then it is that item's bytes.
