@@ -1,0 +1,121 @@
+/*
+ * AaruFormat disc images, read and written by a proved library.
+ *
+ *     rt staticlib aaru_c
+ *     cc program.c -Ibindings/c -Ltarget/staticlib -laaru_c
+ *
+ * An image is the first `used` bytes of a buffer that the caller lends. A call returns 0 if it is accepted, else the number of the check that
+ * refuses it: of all that apply, the first in the order that is said below for each call. No check has the number 0. A refused call
+ * changes no byte behind any pointer. Numbers in an image may be hostile: every input is answered, and no sum of places wraps.
+ *
+ * What is proved holds for callers that pass what C's types can't say:
+ *   - a pointer beside a length points to so many bytes (in `addresses`: numbers) that may be read and, where it is not const, written. Where
+ *     the length is 0 the pointer is not followed and may be null;
+ *   - every other pointer points to a number of its own;
+ *   - pointers to numbers, and `addresses`, are aligned as their type asks;
+ *   - what a call may write, the buffer and the numbers behind its last pointers, overlaps nothing else that it is handed, and nobody else
+ *     reads or writes it during the call. What it only reads may overlap, but nobody may write it during the call.
+ * The library has no heap and no state of its own; calls on different buffers may run at the same time. The largest stack frame is 17 KiB.
+ *
+ * Checks of the image, made by each call that opens one, in this order:
+ *    1  `used` is below 72
+ *    2  the header's identifier is neither 'AARUFRMT' nor 'DICMFRMT'
+ *    3  the image's major version is not 2
+ *    4  the index's offset is below 72, or its header (20 bytes) runs past the end
+ *    5  there is no 'IDX2' at the index's offset
+ *    4  the index's entries (16 bytes each) run past the end
+ *    6  the checksum of the index's entries is wrong
+ *    7  an entry's offset is below 72, or offset + 4 lies past the end  } for each entry
+ *    8  the four bytes there differ from the entry's blockType          } in turn
+ *    9  no entry is for a 'DDT*' table of data type 1
+ *   10  more than one is
+ *   11  the table's header (49 bytes) runs past the end
+ *   13  the table is compressed
+ *   12  the table's type is not 1, its shift is over 32, its length is not 8 x entries, or cmpLength is not length
+ *   11  the table's payload runs past the end
+ *   14  either checksum of the table is wrong
+ *
+ * Checks of a sector, in this order:
+ *   20  the address is not below the number of sectors
+ *   21  the sector is not written
+ *   22  no index entry for a 'DBLK' block of data type 1 has the byte offset that the table entry names
+ *   23  the block's header (36 bytes) runs past the end
+ *   24  the block is compressed
+ *   25  the block's type is not 1, its sector size is 0, cmpLength is not length, or length is no multiple of the sector size
+ *   23  the block's payload runs past the end
+ *   26  the item number is not below length / sector size
+ *   27  either checksum of the block is wrong
+ */
+#ifndef AARU_H
+#define AARU_H
+
+#include <stddef.h>
+#include <stdint.h>
+
+#ifdef __cplusplus
+extern "C" {
+#endif
+
+/*
+ * How many sectors the image has: `*sectors`.
+ * Refused with: 1 to 14, as above.
+ */
+uint32_t aaru_open(const uint8_t *image, size_t used, uint64_t *sectors);
+
+/*
+ * Where the sector at an address lies: it is the `*size` bytes of the image from `*start` on, which lie inside it. Sectors of one disc may differ
+ * in size.
+ * Refused with: 1 to 14, then 20 to 27, as above.
+ */
+uint32_t aaru_locate(const uint8_t *image, size_t used, uint64_t address, uint64_t *start, uint64_t *size);
+
+/*
+ * Makes a new image at the start of the buffer, of `sectors` sectors that are not written: 157 + 8 x sectors bytes. Later bytes of the buffer stay
+ * as they are. `application` is a name of 32 bytes, major and minor its version; the two times, `created` and `written`, are stored as they are.
+ * `*used` is the image's length, `*index` the offset of its index.
+ * Refused with, in this order:
+ *   31  the buffer is longer than 4,294,967,296 bytes
+ *   30  `sectors` is 0 or over 1,048,576
+ *   33  `application_length` is not 32
+ *   35  the image would not fit into the buffer
+ */
+uint32_t aaru_create(uint8_t *buffer, size_t length, uint64_t sectors, const uint8_t *application, size_t application_length,
+                     uint8_t major, uint8_t minor, uint32_t media_type, uint64_t created, uint64_t written, uint64_t *used, uint64_t *index);
+
+/*
+ * Commits one sector to each address of the list: these read as handed in from then on, every other address as before. The sectors are of
+ * `sector_size` bytes each and stand one after another in `sectors`, in the order of the addresses. An empty list is allowed. Equal sectors are
+ * stored once. What is new is appended at `used`: a data block if any sector is stored, a table, an index. Below `used` only the header's
+ * indexOffset and lastWrittenTime (the time handed in) change, and nothing from the new end on.
+ * `*new_used` is the image's new length, `*index` the offset of its new index.
+ * Refused with, in this order:
+ *   31  the buffer is longer than 4,294,967,296 bytes
+ *   32  `used` exceeds the buffer's length
+ *   30  `sector_size` is 0 or over 65,536, or there are over 65,536 addresses
+ *   33  `sectors_length` is not address_count x sector_size
+ *   34  the addresses do not rise strictly
+ *    1 to 14, as above
+ *   20  an address is not below the number of sectors
+ *   22 to 27, as above: every sector of the disc is checked, by rising address, and the first that is refused other than with 21 gives its number
+ *   35  the new image would not fit into the buffer
+ */
+uint32_t aaru_commit(uint8_t *buffer, size_t length, uint64_t used, const uint64_t *addresses, size_t address_count, uint64_t sector_size,
+                     const uint8_t *sectors, size_t sectors_length, uint64_t time, uint64_t *new_used, uint64_t *index);
+
+/*
+ * Makes the index at `offset` the disc's. Where a creation or a commit answered that offset as its index, the disc then reads as right after that
+ * call, as long as every call was handed the `used` that the last accepted one answered. Only the header's indexOffset and lastWrittenTime change,
+ * and nothing is lost: a rollback to a later index brings back what was committed later.
+ * `*new_used` is `used`, `*index` is `offset`.
+ * Refused with, in this order:
+ *   31  the buffer is longer than 4,294,967,296 bytes
+ *   32  `used` exceeds the buffer's length
+ *    1 to 14, as above, with `offset` in place of the header's indexOffset
+ */
+uint32_t aaru_rollback(uint8_t *buffer, size_t length, uint64_t used, uint64_t offset, uint64_t time, uint64_t *new_used, uint64_t *index);
+
+#ifdef __cplusplus
+}
+#endif
+
+#endif

@@ -1,0 +1,46 @@
+-- What a call of the C interface leaves to its caller: the number that it returns, what stands behind each pointer to a number, and the bytes of
+-- the buffer. An accepted call returns 0 and sets the numbers; a refused one returns its number, and all else stays as it stood. (No refusal has the
+-- number 0: `Demand1` in format/specs/Demands.)
+use mathlib.Core.List.{List}
+use Prim.Native.Nat.{ℕ}
+use Rattle.format.specs.declared.Place.{Place}
+use Rattle.format.specs.declared.Placed.{Placed}
+use Rattle.format.specs.Refusals.{Answer, refused, accepted}
+use Rattle.format.specs.Writing.{Outcome}
+
+-- aaru_open, by its answer and by what stood behind its pointer
+pub record Counts : Type 0 where
+  pub number : ℕ
+  pub sectors : ℕ
+
+unfoldable pub counts : Answer ℕ → ℕ → Counts
+counts (accepted n) sectors = record { number = 0; sectors = n }
+counts (refused r) sectors = record { number = r .number; sectors = sectors }
+
+-- aaru_locate
+pub record Locates : Type 0 where
+  pub number : ℕ
+  pub start : ℕ
+  pub size : ℕ
+
+unfoldable pub locates : Answer Place → ℕ → ℕ → Locates
+locates (accepted p) start size = record { number = 0; start = p .start .0; size = p .size }
+locates (refused r) start size = record { number = r .number; start = start; size = size }
+
+-- aaru_create, aaru_commit and aaru_rollback: the numbers, by the answer
+pub record Updates : Type 0 where
+  pub number : ℕ
+  pub used : ℕ
+  pub index : ℕ
+
+unfoldable pub updates : Answer Placed → ℕ → ℕ → Updates
+updates (accepted p) used index = record { number = 0; used = p .used; index = p .index .0 }
+updates (refused r) used index = record { number = r .number; used = used; index = index }
+
+-- and the buffer: as the outcome has it
+pub record Writes : Type 0 where
+  pub numbers : Updates
+  pub buffer : List ℕ
+
+unfoldable pub writes : Outcome → ℕ → ℕ → Writes
+writes o used index = record { numbers = updates (o .result) used index; buffer = o .buffer }

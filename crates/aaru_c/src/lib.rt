@@ -1,0 +1,124 @@
+// The C interface: the public calls of `aaru`, as bindings/c/aaru.h declares them. A slice is a pointer and a length, a call returns 0 or the
+// number of its refusal, and values come back behind pointers, which a refused call leaves as they are. As in `aaru`, no call asks anything
+// of its caller; what the language itself takes for granted of pointers that come from outside is said in the header.
+ghost use mathlib.Core.Path.{_≡_};
+ghost use Rattle.format.specs.Opening.{sectorCount};
+ghost use Rattle.format.specs.Reading.{locate};
+ghost use Rattle.format.specs.Creating.{create};
+ghost use Rattle.format.specs.Committing.{commit};
+ghost use Rattle.format.specs.RollingBack.{rollback};
+ghost use Rattle.format.specs.Answers.{updated};
+ghost use Rattle.aaru_c.specs.Returned.{counts, locates, updates, writes};
+use aaru::ByteOffset;
+use aaru::Counted;
+use aaru::Located;
+use aaru::SectorAddress;
+use aaru::Updated;
+
+// How many sectors the image has.
+#[no_mangle]
+pub extern "C" fn aaru_open(image: &[u8], sectors: &mut u64) -> u32
+    ensures { λ r. ⌜ record { number = r; sectors = now (sectors .exit) } ≡ counts (sectorCount (now (image .entry))) (now (sectors .entry)) ⌝ }
+{
+    let answer = aaru::sector_count(image);
+    match answer {
+        Counted::Sectors(n) => {
+            *sectors = n;
+            0
+        }
+        Counted::Refused(r) => r.number,
+    }
+}
+
+// Where the sector at an address lies in the image.
+#[no_mangle]
+pub extern "C" fn aaru_locate(image: &[u8], address: u64, start: &mut u64, size: &mut u64) -> u32
+    ensures { λ r. ⌜ record { number = r; start = now (start .exit); size = now (size .exit) } ≡ locates (locate (now (image .entry)) address) (now (start .entry)) (now (size .entry)) ⌝ }
+{
+    let answer = aaru::locate(image, SectorAddress(address));
+    match answer {
+        Located::At(p) => {
+            *start = p.start.0;
+            *size = p.size;
+            0
+        }
+        Located::Refused(r) => r.number,
+    }
+}
+
+// What a call that writes returns, and leaves behind its two pointers.
+fn numbers(answer: Updated, used: &mut u64, index: &mut u64) -> u32
+    ensures { λ r. ⌜ record { number = r; used = now (used .exit); index = now (index .exit) } ≡ updates (updated answer) (now (used .entry)) (now (index .entry)) ⌝ }
+{
+    match answer {
+        Updated::To(p) => {
+            *used = p.used;
+            *index = p.index.0;
+            0
+        }
+        Updated::Refused(r) => r.number,
+    }
+}
+
+// Makes a new image at the start of the buffer.
+#[no_mangle]
+pub extern "C" fn aaru_create(
+    buffer: &mut [u8],
+    sectors: u64,
+    application: &[u8],
+    major: u8,
+    minor: u8,
+    mediaType: u32,
+    created: u64,
+    written: u64,
+    used: &mut u64,
+    index: &mut u64,
+) -> u32
+    ensures { λ r. ⌜ record { numbers = record { number = r; used = now (used .exit); index = now (index .exit) }; buffer = now (buffer .exit) } ≡ writes (create (now (buffer .entry)) sectors (now (application .entry)) major minor mediaType created written) (now (used .entry)) (now (index .entry)) ⌝ }
+{
+    let answer = aaru::create(
+        buffer,
+        sectors,
+        application,
+        major,
+        minor,
+        mediaType,
+        created,
+        written,
+    );
+    numbers(answer, used, index)
+}
+
+// Commits sectors to the addresses of the list.
+#[no_mangle]
+pub extern "C" fn aaru_commit(
+    buffer: &mut [u8],
+    used: u64,
+    addresses: &[u64],
+    sectorSize: u64,
+    sectors: &[u8],
+    time: u64,
+    newUsed: &mut u64,
+    index: &mut u64,
+) -> u32
+    ensures { λ r. ⌜ record { numbers = record { number = r; used = now (newUsed .exit); index = now (index .exit) }; buffer = now (buffer .exit) } ≡ writes (commit (now (buffer .entry)) used (now (addresses .entry)) sectorSize (now (sectors .entry)) time) (now (newUsed .entry)) (now (index .entry)) ⌝ }
+{
+    let answer = aaru::commit(buffer, used, addresses, sectorSize, sectors, time);
+    numbers(answer, newUsed, index)
+}
+
+// Makes the index at an offset the disc's.
+#[no_mangle]
+pub extern "C" fn aaru_rollback(
+    buffer: &mut [u8],
+    used: u64,
+    offset: u64,
+    time: u64,
+    newUsed: &mut u64,
+    index: &mut u64,
+) -> u32
+    ensures { λ r. ⌜ record { numbers = record { number = r; used = now (newUsed .exit); index = now (index .exit) }; buffer = now (buffer .exit) } ≡ writes (rollback (now (buffer .entry)) used offset time) (now (newUsed .entry)) (now (index .entry)) ⌝ }
+{
+    let answer = aaru::rollback(buffer, used, ByteOffset(offset), time);
+    numbers(answer, newUsed, index)
+}
