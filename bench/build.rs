@@ -1,4 +1,4 @@
-// Links the static library that `rt staticlib bench` writes.
+// Links the static library that `rt staticlib bench` writes; `aaru` links its own.
 fn main() {
     let library = concat!(env!("CARGO_MANIFEST_DIR"), "/../target/staticlib");
     println!("cargo:rustc-link-search=native={library}");

@@ -2,30 +2,9 @@
 //! First checks that all leave the same bytes and the same `used`.
 use crate::commit::{lent, map, Commit};
 use crate::{disc, median, Random};
+use aaru::Creation;
 use std::hint::black_box;
 use std::time::Instant;
-
-extern "C" {
-    fn bench_create(
-        buffer: *mut u8,
-        length: usize,
-        count: u64,
-        application: *const u8,
-        application_length: usize,
-        time: u64,
-    ) -> u64;
-    fn bench_commit(
-        buffer: *mut u8,
-        length: usize,
-        used: u64,
-        addresses: *const u64,
-        addresses_length: usize,
-        size: u64,
-        sectors: *const u8,
-        sectors_length: usize,
-        time: u64,
-    ) -> u64;
-}
 
 const APPLICATION: &[u8; 32] = b"measured beside programs in Rust";
 const TIME: u64 = 1;
@@ -68,26 +47,21 @@ const FORMS: [Form; 4] = [
     },
 ];
 
-// The exports have no `requires`, so each call on lent slices is allowed.
 fn ours_create(b: &mut [u8], count: u64) -> u64 {
-    let a = APPLICATION;
-    unsafe { bench_create(b.as_mut_ptr(), b.len(), count, a.as_ptr(), a.len(), TIME) }
+    let about = Creation {
+        sectors: count,
+        application: APPLICATION,
+        major: 1,
+        minor: 0,
+        media_type: 1,
+        created: TIME,
+        written: TIME,
+    };
+    aaru::create(b, &about).map_or(0, |p| p.used)
 }
 
 fn ours_commit(b: &mut [u8], c: &Commit) -> u64 {
-    unsafe {
-        bench_commit(
-            b.as_mut_ptr(),
-            b.len(),
-            c.used,
-            c.addresses.as_ptr(),
-            c.addresses.len(),
-            c.size,
-            c.sectors.as_ptr(),
-            c.sectors.len(),
-            c.time,
-        )
-    }
+    aaru::commit(b, c.used, c.addresses, c.size, c.sectors, c.time).map_or(0, |p| p.used)
 }
 
 fn rust_create(b: &mut [u8], count: u64) -> u64 {

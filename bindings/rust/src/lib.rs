@@ -1,0 +1,158 @@
+//! Reads and writes AaruFormat disc images by the proved library.
+//!
+//! An image is the first `used` bytes of a lent buffer. Every call is answered or refused by a number of document 01, on every
+//! input; a refused call changes nothing. The numbers are those of `bindings/c/aaru.h`, which says for each call what it gives.
+//!
+//! ```
+//! let mut buffer = [0; 4096];
+//! let about = aaru::Creation { sectors: 16, application: &[0; 32], major: 1, minor: 0, media_type: 3, created: 0, written: 0 };
+//! let made = aaru::create(&mut buffer, &about)?;
+//! let take = aaru::commit(&mut buffer, made.used, &[0, 5], 4, b"AAAABBBB", 1)?;
+//! let image = &buffer[..take.used as usize];
+//! assert_eq!(aaru::open(image)?, 16);
+//! assert_eq!(aaru::read(image, 5)?.bytes, b"BBBB");
+//! assert_eq!(aaru::read(image, 1).unwrap_err().number, 21); // not written
+//! # Ok::<(), aaru::Refusal>(())
+//! ```
+use std::{error, fmt};
+
+pub mod ffi;
+
+/// Why a call is refused: the number of document 01.
+#[derive(Clone, Copy, Debug, PartialEq, Eq)]
+pub struct Refusal {
+    pub number: u32,
+}
+
+impl fmt::Display for Refusal {
+    fn fmt(&self, f: &mut fmt::Formatter) -> fmt::Result {
+        write!(f, "refused with {}", self.number)
+    }
+}
+
+impl error::Error for Refusal {}
+
+/// A sector: a part of the image that was lent.
+#[derive(Clone, Copy, Debug, PartialEq, Eq)]
+pub struct Sector<'a> {
+    /// Where its first byte stands in the image.
+    pub start: u64,
+    pub bytes: &'a [u8],
+}
+
+/// Where a call that writes left the image: how many bytes of the buffer it has, and where its index stands.
+#[derive(Clone, Copy, Debug, PartialEq, Eq)]
+pub struct Placed {
+    pub used: u64,
+    pub index: u64,
+}
+
+/// What a new image is made of. The application's name has 32 bytes; times are stored as they are.
+#[derive(Clone, Copy, Debug)]
+pub struct Creation<'a> {
+    pub sectors: u64,
+    pub application: &'a [u8],
+    pub major: u8,
+    pub minor: u8,
+    pub media_type: u32,
+    pub created: u64,
+    pub written: u64,
+}
+
+fn answer<T>(number: u32, value: T) -> Result<T, Refusal> {
+    match number {
+        0 => Ok(value),
+        number => Err(Refusal { number }),
+    }
+}
+
+/// How many sectors the image has.
+pub fn open(image: &[u8]) -> Result<u64, Refusal> {
+    let mut sectors = 0;
+    // SAFETY: the slice is valid for its length, and the number is not part of it.
+    let number = unsafe { ffi::aaru_open(image.as_ptr(), image.len(), &mut sectors) };
+    answer(number, sectors)
+}
+
+/// The sector at an address.
+pub fn read(image: &[u8], address: u64) -> Result<Sector<'_>, Refusal> {
+    let (mut start, mut size) = (0, 0);
+    // SAFETY: as for `open`.
+    let number =
+        unsafe { ffi::aaru_locate(image.as_ptr(), image.len(), address, &mut start, &mut size) };
+    answer(number, ())?;
+    Ok(Sector {
+        start,
+        bytes: &image[start as usize..][..size as usize],
+    })
+}
+
+/// Makes a new image at the start of the buffer, of sectors that are not written.
+pub fn create(buffer: &mut [u8], about: &Creation) -> Result<Placed, Refusal> {
+    let mut placed = Placed { used: 0, index: 0 };
+    // SAFETY: both slices are valid for their lengths, the buffer is borrowed alone, and the numbers are parts of neither.
+    let number = unsafe {
+        ffi::aaru_create(
+            buffer.as_mut_ptr(),
+            buffer.len(),
+            about.sectors,
+            about.application.as_ptr(),
+            about.application.len(),
+            about.major,
+            about.minor,
+            about.media_type,
+            about.created,
+            about.written,
+            &mut placed.used,
+            &mut placed.index,
+        )
+    };
+    answer(number, placed)
+}
+
+/// Commits sectors of `sector_size` bytes, which stand one after another in `sectors`, to rising addresses.
+pub fn commit(
+    buffer: &mut [u8],
+    used: u64,
+    addresses: &[u64],
+    sector_size: u64,
+    sectors: &[u8],
+    time: u64,
+) -> Result<Placed, Refusal> {
+    let mut placed = Placed { used: 0, index: 0 };
+    // SAFETY: as for `create`.
+    let number = unsafe {
+        ffi::aaru_commit(
+            buffer.as_mut_ptr(),
+            buffer.len(),
+            used,
+            addresses.as_ptr(),
+            addresses.len(),
+            sector_size,
+            sectors.as_ptr(),
+            sectors.len(),
+            time,
+            &mut placed.used,
+            &mut placed.index,
+        )
+    };
+    answer(number, placed)
+}
+
+/// Makes the disc read as right after the call that answered `offset` as its index.
+pub fn rollback(buffer: &mut [u8], used: u64, offset: u64, time: u64) -> Result<Placed, Refusal> {
+    let mut placed = Placed { used: 0, index: 0 };
+    // SAFETY: as for `create`.
+    let number = unsafe {
+        ffi::aaru_rollback(
+            buffer.as_mut_ptr(),
+            buffer.len(),
+            used,
+            offset,
+            time,
+            &mut placed.used,
+            &mut placed.index,
+        )
+    };
+    answer(number, placed)
+}
