@@ -1,14 +1,12 @@
 -- The answers of the public calls: different answers say different things, and what one call answers fixes what the others do.
 use mathlib.Core.List.{List}
 use mathlib.Core.Path.{_≡_, sym, ap, _∙_}
-use Prim.Native.Nat.{ℕ, _+_, _≤_}
+use Prim.Native.Nat.{ℕ}
 use native.Mathlib.Omega.{arith}
-use lib.ListN.{length}
 use Rattle.format.specs.declared.Counted.{Counted}
 use Rattle.format.specs.declared.Counted.the-variants as count
 use Rattle.format.specs.declared.Located.{Located}
 use Rattle.format.specs.declared.Located.the-variants as place
-use Rattle.format.specs.declared.Place.{Place}
 use Rattle.format.specs.declared.Placed.{Placed}
 use Rattle.format.specs.declared.Refusal.{Refusal}
 use Rattle.format.specs.declared.Updated.{Updated}
@@ -16,13 +14,11 @@ use Rattle.format.specs.declared.Updated.the-variants as update
 use Rattle.format.specs.declared.Verdict.{Verdict}
 use Rattle.format.specs.declared.Verdict.the-variants.{Passes, Refuses}
 use Rattle.format.specs.Refusals.{refused, accepted}
-use Rattle.format.specs.Layouts.{indexOffset}
 use Rattle.format.specs.Opening.{Opened, opening, sectorCount}
-use Rattle.format.specs.Reading.{placeOf, readVerdict, locate}
+use Rattle.format.specs.Reading.{readVerdict, locate}
 use Rattle.format.specs.Writing.{outcome}
 use Rattle.format.specs.Answers.{counted, located, updated, answered}
 use Rattle.format.proofs.Refusals.{answer-passes, answer-refuses, answer-accepted, answer-refused, then-refuses}
-use Rattle.format.proofs.Checks.{read-ok, item-inside}
 
 pub counted-distinct : (x y : Counted) → counted x ≡ counted y → x ≡ y
 unfolding counted
@@ -70,11 +66,3 @@ module _ (img : List ℕ) where
   pub locate-unopened : (r : Refusal) (a : ℕ) → refused r ≡ opening img → refused r ≡ locate img a
   unfolding opening locate readVerdict
   locate-unopened r a e = sym (answer-refuses _ _ r (then-refuses _ _ r (answer-refused _ _ r (sym e))))
-
--- ---- a located sector lies in the image
-pub place-inside : (img : List ℕ) (a : ℕ) (p : Place) → accepted p ≡ locate img a → p .start .0 + p .size ≤ length img
-unfolding locate placeOf
-place-inside img a p e =
-    let q = answer-accepted _ _ p (sym e) in
-    let k = read-ok img (indexOffset img) a .0 (q .0) .sector .item in
-    rw (← q .1) (omega (arith, item-inside _ _ _ k, k .block .fits))

@@ -16,7 +16,7 @@ use Rattle.format.specs.Opening.{offsetsOf, tableAt, Opened, openedAt, o
 use Rattle.format.specs.Reading.{tableEntry, notWritten, pointerAt, placeOf, itemBytes, readVerdict, readAt, read, locate}
 use Rattle.format.specs.Answers.{bytesRead}
 use Rattle.format.specs.Committing.{itemOf}
-use Rattle.format.specs.Demands.{NamesItem, Demand2Reading, Demand2Returned, partAt, ReadIsLocated}
+use Rattle.format.specs.Demands.{NamesItem, Demand2Reading, Demand2Returned, partAt, ReadIsLocated, LocatedInside}
 use Rattle.format.proofs.Tests.{same-iff}
 use Rattle.format.proofs.Refusals.{answer-passes, answer-accepted}
 use Rattle.format.proofs.Checks.{tableAt-only, item-inside, read-ok, OpenOk, SectorOk, read-bytes}
@@ -140,3 +140,11 @@ read-is-located img a = (
       let bytes = answer-passes _ (itemBytes img (pointerAt img (opened img (indexOffset img)) a)) (answer-accepted _ _ p e .0) in
       rw bytes (some img a _ (demand-2-reading img a _ .0 bytes)),
 )
+
+-- ---- which lies in the image
+pub located-inside : LocatedInside
+unfolding locate placeOf
+located-inside img a p e =
+    let q = answer-accepted _ _ p e in
+    let k = read-ok img (indexOffset img) a .0 (q .0) .sector .item in
+    rw (← q .1) (omega (arith, item-inside _ _ _ k, k .block .fits))

@@ -85,6 +85,10 @@ abbrev pub ReadIsLocated : Type 0
 ReadIsLocated =
     (img : List ℕ) (a : ℕ) → (bytesRead (read img a) ≡ partAt img (locate img a)) × ((p : Place) → locate img a ≡ accepted p → bytesRead (read img a) ≢ [])
 
+-- which lies in the image: whoever is told the place may follow it
+abbrev pub LocatedInside : Type 0
+LocatedInside = (img : List ℕ) (a : ℕ) (p : Place) → locate img a ≡ accepted p → p .start .0 + p .size ≤ length img
+
 -- ---- Demand 2, committing: an accepted commit makes the named sectors read as handed in and every other sector read as before.
 -- A disc that read as `before`, after such a commit reads as `later`
 pub record ReadsCommitted (before later : ℕ → Answer (List ℕ)) (addresses : List ℕ) (size : ℕ) (sectors : List ℕ) : Type 0 where

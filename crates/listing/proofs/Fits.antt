@@ -13,7 +13,7 @@ use Rattle.format.specs.Refusals.{Answer, refused, accepted}
 use Rattle.format.specs.Opening.{sectorCount}
 use Rattle.format.specs.Reading.{locate}
 use Rattle.format.proofs.Tests.{below-iff, choose-cases}
-use Rattle.format.proofs.Answers.{place-inside}
+use Rattle.format.proofs.Reading.{located-inside}
 use Rattle.listing.specs.Buffer.{Writes, Prints}
 use Rattle.listing.specs.Listing.{head, line, linesFrom, lines, imageText, longestInput, listing}
 use Rattle.listing.proofs.Decimal.{length-decimal}
@@ -26,7 +26,7 @@ module _ (img : List ℕ) (short : length img ≤ longestInput) where
   line-fits : (a : ℕ) → a < 10000 → (x : Answer Place) → locate img a ≡ x → length (line a x) ≤ 17
   unfolding line
   line-fits a b (accepted p) e =
-      let i = place-inside img a p (sym e) in
+      let i = located-inside img a p e in
       let u = length-decimal 3 a b in
       let v = length-decimal 4 (p .start .0) (omega arith) in
       let w = length-decimal 4 (p .size) (omega arith) in

@@ -7,8 +7,7 @@ use Rattle.format.specs.Refusals.{accepted}
 use Rattle.format.specs.Reading.{locate}
 use Rattle.format.specs.Answers.{located}
 use Rattle.format.specs.Demands.{partAt}
-use Rattle.format.proofs.Answers.{place-inside}
-use Rattle.format.proofs.Reading.{read-is-located}
+use Rattle.format.proofs.Reading.{read-is-located, located-inside}
 use Rattle.sectors.proofs.read_at.Statement.{statement}
 use Rattle.sectors.proofs.read_at.Tie as tie
 
@@ -17,7 +16,7 @@ unfolding located
 given c = ap located (sym (c .l .given .1)) ∙ c .before .before .locate-at .ensures
 
 part-requires-2 : tie.Need-part-requires-2
-part-requires-2 c κs = place-inside _ _ _ (given (c .before .before))
+part-requires-2 c κs = located-inside _ _ _ (sym (given (c .before .before)))
 
 -- what is read is the part that `locate` names
 returns : tie.Need-returns
