@@ -1,0 +1,189 @@
+//! Random histories: a creation, then commits and rollbacks with free arguments. Beside the
+//! comparison, what each call promises about the disc is checked from outside.
+
+use crate::arguments::{self, with_room};
+use crate::images::Description;
+use crate::layout::Layout;
+use crate::random::Random;
+use crate::sides::{Call, Commit, Sides};
+
+/// How a disc reads: for every address and some that no disc has, the bytes or the number.
+type Reading = Vec<Result<Vec<u8>, u32>>;
+
+fn reading(image: &[u8]) -> Reading {
+    let count = aaru::open(image).expect("a disc of a history opens");
+    let beyond = [count, count + 1, 1 << 32, 1 << 63, u64::MAX];
+    let read = |address| match aaru::read(image, address) {
+        Ok(sector) => Ok(sector.bytes.to_vec()),
+        Err(refusal) => Err(refusal.number),
+    };
+    (0..count).chain(beyond).map(read).collect()
+}
+
+struct History<'a> {
+    sides: &'a mut Sides,
+    buffer: Vec<u8>,
+    used: u64,
+    /// Each returned index offset, and how the disc read then.
+    points: Vec<(u64, Reading)>,
+    now: Reading,
+    count: usize,
+}
+
+/// Histories of created discs and of built images.
+pub fn run(sides: &mut Sides, seed: u64, histories: usize) {
+    let mut random = Random::new(seed);
+    for number in 0..histories {
+        let started = match number % 3 {
+            0 => built(sides, &mut random),
+            _ => Some(created(sides, &mut random)),
+        };
+        if let Some(mut history) = started {
+            for _ in 0..5 + random.below(16) {
+                history.step(&mut random);
+            }
+            history.go_everywhere(&mut random);
+        }
+    }
+}
+
+fn created<'a>(sides: &'a mut Sides, random: &mut Random) -> History<'a> {
+    let sectors = 1 + random.below(8);
+    let room = 300 + random.below(3000);
+    let mut buffer = random.bytes(room);
+    let create = Call::Create(arguments::create(random, sectors as u64));
+    let (used, index) = sides.run_on(&mut buffer, 0, &create).unwrap();
+    start(sides, buffer, used, index)
+}
+
+/// None if a sector of the built image can't be read: then nothing can be committed either.
+fn built<'a>(sides: &'a mut Sides, random: &mut Random) -> Option<History<'a>> {
+    let image = Description::random(random).build(random);
+    let room = 300 + random.below(3000);
+    let buffer = with_room(&image, room, random);
+    let layout = Layout::of(&image);
+    let now = reading(&image);
+    let readable = now.iter().all(|read| matches!(read, Ok(_) | Err(20 | 21)));
+    readable.then(|| start(sides, buffer, image.len() as u64, layout.index as u64))
+}
+
+fn start(sides: &mut Sides, buffer: Vec<u8>, used: u64, index: u64) -> History<'_> {
+    let now = reading(&buffer[..used as usize]);
+    History {
+        sides,
+        used,
+        points: vec![(index, now.clone())],
+        count: aaru::open(&buffer[..used as usize]).unwrap() as usize,
+        buffer,
+        now,
+    }
+}
+
+impl History<'_> {
+    fn step(&mut self, random: &mut Random) {
+        match random.below(16) {
+            0 => self.refused_commit(random),
+            1 => self.telling_rollback(random),
+            2..=4 => {
+                let (offset, then) = random.pick(&self.points);
+                self.rollback(offset, then, random);
+            }
+            5 => self.commit(&Commit {
+                addresses: Vec::new(),
+                size: 1 + random.below(65_536) as u64,
+                sectors: Vec::new(),
+                time: random.number(),
+            }),
+            6 | 7 => {
+                let commit = self.exchange(random);
+                self.commit(&commit);
+            }
+            _ => self.commit(&arguments::commit(random, self.count)),
+        }
+    }
+
+    fn call(&mut self, call: &Call) -> Result<(u64, u64), u32> {
+        let answer = self.sides.run_on(&mut self.buffer, self.used, call);
+        if let Ok((used, _)) = answer {
+            self.used = used;
+        }
+        let before = std::mem::take(&mut self.now);
+        self.now = reading(&self.buffer[..self.used as usize]);
+        assert!(answer.is_ok() || self.now == before);
+        answer
+    }
+
+    /// The named addresses must read as handed in, every other as before.
+    fn commit(&mut self, commit: &Commit) {
+        let mut expected = self.now.clone();
+        let sectors = commit.sectors.chunks_exact(commit.size as usize);
+        for (&address, sector) in commit.addresses.iter().zip(sectors) {
+            expected[address as usize] = Ok(sector.to_vec());
+        }
+        match self.call(&Call::Commit(commit.clone())) {
+            Ok((_, index)) => {
+                assert_eq!(self.now, expected);
+                self.points.push((index, expected));
+            }
+            Err(number) => assert_eq!(number, 35),
+        }
+    }
+
+    /// Hands in sectors that stand elsewhere on the disc, at addresses that change as well.
+    fn exchange(&self, random: &mut Random) -> Commit {
+        let mut pool: Vec<Vec<u8>> = self.now.iter().flatten().cloned().collect();
+        pool.push(b"Z".to_vec());
+        let size = random.pick(&pool).len();
+        pool.retain(|sector| sector.len() == size);
+        let mut commit = arguments::commit(random, self.count);
+        let sectors = commit.addresses.iter().flat_map(|_| random.pick(&pool));
+        commit.sectors = sectors.collect();
+        commit.size = size as u64;
+        commit
+    }
+
+    fn refused_commit(&mut self, random: &mut Random) {
+        let mut commit = arguments::commit(random, self.count);
+        let size = commit.size as usize;
+        match random.below(5) {
+            0 => commit.size = random.pick(&[0, 65_537, 1 << 32, u64::MAX]),
+            1 => commit.sectors.push(0),
+            2 => commit.addresses.insert(0, self.count as u64),
+            3 => commit.addresses = vec![0, 0],
+            _ => commit.addresses = vec![self.count as u64],
+        }
+        if commit.addresses.contains(&(self.count as u64)) {
+            commit.sectors.resize(size * commit.addresses.len(), 1);
+        }
+        assert!(self.call(&Call::Commit(commit)).is_err());
+    }
+
+    fn telling_rollback(&mut self, random: &mut Random) {
+        let any = random.number() % self.used;
+        let (point, _) = random.pick(&self.points);
+        let near = [point - 1, point + 1, any, self.used - 20, self.used];
+        let offset = random.pick(&[&near[..], &[0, 71, 72, 1 << 32]].concat());
+        let known = self.points.iter().any(|(point, _)| *point == offset);
+        let answer = self.call(&Call::Rollback {
+            offset,
+            time: random.number(),
+        });
+        assert_eq!(answer.is_ok(), known);
+    }
+
+    /// Must be accepted and bring back how the disc read then.
+    fn rollback(&mut self, offset: u64, then: Reading, random: &mut Random) {
+        let time = random.number();
+        let answer = self.call(&Call::Rollback { offset, time });
+        assert_eq!(answer, Ok((self.used, offset)));
+        assert_eq!(self.now, then);
+    }
+
+    fn go_everywhere(&mut self, random: &mut Random) {
+        let mut points = self.points.clone();
+        random.shuffle(&mut points);
+        for (offset, then) in points {
+            self.rollback(offset, then, random);
+        }
+    }
+}

@@ -1,0 +1,775 @@
+//! Document 01 in plain Rust, in the paper's order: layouts, checksum, opening, reading, creating,
+//! committing, rolling back. It is written from the paper alone and shares no code with the
+//! library; it is there to compare the library with.
+
+use aaru::Creation;
+use std::collections::BTreeMap;
+
+// Layouts.
+
+const HEADER: u64 = 72;
+const INDEX: u64 = 20;
+const INDEX_ENTRY: u64 = 16;
+const BLOCK: u64 = 36;
+const TABLE: u64 = 49;
+const TABLE_ENTRY: u64 = 8;
+
+const AARUFRMT: u64 = u64::from_le_bytes(*b"AARUFRMT");
+const DICMFRMT: u64 = u64::from_le_bytes(*b"DICMFRMT");
+const IDX2: u64 = u32::from_le_bytes(*b"IDX2") as u64;
+const DBLK: u64 = u32::from_le_bytes(*b"DBLK") as u64;
+const DDT: u64 = u32::from_le_bytes(*b"DDT*") as u64;
+const CKSM: u64 = u32::from_le_bytes(*b"CKSM") as u64;
+
+const USER_DATA: u64 = 1;
+const NO_COMPRESSION: u64 = 0;
+
+/// The little-endian number of `width` bytes at `at` in a record.
+fn number(record: &[u8], at: usize, width: usize) -> u64 {
+    let bytes = record[at..at + width].iter().rev();
+    bytes.fold(0, |number, &byte| number << 8 | u64::from(byte))
+}
+
+/// Appends a little-endian number of `width` bytes.
+fn put(record: &mut Vec<u8>, number: u64, width: usize) {
+    record.extend_from_slice(&number.to_le_bytes()[..width]);
+}
+
+/// The `length` bytes from `start` on, or none if they run past the end. "All sums are whole
+/// numbers."
+fn part(image: &[u8], start: u64, length: impl Into<u128>) -> Option<&[u8]> {
+    let end = u128::from(start) + length.into();
+    if end > image.len() as u128 {
+        return None;
+    }
+    Some(&image[start as usize..end as usize])
+}
+
+#[derive(Clone, Copy)]
+struct IndexEntry {
+    block_type: u64,
+    data_type: u64,
+    offset: u64,
+}
+
+impl IndexEntry {
+    fn is_user_data(&self, block_type: u64) -> bool {
+        self.block_type == block_type && self.data_type == USER_DATA
+    }
+}
+
+/// What a table entry other than 0x0 means: an item of the block at a byte offset.
+#[derive(Clone, Copy)]
+struct Pointer {
+    offset: u64,
+    item: u64,
+}
+
+/// "Entry 0x0 means not written. Otherwise byte offset = entry / 2^shift, whole part, and item
+/// number = the remainder."
+fn decode(entry: u64, shift: u64) -> Option<Pointer> {
+    if entry == 0 {
+        return None;
+    }
+    Some(Pointer {
+        offset: entry / (1 << shift),
+        item: entry % (1 << shift),
+    })
+}
+
+/// The entry that `decode` takes apart. What is written lies below 2^32 and has a shift of at most
+/// 32, so that the entry fits its 8 bytes.
+fn encode(pointer: Option<Pointer>, shift: u64) -> u64 {
+    match pointer {
+        None => 0,
+        Some(pointer) => pointer.offset * (1 << shift) + pointer.item,
+    }
+}
+
+// Checksum.
+
+static CHECKSUM_TABLE: [u64; 256] = checksum_table();
+
+/// For each byte: "eight times shift right by one and, if a one fell out, exclusive-or
+/// 0xC96C5795D7870F42".
+const fn checksum_table() -> [u64; 256] {
+    let mut table = [0; 256];
+    let mut byte = 0;
+    while byte < 256 {
+        let mut sum = byte as u64;
+        let mut turn = 0;
+        while turn < 8 {
+            let fell_out = sum & 1;
+            sum >>= 1;
+            if fell_out == 1 {
+                sum ^= 0xC96C_5795_D787_0F42;
+            }
+            turn += 1;
+        }
+        table[byte] = sum;
+        byte += 1;
+    }
+    table
+}
+
+/// "Start with all 64 bits one; for each byte, exclusive-or it into the low 8 bits", take the eight
+/// turns; "at the end invert all bits".
+pub fn checksum(bytes: &[u8]) -> u64 {
+    let mut sum = u64::MAX;
+    for &byte in bytes {
+        let low = (sum as u8) ^ byte;
+        sum = (sum >> 8) ^ CHECKSUM_TABLE[usize::from(low)];
+    }
+    !sum
+}
+
+/// Whether cmpCrc64 and crc64, which stand at `at` in a header, are both the payload's checksum.
+fn checksums_right(header: &[u8], at: usize, payload: &[u8]) -> bool {
+    let sum = checksum(payload);
+    number(header, at, 8) == sum && number(header, at + 8, 8) == sum
+}
+
+// Opening.
+
+/// An opened image.
+struct Disc<'a> {
+    image: &'a [u8],
+    index: Vec<IndexEntry>,
+    table: &'a [u8],
+    count: u64,
+    shift: u64,
+}
+
+/// Opens an image and gives its number of sectors.
+pub fn open(image: &[u8]) -> Result<u64, u32> {
+    Ok(open_disc(image)?.count)
+}
+
+fn open_disc(image: &[u8]) -> Result<Disc<'_>, u32> {
+    let index_offset = open_header(image)?;
+    open_at(image, index_offset)
+}
+
+/// Opening, step 1. Gives indexOffset.
+fn open_header(image: &[u8]) -> Result<u64, u32> {
+    let header = part(image, 0, HEADER).ok_or(1u32)?;
+    let identifier = number(header, 0, 8);
+    if identifier != AARUFRMT && identifier != DICMFRMT {
+        return Err(2);
+    }
+    if number(header, 40, 1) != 2 {
+        return Err(3);
+    }
+    Ok(number(header, 48, 8))
+}
+
+/// Opening, steps 2 to 5, with the index at `index_offset`.
+fn open_at(image: &[u8], index_offset: u64) -> Result<Disc<'_>, u32> {
+    let index = open_index(image, index_offset)?;
+    let mut tables = index.iter().filter(|entry| entry.is_user_data(DDT));
+    let table_offset = tables.next().ok_or(9u32)?.offset;
+    if tables.next().is_some() {
+        return Err(10);
+    }
+    let (table, count, shift) = open_table(image, table_offset)?;
+    Ok(Disc {
+        image,
+        index,
+        table,
+        count,
+        shift,
+    })
+}
+
+/// Opening, steps 2 and 3. Gives the index entries.
+fn open_index(image: &[u8], index_offset: u64) -> Result<Vec<IndexEntry>, u32> {
+    if index_offset < HEADER {
+        return Err(4);
+    }
+    let header = part(image, index_offset, INDEX).ok_or(4u32)?;
+    if number(header, 0, 4) != IDX2 {
+        return Err(5);
+    }
+    let length = u128::from(INDEX_ENTRY) * u128::from(number(header, 4, 8));
+    let payload = part(image, index_offset + INDEX, length).ok_or(4u32)?;
+    if number(header, 12, 8) != checksum(payload) {
+        return Err(6);
+    }
+
+    let mut index = Vec::new();
+    for record in payload.chunks_exact(INDEX_ENTRY as usize) {
+        let entry = IndexEntry {
+            block_type: number(record, 0, 4),
+            data_type: number(record, 4, 4),
+            offset: number(record, 8, 8),
+        };
+        if entry.offset < HEADER {
+            return Err(7);
+        }
+        let identifier = part(image, entry.offset, 4u64).ok_or(7u32)?;
+        if number(identifier, 0, 4) != entry.block_type {
+            return Err(8);
+        }
+        index.push(entry);
+    }
+    Ok(index)
+}
+
+/// Opening, step 5. Gives the table's payload, count and shift.
+fn open_table(image: &[u8], offset: u64) -> Result<(&[u8], u64, u64), u32> {
+    let header = part(image, offset, TABLE).ok_or(11u32)?;
+    if number(header, 6, 2) != NO_COMPRESSION {
+        return Err(13);
+    }
+    let shift = number(header, 8, 1);
+    let count = number(header, 9, 8);
+    let cmp_length = number(header, 17, 8);
+    let length = number(header, 25, 8);
+    if number(header, 4, 2) != USER_DATA
+        || shift > 32
+        || u128::from(length) != u128::from(TABLE_ENTRY) * u128::from(count)
+        || cmp_length != length
+    {
+        return Err(12);
+    }
+    let payload = part(image, offset + TABLE, length).ok_or(11u32)?;
+    if !checksums_right(header, 33, payload) {
+        return Err(14);
+    }
+    Ok((payload, count, shift))
+}
+
+// Reading a sector.
+
+/// Reads a sector: the place of its first byte in the image, and its size.
+pub fn locate(image: &[u8], address: u64) -> Result<(u64, u64), u32> {
+    read(&open_disc(image)?, address, &mut BTreeMap::new())
+}
+
+/// What the table holds for an address below the count.
+fn pointer(disc: &Disc, address: u64) -> Option<Pointer> {
+    let entry = number(disc.table, (TABLE_ENTRY * address) as usize, 8);
+    decode(entry, disc.shift)
+}
+
+/// Reading's checks after the opening. `right` remembers, by the block's offset, whether a block's
+/// checksums are right, so that many reads of one disc compute them once.
+fn read(disc: &Disc, address: u64, right: &mut BTreeMap<u64, bool>) -> Result<(u64, u64), u32> {
+    if address >= disc.count {
+        return Err(20);
+    }
+    let Pointer { offset, item } = pointer(disc, address).ok_or(21u32)?;
+    let mut blocks = disc.index.iter().filter(|entry| entry.is_user_data(DBLK));
+    if !blocks.any(|entry| entry.offset == offset) {
+        return Err(22);
+    }
+    let header = part(disc.image, offset, BLOCK).ok_or(23u32)?;
+    if number(header, 6, 2) != NO_COMPRESSION {
+        return Err(24);
+    }
+    let sector_size = number(header, 8, 4);
+    let cmp_length = number(header, 12, 4);
+    let length = number(header, 16, 4);
+    if number(header, 4, 2) != USER_DATA
+        || sector_size == 0
+        || cmp_length != length
+        || length.checked_rem(sector_size) != Some(0)
+    {
+        return Err(25);
+    }
+    let payload = part(disc.image, offset + BLOCK, length).ok_or(23u32)?;
+    if item >= length / sector_size {
+        return Err(26);
+    }
+    let block_right = right.entry(offset);
+    if !*block_right.or_insert_with(|| checksums_right(header, 20, payload)) {
+        return Err(27);
+    }
+    Ok((offset + BLOCK + item * sector_size, sector_size))
+}
+
+// Creating, committing, rolling back.
+
+const MOST_BYTES: u64 = 4_294_967_296;
+const MOST_SECTORS: u64 = 1_048_576;
+const MOST_SECTOR_SIZE: u64 = 65_536;
+const MOST_ADDRESSES: usize = 65_536;
+
+/// Creates a disc whose sectors are all not written. Gives `used` and the index's offset.
+pub fn create(buffer: &mut [u8], creation: &Creation) -> Result<(u64, u64), u32> {
+    if buffer.len() as u64 > MOST_BYTES {
+        return Err(31);
+    }
+    if creation.sectors == 0 || creation.sectors > MOST_SECTORS {
+        return Err(30);
+    }
+    if creation.application.len() != 32 {
+        return Err(33);
+    }
+    let table_offset = HEADER;
+    let index_offset = table_offset + TABLE + TABLE_ENTRY * creation.sectors;
+    let used = index_offset + INDEX + INDEX_ENTRY;
+    if used > buffer.len() as u64 {
+        return Err(35);
+    }
+
+    let mut image = Vec::new();
+    put(&mut image, AARUFRMT, 8);
+    image.extend_from_slice(creation.application);
+    image.extend_from_slice(&[2, 0, creation.major, creation.minor]);
+    put(&mut image, u64::from(creation.media_type), 4);
+    put(&mut image, index_offset, 8);
+    put(&mut image, creation.created, 8);
+    put(&mut image, creation.written, 8);
+    put_table(&mut image, &vec![None; creation.sectors as usize], 0);
+    let table_entry = IndexEntry {
+        block_type: DDT,
+        data_type: USER_DATA,
+        offset: table_offset,
+    };
+    put_index(&mut image, &[table_entry]);
+    buffer[..used as usize].copy_from_slice(&image);
+    Ok((used, index_offset))
+}
+
+/// Commits sectors of one size at rising addresses. Gives the new `used` and the new index's
+/// offset.
+pub fn commit(
+    buffer: &mut [u8],
+    used: u64,
+    addresses: &[u64],
+    size: u64,
+    sectors: &[u8],
+    time: u64,
+) -> Result<(u64, u64), u32> {
+    let image = lent_image(buffer, used)?;
+    if size == 0 || size > MOST_SECTOR_SIZE || addresses.len() > MOST_ADDRESSES {
+        return Err(30);
+    }
+    if sectors.len() as u64 != addresses.len() as u64 * size {
+        return Err(33);
+    }
+    if addresses.windows(2).any(|pair| pair[0] >= pair[1]) {
+        return Err(34);
+    }
+    let disc = open_disc(image)?;
+    if addresses.iter().any(|&address| address >= disc.count) {
+        return Err(20);
+    }
+    let old = old_sectors(&disc)?;
+
+    // "Equal sectors are stored once." A sector of this commit is an item of the block at `used`.
+    let mut table: Vec<Option<Pointer>> = (0..disc.count).map(|n| pointer(&disc, n)).collect();
+    let mut stored: Vec<&[u8]> = Vec::new();
+    for (&address, sector) in addresses.iter().zip(sectors.chunks_exact(size as usize)) {
+        let equal_old = old.iter().find(|(_, bytes)| *bytes == sector);
+        let pointer = match equal_old {
+            Some(&(pointer, _)) => pointer,
+            None => Pointer {
+                offset: used,
+                item: store_once(&mut stored, sector),
+            },
+        };
+        table[address as usize] = Some(pointer);
+    }
+
+    // "Appended at `used`, without gaps: one data block if anything is stored; a table of the same
+    // count; an index." As `used` is at most 2^32, these sums stay far below 2^64.
+    let block_length = match stored.len() as u64 {
+        0 => 0,
+        items => BLOCK + items * size,
+    };
+    let block_offset = (!stored.is_empty()).then_some(used);
+    let table_offset = used + block_length;
+    let index_offset = table_offset + TABLE + TABLE_ENTRY * disc.count;
+    let index = new_index(&disc.index, table_offset, block_offset);
+    let new_used = index_offset + INDEX + INDEX_ENTRY * index.len() as u64;
+    if new_used > buffer.len() as u64 {
+        return Err(35);
+    }
+
+    let mut appended = Vec::new();
+    if !stored.is_empty() {
+        put_block(&mut appended, size, &stored.concat());
+    }
+    put_table(&mut appended, &table, smallest_shift(&table));
+    put_index(&mut appended, &index);
+    buffer[used as usize..new_used as usize].copy_from_slice(&appended);
+    set_header(buffer, index_offset, time);
+    Ok((new_used, index_offset))
+}
+
+/// Goes back, or forward again, to the index at `offset`. Gives `used` and that offset.
+pub fn rollback(buffer: &mut [u8], used: u64, offset: u64, time: u64) -> Result<(u64, u64), u32> {
+    let image = lent_image(buffer, used)?;
+    open_header(image)?;
+    open_at(image, offset)?;
+    set_header(buffer, offset, time);
+    Ok((used, offset))
+}
+
+/// "The image is the first `used` bytes of a lent buffer." Checks 31 and 32.
+fn lent_image(buffer: &[u8], used: u64) -> Result<&[u8], u32> {
+    if buffer.len() as u64 > MOST_BYTES {
+        return Err(31);
+    }
+    part(buffer, 0, used).ok_or(32)
+}
+
+/// The written sectors of a disc by rising address, each with its pointer; "the first that reads as
+/// a refusal other than 21 gives that number".
+fn old_sectors<'a>(disc: &Disc<'a>) -> Result<Vec<(Pointer, &'a [u8])>, u32> {
+    let mut old = Vec::new();
+    let mut right = BTreeMap::new();
+    for address in 0..disc.count {
+        let Some(pointer) = pointer(disc, address) else {
+            continue;
+        };
+        let (place, size) = read(disc, address, &mut right)?;
+        let bytes = &disc.image[place as usize..(place + size) as usize];
+        old.push((pointer, bytes));
+    }
+    Ok(old)
+}
+
+/// The item number of the first stored sector with these bytes. "Exactly if there is none, the
+/// sector is stored as the next item."
+fn store_once<'a>(stored: &mut Vec<&'a [u8]>, sector: &'a [u8]) -> u64 {
+    let item = match stored.iter().position(|&bytes| bytes == sector) {
+        Some(item) => item,
+        None => {
+            stored.push(sector);
+            stored.len() - 1
+        }
+    };
+    item as u64
+}
+
+/// "The table's shift is the smallest shift that every item number fits under (each one in the new
+/// table is below 2^shift)."
+fn smallest_shift(table: &[Option<Pointer>]) -> u64 {
+    let items = table.iter().flatten().map(|pointer| pointer.item);
+    let largest = items.max().unwrap_or(0);
+    let mut shift = 0;
+    while largest >= 1 << shift {
+        shift += 1;
+    }
+    shift
+}
+
+/// "The index holds the old entries in order, the table's entry replaced in its place, every 'CKSM'
+/// entry left out (004 calls it stale), and the new data block's entry (dataType 1) last."
+fn new_index(old: &[IndexEntry], table_offset: u64, block_offset: Option<u64>) -> Vec<IndexEntry> {
+    let mut index = Vec::new();
+    for &entry in old {
+        if entry.is_user_data(DDT) {
+            index.push(IndexEntry {
+                offset: table_offset,
+                ..entry
+            });
+        } else if entry.block_type != CKSM {
+            index.push(entry);
+        }
+    }
+    if let Some(offset) = block_offset {
+        index.push(IndexEntry {
+            block_type: DBLK,
+            data_type: USER_DATA,
+            offset,
+        });
+    }
+    index
+}
+
+/// Appends a data block of sectors of one size.
+fn put_block(image: &mut Vec<u8>, sector_size: u64, payload: &[u8]) {
+    let sum = checksum(payload);
+    put(image, DBLK, 4);
+    put(image, USER_DATA, 2);
+    put(image, NO_COMPRESSION, 2);
+    put(image, sector_size, 4);
+    put(image, payload.len() as u64, 4);
+    put(image, payload.len() as u64, 4);
+    put(image, sum, 8);
+    put(image, sum, 8);
+    image.extend_from_slice(payload);
+}
+
+/// Appends a table, its entries encoded for `shift`.
+fn put_table(image: &mut Vec<u8>, table: &[Option<Pointer>], shift: u64) {
+    let mut payload = Vec::new();
+    for &pointer in table {
+        put(&mut payload, encode(pointer, shift), 8);
+    }
+    let sum = checksum(&payload);
+    put(image, DDT, 4);
+    put(image, USER_DATA, 2);
+    put(image, NO_COMPRESSION, 2);
+    put(image, shift, 1);
+    put(image, table.len() as u64, 8);
+    put(image, payload.len() as u64, 8);
+    put(image, payload.len() as u64, 8);
+    put(image, sum, 8);
+    put(image, sum, 8);
+    image.extend_from_slice(&payload);
+}
+
+/// Appends an index.
+fn put_index(image: &mut Vec<u8>, index: &[IndexEntry]) {
+    let mut payload = Vec::new();
+    for entry in index {
+        put(&mut payload, entry.block_type, 4);
+        put(&mut payload, entry.data_type, 4);
+        put(&mut payload, entry.offset, 8);
+    }
+    put(image, IDX2, 4);
+    put(image, index.len() as u64, 8);
+    put(image, checksum(&payload), 8);
+    image.extend_from_slice(&payload);
+}
+
+/// Sets indexOffset and lastWrittenTime.
+fn set_header(buffer: &mut [u8], index_offset: u64, time: u64) {
+    buffer[48..56].copy_from_slice(&index_offset.to_le_bytes());
+    buffer[64..72].copy_from_slice(&time.to_le_bytes());
+}
+
+/// "A small disc, worked out."
+mod tests {
+    use super::*;
+
+    /// A buffer with the disc of P1 in it, and some bytes to spare.
+    fn p1() -> Vec<u8> {
+        let mut buffer = vec![0xEE; 700];
+        assert_eq!(create_disc(&mut buffer, 3), Ok((181, 145)));
+        buffer
+    }
+
+    fn p2() -> Vec<u8> {
+        let mut buffer = p1();
+        let result = commit(&mut buffer, 181, &[0, 2], 4, b"AAAABBBB", 7);
+        assert_eq!(result, Ok((350, 298)));
+        buffer
+    }
+
+    fn p3() -> Vec<u8> {
+        let mut buffer = p2();
+        let result = commit(&mut buffer, 350, &[1], 4, b"AAAA", 8);
+        assert_eq!(result, Ok((475, 423)));
+        buffer
+    }
+
+    fn p4() -> Vec<u8> {
+        let mut buffer = p3();
+        assert_eq!(rollback(&mut buffer, 475, 298, 9), Ok((475, 298)));
+        buffer
+    }
+
+    fn create_disc(buffer: &mut [u8], sectors: u64) -> Result<(u64, u64), u32> {
+        let creation = Creation {
+            sectors,
+            application: b"0123456789abcdef0123456789ABCDEF",
+            major: 5,
+            minor: 6,
+            media_type: 0x0403_0201,
+            created: 3,
+            written: 4,
+        };
+        create(buffer, &creation)
+    }
+
+    /// The index entries of the image in use.
+    fn index(image: &[u8]) -> Vec<(u64, u64, u64)> {
+        let disc = open_disc(image).ok().unwrap();
+        let entries = disc.index.iter();
+        entries
+            .map(|entry| (entry.block_type, entry.data_type, entry.offset))
+            .collect()
+    }
+
+    /// The shift and the entries of the table in use.
+    fn table(image: &[u8]) -> (u64, Vec<u64>) {
+        let disc = open_disc(image).ok().unwrap();
+        let entries = disc.table.chunks_exact(8);
+        (
+            disc.shift,
+            entries.map(|entry| number(entry, 0, 8)).collect(),
+        )
+    }
+
+    fn sector(image: &[u8], address: u64) -> Result<&[u8], u32> {
+        let (place, size) = locate(image, address)?;
+        Ok(&image[place as usize..(place + size) as usize])
+    }
+
+    /// Asserts that two buffers are the same outside the given bytes.
+    fn same_outside(old: &[u8], new: &[u8], changed: &[std::ops::Range<usize>]) {
+        assert_eq!(old.len(), new.len());
+        for at in 0..old.len() {
+            let free = changed.iter().any(|range| range.contains(&at));
+            assert!(free || old[at] == new[at], "byte {at}");
+        }
+    }
+
+    #[test]
+    fn p1_create() {
+        let buffer = p1();
+        let image = &buffer[..181];
+        assert_eq!(&image[..8], b"AARUFRMT");
+        assert_eq!(&image[8..40], b"0123456789abcdef0123456789ABCDEF");
+        assert_eq!(&image[40..48], [2, 0, 5, 6, 1, 2, 3, 4]);
+        assert_eq!(number(image, 48, 8), 145);
+        assert_eq!(number(image, 56, 8), 3);
+        assert_eq!(number(image, 64, 8), 4);
+        assert_eq!(&image[72..76], b"DDT*");
+        assert_eq!(&image[145..149], b"IDX2");
+        assert_eq!(index(image), [(DDT, 1, 72)]);
+        assert_eq!(table(image), (0, vec![0, 0, 0]));
+        assert_eq!(open(image), Ok(3));
+        assert_eq!(locate(image, 0), Err(21));
+        assert_eq!(locate(image, 3), Err(20));
+        assert!(buffer[181..].iter().all(|&byte| byte == 0xEE));
+        assert_eq!(create_disc(&mut [0; 180], 3), Err(35));
+    }
+
+    #[test]
+    fn p2_commit() {
+        let buffer = p2();
+        let image = &buffer[..350];
+        assert_eq!(&image[181..185], b"DBLK");
+        assert_eq!(&image[225..229], b"DDT*");
+        assert_eq!(&image[298..302], b"IDX2");
+        assert_eq!(number(image, 48, 8), 298);
+        assert_eq!(number(image, 64, 8), 7);
+        assert_eq!(index(image), [(DDT, 1, 225), (DBLK, 1, 181)]);
+        assert_eq!(table(image), (1, vec![362, 0, 363]));
+        assert_eq!(sector(image, 0), Ok(&b"AAAA"[..]));
+        assert_eq!(sector(image, 1), Err(21));
+        assert_eq!(sector(image, 2), Ok(&b"BBBB"[..]));
+        same_outside(&p1(), &buffer, &[48..56, 64..72, 181..350]);
+    }
+
+    #[test]
+    fn p3_commit_of_an_equal_sector() {
+        let buffer = p3();
+        let image = &buffer[..475];
+        assert_eq!(&image[350..354], b"DDT*");
+        assert_eq!(&image[423..427], b"IDX2");
+        assert_eq!(index(image), [(DDT, 1, 350), (DBLK, 1, 181)]);
+        assert_eq!(table(image), (1, vec![362, 362, 363]));
+        assert_eq!(open(image), Ok(3));
+        assert_eq!(locate(image, 0), Ok((217, 4)));
+        assert_eq!(locate(image, 1), Ok((217, 4)));
+        assert_eq!(locate(image, 2), Ok((221, 4)));
+        same_outside(&p2(), &buffer, &[48..56, 64..72, 350..475]);
+    }
+
+    #[test]
+    fn p4_p5_rollback_and_back() {
+        let mut buffer = p4();
+        assert_eq!(locate(&buffer[..475], 1), Err(21));
+        assert_eq!(number(&buffer, 48, 8), 298);
+        assert_eq!(number(&buffer, 64, 8), 9);
+        same_outside(&p3(), &buffer, &[48..56, 64..72]);
+        assert_eq!(rollback(&mut buffer, 475, 423, 10), Ok((475, 423)));
+        assert_eq!(sector(&buffer[..475], 1), Ok(&b"AAAA"[..]));
+    }
+
+    #[test]
+    fn p6_commit_after_rollback() {
+        let mut buffer = p4();
+        let result = commit(&mut buffer, 475, &[1], 4, b"BBBB", 11);
+        assert_eq!(result, Ok((600, 548)));
+        assert_eq!(table(&buffer[..600]), (1, vec![362, 363, 363]));
+        same_outside(&p4(), &buffer, &[48..56, 64..72, 475..600]);
+    }
+
+    #[test]
+    fn p7_empty_commit() {
+        let mut buffer = p1();
+        assert_eq!(commit(&mut buffer, 181, &[], 4, b"", 12), Ok((290, 254)));
+        assert_eq!(index(&buffer[..290]), [(DDT, 1, 181)]);
+        assert_eq!(table(&buffer[..290]), (0, vec![0, 0, 0]));
+    }
+
+    #[test]
+    fn p8_smallest_shift() {
+        for (largest, shift) in [0, 1, 2, 2, 3].into_iter().enumerate() {
+            let mut buffer = vec![0; 400];
+            let (used, _) = create_disc(&mut buffer, 5).unwrap();
+            let addresses = &[0, 1, 2, 3, 4][..=largest];
+            let sectors = &b"abcde"[..=largest];
+            let (used, _) = commit(&mut buffer, used, addresses, 1, sectors, 0).unwrap();
+            assert_eq!(table(&buffer[..used as usize]).0, shift);
+        }
+    }
+
+    #[test]
+    fn p9_index_offset_past_the_end() {
+        for (offset, refusal) in [(4_294_967_295, 4), (162, 4), (71, 4), (161, 5)] {
+            let mut buffer = p1();
+            set_header(&mut buffer, offset, 4);
+            assert_eq!(open(&buffer[..181]), Err(refusal));
+            assert_eq!(rollback(&mut p1(), 181, offset, 4), Err(refusal));
+        }
+    }
+
+    #[test]
+    fn p10_block_length_past_the_end() {
+        let mut buffer = p2();
+        for at in [181 + 12, 181 + 16] {
+            buffer[at..at + 4].copy_from_slice(&4_294_967_292u32.to_le_bytes());
+        }
+        assert_eq!(locate(&buffer[..350], 0), Err(23));
+        let damaged = buffer.clone();
+        assert_eq!(commit(&mut buffer, 350, &[1], 4, b"AAAA", 8), Err(23));
+        assert_eq!(buffer, damaged);
+    }
+
+    #[test]
+    fn p11_checksum() {
+        assert_eq!(checksum(b""), 0);
+        assert_eq!(checksum(b"123456789"), 0x995D_C9BB_DF19_39FA);
+    }
+
+    #[test]
+    fn p12_pointer() {
+        let pointer = decode(0x8003, 5).unwrap();
+        assert_eq!((pointer.offset, pointer.item), (1024, 3));
+        assert_eq!(encode(Some(pointer), 5), 0x8003);
+    }
+
+    /// P1's disc with an index that also names a 'CKSM' block and a table of another data type.
+    #[test]
+    fn commit_leaves_out_cksm() {
+        let mut image = p1();
+        image.truncate(181);
+        image.extend_from_slice(b"CKSM");
+        let entry = |block_type, data_type, offset| IndexEntry {
+            block_type,
+            data_type,
+            offset,
+        };
+        let entries = [entry(CKSM, 0, 181), entry(DDT, 2, 72), entry(DDT, 1, 72)];
+        put_index(&mut image, &entries);
+        set_header(&mut image, 185, 4);
+        image.resize(600, 0);
+        let result = commit(&mut image, 253, &[1], 4, b"AAAA", 7);
+        assert_eq!(result, Ok((434, 366)));
+        let expected = [(DDT, 2, 72), (DDT, 1, 293), (DBLK, 1, 253)];
+        assert_eq!(index(&image[..434]), expected);
+    }
+
+    #[test]
+    fn refused_addresses() {
+        let cases: [(&[u64], u32); 3] = [(&[1, 1], 34), (&[2, 1], 34), (&[1, 3], 20)];
+        for (addresses, refusal) in cases {
+            let mut buffer = p2();
+            let result = commit(&mut buffer, 350, addresses, 4, b"CCCCDDDD", 8);
+            assert_eq!(result, Err(refusal));
+            assert_eq!(buffer, p2());
+        }
+        assert_eq!(locate(&p2()[..350], 3), Err(20));
+        assert_eq!(commit(&mut p2(), 350, &[3], 4, b"CCCC", 8), Err(20));
+    }
+}

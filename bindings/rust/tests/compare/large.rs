@@ -1,0 +1,99 @@
+//! A few large inputs, at the limits of what a call takes.
+
+use crate::arguments;
+use crate::random::Random;
+use crate::sides::{Call, Commit, Sides};
+
+pub fn run(sides: &mut Sides, seed: u64) {
+    let mut random = Random::new(seed);
+    many_sectors(sides, &mut random);
+    most_sectors(sides, &mut random);
+    largest_sectors(sides, &mut random);
+    most_addresses(sides, &mut random);
+}
+
+fn created(sides: &mut Sides, room: usize, sectors: u64, random: &mut Random) -> (Vec<u8>, u64) {
+    let mut buffer = vec![0xEE; room];
+    let create = Call::Create(arguments::create(random, sectors));
+    let (used, _) = sides.run_on(&mut buffer, 0, &create).expect("room enough");
+    (buffer, used)
+}
+
+/// Some hundred different sectors in each commit, for shifts up to 9.
+fn many_sectors(sides: &mut Sides, random: &mut Random) {
+    let (mut buffer, mut used) = created(sides, 100_000, 1000, random);
+    let mut offsets = Vec::new();
+    for _ in 0..6 {
+        let mut commit = arguments::commit(random, 1000);
+        commit.sectors = random.bytes(commit.sectors.len());
+        let answer = sides.run_on(&mut buffer, used, &Call::Commit(commit));
+        let (grown, offset) = answer.expect("room enough");
+        used = grown;
+        offsets.push(offset);
+    }
+    for offset in offsets {
+        let rollback = Call::Rollback { offset, time: 1 };
+        assert_eq!(sides.run(&buffer, used, &rollback), Ok((used, offset)));
+    }
+}
+
+fn most_sectors(sides: &mut Sides, random: &mut Random) {
+    let most = 1_048_576;
+    let (mut buffer, used) = created(sides, 17_000_000, most, random);
+    let more = Call::Create(arguments::create(random, most + 1));
+    assert_eq!(sides.run(&buffer, 0, &more), Err(30));
+    let commit = Call::Commit(Commit {
+        addresses: vec![0, 77, most - 1],
+        size: 3,
+        sectors: b"AAABBBAAA".to_vec(),
+        time: 1,
+    });
+    let answer = sides.run_on(&mut buffer, used, &commit);
+    let (used, index) = answer.expect("room enough");
+    let rollback = Call::Rollback {
+        offset: index,
+        time: 2,
+    };
+    assert_eq!(sides.run(&buffer, used, &rollback), Ok((used, index)));
+}
+
+fn largest_sectors(sides: &mut Sides, random: &mut Random) {
+    let size = 65_536;
+    let (buffer, used) = created(sides, 500_000, 5, random);
+    let mut commit = Commit {
+        addresses: vec![0, 1, 4],
+        size: size as u64,
+        sectors: random.bytes(3 * size),
+        time: 3,
+    };
+    sides.compare(&buffer, used, &Call::Commit(commit.clone()));
+    // Equal to the first but for the last byte.
+    commit.sectors.copy_within(..size, size);
+    commit.sectors[2 * size - 1] ^= 1;
+    let call = Call::Commit(commit.clone());
+    assert!(sides.run(&buffer, used, &call).is_ok());
+    commit.size += 1;
+    commit.sectors.extend([0; 3]);
+    assert_eq!(sides.run(&buffer, used, &Call::Commit(commit)), Err(30));
+}
+
+/// The sectors are equal to the first one, which makes the search short.
+fn most_addresses(sides: &mut Sides, random: &mut Random) {
+    let most = 65_536;
+    let (mut buffer, used) = created(sides, 3_000_000, most + 1, random);
+    let mut commit = Commit {
+        addresses: vec![0],
+        size: 1,
+        sectors: vec![b'A'],
+        time: 4,
+    };
+    let answer = sides.run_on(&mut buffer, used, &Call::Commit(commit.clone()));
+    let (used, _) = answer.expect("room enough");
+    commit.addresses = (0..most).collect();
+    commit.sectors = vec![b'A'; most as usize];
+    let call = Call::Commit(commit.clone());
+    assert!(sides.run(&buffer, used, &call).is_ok());
+    commit.addresses.push(most);
+    commit.sectors.push(b'A');
+    assert_eq!(sides.run(&buffer, used, &Call::Commit(commit)), Err(30));
+}

@@ -1,0 +1,169 @@
+//! Two faults at once: a call that is accepted, and any two faults each of which alone is refused,
+//! with another number than the other. Which number both give is decided by the order of checks.
+
+use crate::arguments::{self, with_room};
+use crate::faults::{self, clash, with, Edit::*, Fault, Input};
+use crate::images;
+use crate::layout::Layout;
+use crate::random::Random;
+use crate::sides::{Answer, Call, Sides};
+
+pub fn run(sides: &mut Sides, seed: u64, images: usize) {
+    let mut random = Random::new(seed);
+    for number in 0..images {
+        let image = images::base(number, &mut random);
+        let layout = Layout::of(&image);
+        if faults::read_addresses(&image, &layout).is_empty() {
+            continue;
+        }
+        open(sides, &image, &layout, &mut random);
+        locate(sides, &image, &layout, &mut random);
+        commit(sides, &image, &layout, &mut random);
+        rollback(sides, &image, &layout, &mut random);
+        create(sides, &mut random);
+    }
+}
+
+/// The order of checks, which is the same for all calls as far as they have them.
+const ORDER: [u32; 28] = [
+    31, 32, 30, 33, 34, 1, 2, 3, 4, 5, 6, 7, 8, 9, 10, 11, 13, 12, 14, 20, 21, 22, 23, 24, 25, 26,
+    27, 35,
+];
+
+/// Runs the base, every fault alone, and two of them with different numbers at once: those that
+/// are near each other in the order of checks always, the rest sometimes.
+fn pairs(
+    sides: &mut Sides,
+    base: &Input,
+    layout: &Layout,
+    faults: Vec<Fault>,
+    random: &mut Random,
+) {
+    run_input(sides, base).expect("the base is accepted");
+    let mut refused = Vec::new();
+    for fault in faults {
+        if let Err(number) = run_input(sides, &with(base, layout, &fault)) {
+            refused.push((number, fault));
+        }
+    }
+    let met = |number: &&u32| refused.iter().any(|(met, _)| met == *number);
+    let order: Vec<u32> = ORDER.iter().filter(met).copied().collect();
+    let place = |number| order.iter().position(|met| *met == number).unwrap();
+    for (second, (number, fault)) in refused.iter().enumerate() {
+        for (other_number, other) in &refused[..second] {
+            let distance = place(*number).abs_diff(place(*other_number));
+            let wanted = (1..=2).contains(&distance) || distance > 2 && random.once_in(4);
+            if wanted && !clash(fault, other) {
+                let both = [&fault[..], &other[..]].concat();
+                // Some mend each other: the table's entry loses its data type, another gets it.
+                if run_input(sides, &with(base, layout, &both)).is_err() {
+                    sides.tally.two_faults += 1;
+                }
+            }
+        }
+    }
+}
+
+fn run_input(sides: &mut Sides, input: &Input) -> Answer {
+    sides.run(&input.buffer, input.used, &input.call)
+}
+
+fn open(sides: &mut Sides, image: &[u8], layout: &Layout, random: &mut Random) {
+    let base = Input {
+        buffer: image.to_vec(),
+        used: image.len() as u64,
+        call: Call::Open,
+    };
+    let faults = faults::of_opening(image, layout);
+    pairs(sides, &base, layout, faults, random);
+}
+
+fn locate(sides: &mut Sides, image: &[u8], layout: &Layout, random: &mut Random) {
+    let count = layout.count as u64;
+    let address = random.pick(&faults::read_addresses(image, layout));
+    let base = Input {
+        buffer: image.to_vec(),
+        used: image.len() as u64,
+        call: Call::Locate(address),
+    };
+    let mut faults = faults::of_opening(image, layout);
+    faults.extend(faults::of_reading(image, layout, address));
+    faults.extend((0..=count).map(|address| vec![Address(address)]));
+    faults.push(vec![Address(u64::MAX)]);
+    pairs(sides, &base, layout, faults, random);
+}
+
+fn commit(sides: &mut Sides, image: &[u8], layout: &Layout, random: &mut Random) {
+    let used = image.len() as u64;
+    let commit = loop {
+        let commit = arguments::commit(random, layout.count);
+        if commit.addresses.len() >= 3 {
+            break commit;
+        }
+    };
+    let mut base = Input {
+        buffer: with_room(image, 1000, random),
+        used,
+        call: Call::Commit(commit.clone()),
+    };
+    let (needed, _) = run_input(sides, &base).expect("there is room");
+    base.buffer.truncate(needed as usize + random.below(3));
+
+    let mut faults = faults::of_opening(image, layout);
+    for address in faults::read_addresses(image, layout) {
+        faults.extend(faults::of_reading(image, layout, address));
+    }
+    let (bytes, second) = (commit.sectors.len(), commit.addresses[1]);
+    faults.extend([
+        vec![Used(base.buffer.len() as u64 + 1)],
+        vec![Used(u64::MAX)],
+        vec![Size(0)],
+        vec![Size(65_537)],
+        vec![BytesLength(bytes - 1)],
+        vec![BytesLength(bytes + 1)],
+        vec![BytesLength(bytes - commit.size as usize)],
+        vec![FirstAddress(second)],
+        vec![FirstAddress(second + 1)],
+        vec![LastAddress(layout.count as u64)],
+        vec![LastAddress(u64::MAX)],
+        vec![BufferLength(needed as usize - 1)],
+        vec![BufferLength(image.len())],
+    ]);
+    if random.once_in(5) {
+        faults.push(vec![AddressCount(65_537)]);
+    }
+    pairs(sides, &base, layout, faults, random);
+}
+
+fn rollback(sides: &mut Sides, image: &[u8], layout: &Layout, random: &mut Random) {
+    let (used, index) = (image.len() as u64, layout.index as u64);
+    let base = Input {
+        buffer: with_room(image, 9, random),
+        used,
+        call: Call::Rollback {
+            offset: index,
+            time: random.number(),
+        },
+    };
+    let mut faults = faults::of_opening(image, layout);
+    faults.extend([vec![Used(used + 10)], vec![Used(u64::MAX)]]);
+    for offset in [0, 71, used - 19, used, index + 1, (1 << 32) - 1, u64::MAX] {
+        faults.push(vec![Offset(offset)]);
+    }
+    pairs(sides, &base, layout, faults, random);
+}
+
+fn create(sides: &mut Sides, random: &mut Random) {
+    let sectors = 1 + random.below(9) as u64;
+    let needed = 157 + 8 * sectors as usize;
+    let base = Input {
+        buffer: random.bytes(needed + 1),
+        used: 0,
+        call: Call::Create(arguments::create(random, sectors)),
+    };
+    let mut faults: Vec<Fault> = Vec::new();
+    faults.extend([0, 1_048_577, u64::MAX].map(|sectors| vec![Sectors(sectors)]));
+    faults.extend([0, 31, 33].map(|length| vec![ApplicationLength(length)]));
+    faults.extend([0, 72, needed - 1].map(|length| vec![BufferLength(length)]));
+    pairs(sides, &base, &Layout::default(), faults, random);
+}

@@ -1,0 +1,282 @@
+//! One input run by the library, by its safe wrapper and by the independent implementation, and
+//! everything that they give compared.
+
+use crate::independent;
+use crate::random::Random;
+use crate::tally::Tally;
+use aaru::{ffi, Creation, Placed, Refusal};
+
+/// A call without its buffer. For opening and reading the image is the buffer's first `used` bytes.
+#[derive(Clone, Debug)]
+pub enum Call {
+    Open,
+    Locate(u64),
+    Create(Create),
+    Commit(Commit),
+    Rollback { offset: u64, time: u64 },
+}
+
+#[derive(Clone, Debug)]
+pub struct Create {
+    pub sectors: u64,
+    pub application: Vec<u8>,
+    pub major: u8,
+    pub minor: u8,
+    pub media_type: u32,
+    pub created: u64,
+    pub written: u64,
+}
+
+#[derive(Clone, Debug)]
+pub struct Commit {
+    pub addresses: Vec<u64>,
+    pub size: u64,
+    pub sectors: Vec<u8>,
+    pub time: u64,
+}
+
+impl Create {
+    fn about(&self) -> Creation<'_> {
+        Creation {
+            sectors: self.sectors,
+            application: &self.application,
+            major: self.major,
+            minor: self.minor,
+            media_type: self.media_type,
+            created: self.created,
+            written: self.written,
+        }
+    }
+}
+
+impl Call {
+    /// Its place in `tally::CALLS`.
+    pub fn column(&self) -> usize {
+        match self {
+            Call::Open => 0,
+            Call::Locate(_) => 1,
+            Call::Create(_) => 2,
+            Call::Commit(_) => 3,
+            Call::Rollback { .. } => 4,
+        }
+    }
+
+    fn writes(&self) -> bool {
+        self.column() >= 2
+    }
+}
+
+/// Count and 0, start and size, or `used` and index offset; or the refusal's number.
+pub type Answer = Result<(u64, u64), u32>;
+
+/// What the library must leave in the places for its answer when it refuses.
+const UNTOUCHED: (u64, u64) = (0x0123_4567_89AB_CDEF, 0xFEDC_BA98_7654_3210);
+
+/// The C call.
+pub fn raw(buffer: &mut [u8], used: u64, call: &Call) -> Answer {
+    let (mut first, mut second) = UNTOUCHED;
+    let (start, length) = (buffer.as_mut_ptr(), buffer.len());
+    // SAFETY: all slices are valid for their lengths, and the buffer is borrowed alone.
+    let number = unsafe {
+        match call {
+            Call::Open => ffi::aaru_open(start, used as usize, &mut first),
+            Call::Locate(address) => {
+                ffi::aaru_locate(start, used as usize, *address, &mut first, &mut second)
+            }
+            Call::Create(create) => ffi::aaru_create(
+                start,
+                length,
+                create.sectors,
+                create.application.as_ptr(),
+                create.application.len(),
+                create.major,
+                create.minor,
+                create.media_type,
+                create.created,
+                create.written,
+                &mut first,
+                &mut second,
+            ),
+            Call::Commit(commit) => ffi::aaru_commit(
+                start,
+                length,
+                used,
+                commit.addresses.as_ptr(),
+                commit.addresses.len(),
+                commit.size,
+                commit.sectors.as_ptr(),
+                commit.sectors.len(),
+                commit.time,
+                &mut first,
+                &mut second,
+            ),
+            Call::Rollback { offset, time } => {
+                ffi::aaru_rollback(start, length, used, *offset, *time, &mut first, &mut second)
+            }
+        }
+    };
+    match (number, call) {
+        (0, Call::Open) => Ok((first, 0)),
+        (0, _) => Ok((first, second)),
+        _ => {
+            assert_eq!((first, second), UNTOUCHED, "refused, but answered");
+            Err(number)
+        }
+    }
+}
+
+/// The safe wrapper's call.
+pub fn safe(buffer: &mut [u8], used: u64, call: &Call) -> Answer {
+    let pair = |placed: Placed| (placed.used, placed.index);
+    let answer = match call {
+        Call::Open => aaru::open(&buffer[..used as usize]).map(|count| (count, 0)),
+        Call::Locate(address) => {
+            let image = &buffer[..used as usize];
+            aaru::read(image, *address).map(|sector| {
+                assert_eq!(sector.bytes, part(image, sector.start, sector.bytes.len()));
+                (sector.start, sector.bytes.len() as u64)
+            })
+        }
+        Call::Create(create) => aaru::create(buffer, &create.about()).map(pair),
+        Call::Commit(commit) => aaru::commit(
+            buffer,
+            used,
+            &commit.addresses,
+            commit.size,
+            &commit.sectors,
+            commit.time,
+        )
+        .map(pair),
+        Call::Rollback { offset, time } => aaru::rollback(buffer, used, *offset, *time).map(pair),
+    };
+    answer.map_err(|Refusal { number }| number)
+}
+
+/// The independent implementation's call.
+pub fn other(buffer: &mut [u8], used: u64, call: &Call) -> Answer {
+    match call {
+        Call::Open => independent::open(&buffer[..used as usize]).map(|count| (count, 0)),
+        Call::Locate(address) => independent::locate(&buffer[..used as usize], *address),
+        Call::Create(create) => independent::create(buffer, &create.about()),
+        Call::Commit(commit) => independent::commit(
+            buffer,
+            used,
+            &commit.addresses,
+            commit.size,
+            &commit.sectors,
+            commit.time,
+        ),
+        Call::Rollback { offset, time } => independent::rollback(buffer, used, *offset, *time),
+    }
+}
+
+fn part(image: &[u8], start: u64, size: usize) -> &[u8] {
+    &image[start as usize..][..size]
+}
+
+/// The three sides, each with a copy of the buffer, and the tally.
+pub struct Sides {
+    pub tally: Tally,
+    copies: [Vec<u8>; 3],
+    random: Random,
+}
+
+impl Sides {
+    pub fn new() -> Sides {
+        Sides {
+            tally: Tally::default(),
+            copies: Default::default(),
+            random: Random::new(0),
+        }
+    }
+
+    /// Runs one input on every side and compares the answers, all bytes of the buffers afterwards
+    /// and, after a call that writes, every read.
+    pub fn run(&mut self, buffer: &[u8], used: u64, call: &Call) -> Answer {
+        for copy in &mut self.copies {
+            copy.clear();
+            copy.extend_from_slice(buffer);
+        }
+        let [first, second, third] = &mut self.copies;
+        let answer = raw(first, used, call);
+        let answers = [safe(second, used, call), other(third, used, call)];
+        let same_answers = answers == [answer; 2];
+        let same_bytes = first == second && first == third;
+        let kept = first == buffer || answer.is_ok() && call.writes();
+        if !(same_answers && same_bytes && kept) {
+            println!("{call:?} used {used} of {}", buffer.len());
+            println!("library {answer:?}, wrapper and independent {answers:?}");
+            println!("same bytes {same_bytes}, kept {kept}");
+            if buffer.len() < 4096 {
+                println!("{buffer:02X?}");
+            }
+            panic!("the sides differ");
+        }
+
+        self.tally.count(call.column(), answer.err().unwrap_or(0));
+        if !matches!(call, Call::Create(_)) && used <= buffer.len() as u64 {
+            self.note(&buffer[..used as usize]);
+        }
+        if call.writes() {
+            self.compare_reads(match answer {
+                Ok((used, _)) => used as usize,
+                Err(_) => buffer.len().min(used as usize),
+            });
+        }
+        answer
+    }
+
+    /// The same where the answer is of no further use.
+    pub fn compare(&mut self, buffer: &[u8], used: u64, call: &Call) {
+        let _ = self.run(buffer, used, call);
+    }
+
+    /// Runs a call that writes and leaves its bytes in the buffer.
+    pub fn run_on(&mut self, buffer: &mut [u8], used: u64, call: &Call) -> Answer {
+        let answer = self.run(buffer, used, call);
+        buffer.copy_from_slice(self.left());
+        answer
+    }
+
+    /// What the last call left in its buffer.
+    pub fn left(&self) -> &[u8] {
+        &self.copies[0]
+    }
+
+    fn note(&mut self, image: &[u8]) {
+        self.tally
+            .image(image, |image| independent::open(image).is_ok());
+    }
+
+    fn compare_reads(&mut self, used: usize) {
+        let image = self.copies[0][..used].to_vec();
+        self.note(&image);
+        let count = independent::open(&image).unwrap_or(0);
+        for address in addresses_to_read(count, &mut self.random) {
+            let sector = independent::locate(&image, address);
+            let call = Call::Locate(address);
+            let answers = [
+                raw(&mut self.copies[0], used as u64, &call),
+                safe(&mut self.copies[1], used as u64, &call),
+            ];
+            assert_eq!(answers, [sector; 2], "read of address {address}");
+            self.tally.reads += 1;
+        }
+        let copies = &self.copies;
+        assert!(copies[0] == copies[2] && copies[1] == copies[2]);
+    }
+}
+
+/// Every address of a small disc, some of a large one, and some that no disc has.
+fn addresses_to_read(count: u64, random: &mut Random) -> Vec<u64> {
+    let mut addresses = match count {
+        0..=256 => (0..count).collect(),
+        257..=4096 => {
+            let any = (0..64).map(|_| random.number() % count);
+            (0..64).chain(count - 64..count).chain(any).collect()
+        }
+        _ => vec![0, count / 2, count - 1],
+    };
+    addresses.extend([count, count + 1, 1 << 32, 1 << 63, u64::MAX]);
+    addresses
+}

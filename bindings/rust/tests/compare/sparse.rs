@@ -1,0 +1,198 @@
+//! Buffers of 4 GiB and a little more, of which only a few pages are ever there.
+
+use crate::arguments;
+use crate::faults::read_addresses;
+use crate::images::Description;
+use crate::layout::{get, put, Layout, HEADER};
+use crate::random::Random;
+use crate::sides::{other, raw, safe, Answer, Call, Commit, Sides};
+use std::ffi::c_void;
+use std::slice;
+
+extern "C" {
+    fn mmap(
+        at: *mut c_void,
+        length: usize,
+        access: i32,
+        kind: i32,
+        file: i32,
+        from: i64,
+    ) -> *mut c_void;
+    fn munmap(at: *mut c_void, length: usize) -> i32;
+}
+
+/// Linux on x86-64.
+const READ_AND_WRITE: i32 = 1 | 2;
+const PRIVATE_ANONYMOUS_UNRESERVED: i32 = 0x02 | 0x20 | 0x4000;
+
+struct Mapping {
+    start: *mut c_void,
+    length: usize,
+}
+
+impl Mapping {
+    fn new(length: usize) -> Mapping {
+        let kind = PRIVATE_ANONYMOUS_UNRESERVED;
+        // SAFETY: a new mapping touches no memory that is in use.
+        let start = unsafe { mmap(std::ptr::null_mut(), length, READ_AND_WRITE, kind, -1, 0) };
+        assert_ne!(start as isize, -1, "no mapping of {length} bytes");
+        Mapping { start, length }
+    }
+
+    fn bytes(&mut self) -> &mut [u8] {
+        // SAFETY: the mapping is valid for its length, holds zeros at first and is borrowed alone.
+        unsafe { slice::from_raw_parts_mut(self.start.cast(), self.length) }
+    }
+}
+
+impl Drop for Mapping {
+    fn drop(&mut self) {
+        // SAFETY: nothing borrows the mapping any more.
+        unsafe { munmap(self.start, self.length) };
+    }
+}
+
+const MOST: usize = 4_294_967_296;
+/// More than the images below need.
+const FRONT: usize = 65_536;
+const SECTORS: u64 = 6;
+
+pub fn run(sides: &mut Sides, seed: u64) {
+    let mut random = Random::new(seed);
+    let mut mappings = [MOST + FRONT, MOST, MOST].map(Mapping::new);
+    let [first, second, third] = &mut mappings;
+    let long = first.bytes();
+    too_long(sides, &mut long[..MOST + 1], &mut random);
+    let buffers = [&mut long[..MOST], second.bytes(), third.bytes()];
+    longest(sides, buffers, &mut random);
+    // The first and the last bytes were compared; between and behind them no byte may have changed.
+    let nothing = [0; FRONT];
+    let mut between = long[FRONT..MOST - FRONT].chunks_exact(FRONT);
+    assert!(between.all(|part| part == nothing));
+    assert_eq!(long[MOST..], nothing);
+    read_far_behind(sides, long, &mut random);
+}
+
+/// Calls that would be accepted if the buffer were not too long, and some with a second fault.
+fn too_long(sides: &mut Sides, buffer: &mut [u8], random: &mut Random) {
+    let image = Description::rich(random).build(random);
+    let layout = Layout::of(&image);
+    buffer[..image.len()].copy_from_slice(&image);
+    let commit = arguments::commit(random, layout.count);
+    let mut wrong_commit = commit.clone();
+    wrong_commit.size = 0;
+    let create = arguments::create(random, SECTORS);
+    let mut wrong_create = create.clone();
+    wrong_create.sectors = 0;
+    let offset = layout.index as u64;
+    let calls = [
+        Call::Create(create),
+        Call::Create(wrong_create),
+        Call::Commit(commit),
+        Call::Commit(wrong_commit),
+        Call::Rollback { offset, time: 5 },
+        Call::Rollback { offset: 0, time: 5 },
+    ];
+    for call in &calls {
+        for used in [image.len() as u64, 0, MOST as u64 + 1, MOST as u64 + 2] {
+            for side in [raw, safe, other] {
+                assert_eq!(side(buffer, used, call), Err(31), "{call:?}");
+                assert_eq!(buffer[..image.len()], image);
+            }
+            sides.tally.count(call.column(), 31);
+        }
+    }
+    buffer[..image.len()].fill(0);
+}
+
+/// The same calls over buffers that are just not too long, and what they leave read.
+fn longest(sides: &mut Sides, mut buffers: [&mut [u8]; 3], random: &mut Random) {
+    let mut run = |used: u64, call: Call| -> Answer {
+        let answer = on_each(&mut buffers, used, &call);
+        sides.tally.count(call.column(), answer.err().unwrap_or(0));
+        if let Ok((used, _)) = answer {
+            for address in 0..=SECTORS {
+                on_each(&mut buffers, used, &Call::Locate(address)).ok();
+            }
+        }
+        answer
+    };
+    let whole = MOST as u64;
+    let created = run(0, Call::Create(arguments::create(random, SECTORS)));
+    let (used, offset) = created.expect("not too long");
+    let commit = Call::Commit(Commit {
+        addresses: vec![1, 4],
+        size: 3,
+        sectors: b"AAABBB".to_vec(),
+        time: 6,
+    });
+    assert_eq!(run(whole + 1, commit.clone()), Err(32));
+    assert_eq!(run(whole, commit.clone()), Err(35));
+    let (grown, _) = run(used, commit.clone()).expect("not too long");
+    let time = 7;
+    for used in [whole, grown] {
+        let answer = run(used, Call::Rollback { offset, time });
+        assert_eq!(answer, Ok((used, offset)));
+    }
+    // The same commit once more, but up to the buffer's last byte.
+    let last = whole - (grown - used);
+    assert_eq!(run(last + 1, commit.clone()), Err(35));
+    let (used, offset) = run(last, commit).expect("not too long");
+    assert_eq!(used, whole);
+    let answer = run(whole + 1, Call::Rollback { offset, time });
+    assert_eq!(answer, Err(32));
+    let answer = run(whole, Call::Rollback { offset, time });
+    assert_eq!(answer, Ok((whole, offset)));
+}
+
+/// Runs a call on every side and compares the first and the last bytes, between which nothing is
+/// written.
+fn on_each([first, second, third]: &mut [&mut [u8]; 3], used: u64, call: &Call) -> Answer {
+    let answer = raw(first, used, call);
+    assert_eq!(safe(second, used, call), answer);
+    assert_eq!(other(third, used, call), answer);
+    for part in [0..FRONT, MOST - FRONT..MOST] {
+        assert!(first[part.clone()] == second[part.clone()]);
+        assert!(first[part.clone()] == third[part]);
+    }
+    answer
+}
+
+/// Reading has no length limit: an image whose records all stand above 4 GiB.
+fn read_far_behind(sides: &mut Sides, long: &mut [u8], random: &mut Random) {
+    let (image, mut layout) = loop {
+        let image = Description::rich(random).build(random);
+        let layout = Layout::of(&image);
+        // With a larger shift no entry can name so far an offset.
+        if layout.shift < 32 && !read_addresses(&image, &layout).is_empty() {
+            break (image, layout);
+        }
+    };
+    long[..HEADER].copy_from_slice(&image[..HEADER]);
+    long[MOST..][..image.len()].copy_from_slice(&image);
+    layout.index += MOST;
+    layout.table += MOST;
+    layout.blocks.iter_mut().for_each(|block| *block += MOST);
+    put(long, 48, 8, layout.index as u64);
+    for entry in 0..layout.entries {
+        let at = layout.index_entry(entry) + 8;
+        put(long, at, 8, get(long, at, 8) + MOST as u64);
+    }
+    for at in (0..layout.count).map(|address| layout.table_entry(address)) {
+        let entry = get(long, at, 8);
+        if entry != 0 {
+            put(long, at, 8, entry + ((MOST as u64) << layout.shift));
+        }
+    }
+    layout.make_right(long);
+
+    let used = long.len() as u64;
+    let reads = (0..=layout.count as u64).map(Call::Locate);
+    for call in [Call::Open].into_iter().chain(reads) {
+        let answer = raw(long, used, &call);
+        assert_eq!(safe(long, used, &call), answer);
+        assert_eq!(other(long, used, &call), answer);
+        assert!(matches!(answer, Ok(_) | Err(20 | 21)), "{answer:?}");
+        sides.tally.count(call.column(), answer.err().unwrap_or(0));
+    }
+}
