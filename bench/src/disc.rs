@@ -151,16 +151,19 @@ impl<'a> Disc<'a> {
         self.table.len() / 8
     }
 
+    /// What a table entry means.
+    fn pointer(&self, entry: &[u8]) -> Option<Pointer> {
+        let entry = get::<8>(entry, 0);
+        let pointer = Pointer {
+            block: entry >> self.shift,
+            item: entry & ((1 << self.shift) - 1),
+        };
+        (entry != 0).then_some(pointer)
+    }
+
     /// What each address has, by rising address.
     pub fn pointers(&self) -> impl Iterator<Item = Option<Pointer>> + '_ {
-        self.table.chunks_exact(8).map(|bytes| {
-            let entry = get::<8>(bytes, 0);
-            let pointer = Pointer {
-                block: entry >> self.shift,
-                item: entry & ((1 << self.shift) - 1),
-            };
-            (entry != 0).then_some(pointer)
-        })
+        self.table.chunks_exact(8).map(|entry| self.pointer(entry))
     }
 
     fn blocks(&self) -> impl Iterator<Item = u64> + '_ {
@@ -202,6 +205,16 @@ impl<'a> Disc<'a> {
             }
         }
         first.1
+    }
+
+    /// Checks 20 to 27, and the sector at an address.
+    pub fn read(&self, address: u64) -> Result<&'a [u8], Refused> {
+        refuse_if(address >= self.count() as u64, 20)?;
+        let p = self.pointer(&self.table[8 * address as usize..][..8]);
+        let p = p.ok_or(21u32)?;
+        self.check_form(p, None)?;
+        refuse_if(is_damaged(self.image, p.block), 27)?;
+        Ok(self.sector(p))
     }
 
     /// The sector that a pointer of a checked disc names.

@@ -3,6 +3,7 @@ mod checksums; // the checksum, measured
 mod commit; // committing in Rust
 mod committing; // creating and committing, measured
 mod disc; // an image in Rust
+mod reading; // opening and reading, measured
 mod rust; // checksums in Rust
 
 /// The same bytes in each run (xorshift64).
@@ -29,5 +30,6 @@ pub fn median(times: &mut [f64]) -> f64 {
 fn main() {
     let mut random = Random(0x9E37_79B9_7F4A_7C15);
     checksums::measure(&mut random);
+    reading::measure(&mut random);
     committing::measure(&mut random);
 }

@@ -15,7 +15,8 @@
  *   - pointers to numbers, and `addresses`, are aligned as their type asks;
  *   - what a call may write, the buffer and the numbers behind its last pointers, overlaps nothing else that it is handed, and nobody else
  *     reads or writes it during the call. What it only reads may overlap, but nobody may write it during the call.
- * The library has no heap and no state of its own; calls on different buffers may run at the same time. The largest stack frame is 17 KiB.
+ * The library has no heap and no state of its own; calls on different buffers may run at the same time. Compiled for
+ * x86-64, no call takes more than 20 KiB of stack.
  *
  * Checks of the image, made by each call that opens one, in this order:
  *    1  `used` is below 72
