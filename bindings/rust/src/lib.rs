@@ -66,7 +66,7 @@ fn answer<T>(number: u32, value: T) -> Result<T, Refusal> {
     }
 }
 
-/// How many sectors the image has.
+/// How many sectors the image has. Refused with 1 to 14.
 pub fn open(image: &[u8]) -> Result<u64, Refusal> {
     let mut sectors = 0;
     // SAFETY: the slice is valid for its length, and the number is not part of it.
@@ -74,7 +74,7 @@ pub fn open(image: &[u8]) -> Result<u64, Refusal> {
     answer(number, sectors)
 }
 
-/// The sector at an address.
+/// The sector at an address. Refused with 1 to 14, 20 to 27.
 pub fn read(image: &[u8], address: u64) -> Result<Sector<'_>, Refusal> {
     let (mut start, mut size) = (0, 0);
     // SAFETY: as for `open`.
@@ -87,7 +87,7 @@ pub fn read(image: &[u8], address: u64) -> Result<Sector<'_>, Refusal> {
     })
 }
 
-/// Makes a new image at the start of the buffer, of sectors that are not written.
+/// Makes a new image at the start of the buffer, of sectors that are not written. Refused with 30, 31, 33, 35.
 pub fn create(buffer: &mut [u8], about: &Creation) -> Result<Placed, Refusal> {
     let mut placed = Placed { used: 0, index: 0 };
     // SAFETY: both slices are valid for their lengths, the buffer is borrowed alone, and the numbers are parts of neither.
@@ -110,7 +110,8 @@ pub fn create(buffer: &mut [u8], about: &Creation) -> Result<Placed, Refusal> {
     answer(number, placed)
 }
 
-/// Commits sectors of `sector_size` bytes, which stand one after another in `sectors`, to rising addresses.
+/// Commits sectors of `sector_size` bytes, which stand one after another in `sectors`, to rising addresses. Refused with 1 to 14, 20, 22 to 27,
+/// 30 to 35.
 pub fn commit(
     buffer: &mut [u8],
     used: u64,
@@ -139,7 +140,7 @@ pub fn commit(
     answer(number, placed)
 }
 
-/// Makes the disc read as right after the call that answered `offset` as its index.
+/// Makes the disc read as right after the call that answered `offset` as its index. Refused with 1 to 14, 31, 32.
 pub fn rollback(buffer: &mut [u8], used: u64, offset: u64, time: u64) -> Result<Placed, Refusal> {
     let mut placed = Placed { used: 0, index: 0 };
     // SAFETY: as for `create`.
