@@ -1,1 +1,1 @@
-mod Written
+mod Leaving

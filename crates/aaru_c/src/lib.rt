@@ -7,8 +7,9 @@ ghost use Rattle.format.specs.Reading.{locate};
 ghost use Rattle.format.specs.Creating.{create};
 ghost use Rattle.format.specs.Committing.{commit};
 ghost use Rattle.format.specs.RollingBack.{rollback};
+ghost use Rattle.format.specs.Writing.{placed};
 ghost use Rattle.format.specs.Answers.{updated};
-ghost use Rattle.aaru_c.specs.Returned.{counts, locates, updates, writes};
+ghost use Rattle.aaru_c.specs.Returned.{returned, place, left};
 use aaru::ByteOffset;
 use aaru::Counted;
 use aaru::Located;
@@ -18,7 +19,7 @@ use aaru::Updated;
 // How many sectors the image has.
 #[no_mangle]
 pub extern "C" fn aaru_open(image: &[u8], sectors: &mut u64) -> u32
-    ensures { λ r. ⌜ record { number = r; sectors = now (sectors .exit) } ≡ counts (sectorCount (now (image .entry))) (now (sectors .entry)) ⌝ }
+    ensures { λ r. ⌜ record { number = r; values = now (sectors .exit) } ≡ returned (sectorCount (now (image .entry))) (now (sectors .entry)) ⌝ }
 {
     let answer = aaru::sector_count(image);
     match answer {
@@ -33,7 +34,7 @@ pub extern "C" fn aaru_open(image: &[u8], sectors: &mut u64) -> u32
 // Where the sector at an address lies in the image.
 #[no_mangle]
 pub extern "C" fn aaru_locate(image: &[u8], address: u64, start: &mut u64, size: &mut u64) -> u32
-    ensures { λ r. ⌜ record { number = r; start = now (start .exit); size = now (size .exit) } ≡ locates (locate (now (image .entry)) address) (now (start .entry)) (now (size .entry)) ⌝ }
+    ensures { λ r. ⌜ record { number = r; values = place (now (start .exit)) (now (size .exit)) } ≡ returned (locate (now (image .entry)) address) (place (now (start .entry)) (now (size .entry))) ⌝ }
 {
     let answer = aaru::locate(image, SectorAddress(address));
     match answer {
@@ -48,7 +49,7 @@ pub extern "C" fn aaru_locate(image: &[u8], address: u64, start: &mut u64, size:
 
 // What a call that writes returns, and leaves behind its two pointers.
 fn numbers(answer: Updated, used: &mut u64, index: &mut u64) -> u32
-    ensures { λ r. ⌜ record { number = r; used = now (used .exit); index = now (index .exit) } ≡ updates (updated answer) (now (used .entry)) (now (index .entry)) ⌝ }
+    ensures { λ r. ⌜ record { number = r; values = placed (now (used .exit)) (now (index .exit)) } ≡ returned (updated answer) (placed (now (used .entry)) (now (index .entry))) ⌝ }
 {
     match answer {
         Updated::To(p) => {
@@ -74,7 +75,7 @@ pub extern "C" fn aaru_create(
     used: &mut u64,
     index: &mut u64,
 ) -> u32
-    ensures { λ r. ⌜ record { numbers = record { number = r; used = now (used .exit); index = now (index .exit) }; buffer = now (buffer .exit) } ≡ writes (create (now (buffer .entry)) sectors (now (application .entry)) major minor mediaType created written) (now (used .entry)) (now (index .entry)) ⌝ }
+    ensures { λ r. ⌜ record { answer = record { number = r; values = placed (now (used .exit)) (now (index .exit)) }; buffer = now (buffer .exit) } ≡ left (create (now (buffer .entry)) sectors (now (application .entry)) major minor mediaType created written) (placed (now (used .entry)) (now (index .entry))) ⌝ }
 {
     let answer = aaru::create(
         buffer,
@@ -101,7 +102,7 @@ pub extern "C" fn aaru_commit(
     newUsed: &mut u64,
     index: &mut u64,
 ) -> u32
-    ensures { λ r. ⌜ record { numbers = record { number = r; used = now (newUsed .exit); index = now (index .exit) }; buffer = now (buffer .exit) } ≡ writes (commit (now (buffer .entry)) used (now (addresses .entry)) sectorSize (now (sectors .entry)) time) (now (newUsed .entry)) (now (index .entry)) ⌝ }
+    ensures { λ r. ⌜ record { answer = record { number = r; values = placed (now (newUsed .exit)) (now (index .exit)) }; buffer = now (buffer .exit) } ≡ left (commit (now (buffer .entry)) used (now (addresses .entry)) sectorSize (now (sectors .entry)) time) (placed (now (newUsed .entry)) (now (index .entry))) ⌝ }
 {
     let answer = aaru::commit(buffer, used, addresses, sectorSize, sectors, time);
     numbers(answer, newUsed, index)
@@ -117,7 +118,7 @@ pub extern "C" fn aaru_rollback(
     newUsed: &mut u64,
     index: &mut u64,
 ) -> u32
-    ensures { λ r. ⌜ record { numbers = record { number = r; used = now (newUsed .exit); index = now (index .exit) }; buffer = now (buffer .exit) } ≡ writes (rollback (now (buffer .entry)) used offset time) (now (newUsed .entry)) (now (index .entry)) ⌝ }
+    ensures { λ r. ⌜ record { answer = record { number = r; values = placed (now (newUsed .exit)) (now (index .exit)) }; buffer = now (buffer .exit) } ≡ left (rollback (now (buffer .entry)) used offset time) (placed (now (newUsed .entry)) (now (index .entry))) ⌝ }
 {
     let answer = aaru::rollback(buffer, used, ByteOffset(offset), time);
     numbers(answer, newUsed, index)

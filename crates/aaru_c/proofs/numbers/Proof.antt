@@ -1,16 +1,16 @@
 -- `aaru_c::numbers` meets its contract. Assumes nothing.
 use borrow.Author.Needs.{needs}
 use Rattle.format.specs.Answers.{updated}
-use Rattle.aaru_c.specs.Returned.{updates}
+use Rattle.aaru_c.specs.Returned.{returned}
 use Rattle.aaru_c.proofs.numbers.Statement.{statement}
 use Rattle.aaru_c.proofs.numbers.Tie as tie
 
 returns : tie.Need-returns
-unfolding updates updated
+unfolding returned updated
 returns c = rw (c .before .answer .given .1)
 
 returns-2 : tie.Need-returns-2
-unfolding updates updated
+unfolding returned updated
 returns-2 c = rw (c .before .answer2 .given .1)
 
 pub numbers-spec : {M : Type 1} → statement M
