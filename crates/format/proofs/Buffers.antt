@@ -39,10 +39,10 @@ unfolding outcome
 outcome-passes buffer v p new e = rw e
 
 pub outcome-refused : (buffer : List ℕ) (v : Verdict) (p : Placed) (new : List ℕ) (r : Refusal) → outcome buffer v p new .result ≡ refused r
-    → outcome buffer v p new .buffer ≡ buffer
+    → (v ≡ Refuses r) × (outcome buffer v p new .buffer ≡ buffer)
 unfolding outcome
 outcome-refused buffer Passes p new r e = let z : _≡_ {A = ℕ} 0 1 = cc in absurd (omega arith)
-outcome-refused buffer (Refuses s) p new r e = refl
+outcome-refused buffer (Refuses s) p new r e = (cc, refl)
 
 -- ---- the header's two fields
 module _ (l : List ℕ) (o time : ℕ) where

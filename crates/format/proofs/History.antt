@@ -97,8 +97,8 @@ after-accepted m c p e = ap (λ (w : Answer Placed). momentAfter m c w (outcomeO
 -- ---- (d)
 refused-buffer : (m : Moment) (c : Call) (r : Refusal) → outcomeOf m c .result ≡ refused r → outcomeOf m c .buffer ≡ m .buffer
 unfolding outcomeOf commit append rollback
-refused-buffer m (commits addresses size sectors time) r e = outcome-refused _ _ _ _ r e
-refused-buffer m (rollsBack offset time) r e = outcome-refused _ _ _ _ r e
+refused-buffer m (commits addresses size sectors time) r e = outcome-refused _ _ _ _ r e .1
+refused-buffer m (rollsBack offset time) r e = outcome-refused _ _ _ _ r e .1
 
 refused-same : (m : Moment) (c : Call) (r : Refusal) → outcomeOf m c .result ≡ refused r → after m c ≡ m
 refused-same m c r e = after-refused m c r e ∙ (λ i. record { buffer = refused-buffer m c r e i; used = m .used; points = m .points })

@@ -9,22 +9,21 @@ use Prim.Native.Nat.{ℕ, zero, suc, _+_}
 use native.Mathlib.Nat.{eq-or-lt-of-le}
 use native.Mathlib.Omega.{arith}
 use Rattle.format.specs.declared.Entry.{Entry}
-use Rattle.format.specs.declared.Placed.{Placed}
-use Rattle.format.specs.declared.Refusal.{Refusal}
 use Rattle.format.specs.declared.Verdict.{Verdict}
 use Rattle.format.specs.declared.Verdict.the-variants.{Passes, Refuses}
-use Rattle.format.specs.Refusals.{refusal, row, refused, answer}
+use Rattle.format.specs.Refusals.{refusal, row}
 use Rattle.format.specs.Layouts.{entryLength}
 use Rattle.format.specs.Opening.{headerVerdict, indexVerdict, entryVerdict, entriesVerdict, oneOf, oneVerdict, tableVerdict, openVerdict, Opened, sectorCount}
 use Rattle.format.specs.Reading.{pointerVerdict, sectorVerdict, readVerdict, locate}
-use Rattle.format.specs.Writing.{bufferVerdict, outcome}
+use Rattle.format.specs.Writing.{bufferVerdict}
 use Rattle.format.specs.Creating.{createVerdict, create}
 use Rattle.format.specs.Committing.{Appended, argumentsVerdict, otherThan21, sectorsVerdict, discVerdict, commitVerdict, append, commit}
 use Rattle.format.specs.RollingBack.{rollbackVerdict, rollback}
-use Rattle.format.specs.Demands.{FromTo, Demand1Numbers}
+use Rattle.format.specs.Demands.{FromTo, openingNumber, readingNumber, creatingNumber, committingNumber, rollingBackNumber, Demand1Numbers}
 use Rattle.format.proofs.Tests.{same-iff, choose-cases}
 use Rattle.format.proofs.Refusals.{Number, row-number, then-number, first-number, number-refused, answer-refused}
 use Rattle.format.proofs.Checks.{item-number}
+use Rattle.format.proofs.Buffers.{outcome-refused}
 
 -- ---- opening: what holds of 1 to 14 holds of its number
 module _ (P : ℕ → Type 0) (low : (n : ℕ) → FromTo 1 14 n → P n) (img : List ℕ) where
@@ -92,16 +91,11 @@ module _ (P : ℕ → Type 0) (low : (n : ℕ) → FromTo 1 14 n → P n) (img :
       (then-number P _ _ (row-number P _ (refusal 20) (high 20 (omega arith) (λ e. omega arith)))
       (first-number P _ _ _ (λ a. other-number P _ (sector-number (λ n. n ≢ 21 → P n) high img _ _ a))))
 
-outcome-refused : (buffer : List ℕ) (v : Verdict) (p : Placed) (new : List ℕ) (r : Refusal) → outcome buffer v p new .result ≡ refused r → v ≡ Refuses r
-unfolding outcome answer
-outcome-refused buffer Passes p new r e = answer-refused Passes p r e
-outcome-refused buffer (Refuses q) p new r e = answer-refused (Refuses q) p r e
-
 buffer-number : (P : ℕ → Type 0) → P 31 → P 32 → (buffer : List ℕ) (used : ℕ) → Number P (bufferVerdict buffer used)
 unfolding bufferVerdict
 buffer-number P p q buffer used = then-number P _ _ (row-number P _ (refusal 31) p) (row-number P _ (refusal 32) q)
 
-create-number : (buffer : List ℕ) (count : ℕ) (application : List ℕ) → Number (λ n. FromTo 30 31 n ⊎ (n ≡ 33) ⊎ (n ≡ 35)) (createVerdict buffer count application)
+create-number : (buffer : List ℕ) (count : ℕ) (application : List ℕ) → Number creatingNumber (createVerdict buffer count application)
 unfolding createVerdict
 create-number buffer count application =
     then-number _ _ _ (row-number _ _ (refusal 31) (inl (omega arith)))
@@ -113,7 +107,7 @@ not-21 : (n : ℕ) → FromTo 20 27 n → n ≢ 21 → (n ≡ 20) ⊎ FromTo 22 
 not-21 n f d = ⊎-map sym (λ l. (⊎-elim (λ e. absurd (d (sym e))) (λ k. k) (eq-or-lt-of-le l), f .1)) (eq-or-lt-of-le (f .0))
 
 commit-number : (buffer : List ℕ) (used : ℕ) (addresses : List ℕ) (size : ℕ) (sectors : List ℕ) (new : Appended)
-    → Number (λ n. FromTo 1 14 n ⊎ (n ≡ 20) ⊎ FromTo 22 27 n ⊎ FromTo 30 35 n) (commitVerdict buffer used addresses size sectors new)
+    → Number committingNumber (commitVerdict buffer used addresses size sectors new)
 unfolding commitVerdict argumentsVerdict
 commit-number buffer used addresses size sectors new =
     then-number _ _ _
@@ -123,10 +117,10 @@ commit-number buffer used addresses size sectors new =
     (then-number _ _ _ (disc-number _ (λ n f. inl f) _ _ (λ n f d. inr (⊎-map (λ e. e) inl (not-21 n f d))) addresses)
     (row-number _ _ (refusal 35) (last 35 (omega arith))))
   where
-    last : (n : ℕ) → FromTo 30 35 n → FromTo 1 14 n ⊎ (n ≡ 20) ⊎ FromTo 22 27 n ⊎ FromTo 30 35 n
+    last : (n : ℕ) → FromTo 30 35 n → committingNumber n
     last n f = inr (inr (inr f))
 
-rollback-number : (buffer : List ℕ) (used offset : ℕ) → Number (λ n. FromTo 1 14 n ⊎ FromTo 31 32 n) (rollbackVerdict buffer used offset)
+rollback-number : (buffer : List ℕ) (used offset : ℕ) → Number rollingBackNumber (rollbackVerdict buffer used offset)
 unfolding rollbackVerdict
 rollback-number buffer used offset =
     then-number _ _ _ (buffer-number _ (inr (omega arith)) (inr (omega arith)) buffer used) (open-number _ (λ n f. inl f) _ offset)
@@ -134,9 +128,9 @@ rollback-number buffer used offset =
 pub demand-1-numbers : Demand1Numbers
 unfolding sectorCount locate create commit append rollback
 demand-1-numbers = record {
-  counting = λ img r e. number-refused (FromTo 1 14) _ r (open-number _ (λ n f. f) img _) (answer-refused _ _ r e);
-  locating = λ img a r e. number-refused (λ n. FromTo 1 14 n ⊎ FromTo 20 27 n) _ r (read-number _ (λ n f. inl f) img _ (λ n f. inr f) a) (answer-refused _ _ r e);
-  creating = λ buffer count application major minor mediaType creationTime lastWrittenTime r e. number-refused _ _ r (create-number buffer count application) (outcome-refused _ _ _ _ r e);
-  committing = λ buffer used addresses size sectors time r e. number-refused _ _ r (commit-number buffer used addresses size sectors _) (outcome-refused _ _ _ _ r e);
-  rollingBack = λ buffer used offset time r e. number-refused _ _ r (rollback-number buffer used offset) (outcome-refused _ _ _ _ r e);
+  counting = λ img r e. number-refused openingNumber _ r (open-number _ (λ n f. f) img _) (answer-refused _ _ r e);
+  locating = λ img a r e. number-refused readingNumber _ r (read-number _ (λ n f. inl f) img _ (λ n f. inr f) a) (answer-refused _ _ r e);
+  creating = λ buffer count application major minor mediaType creationTime lastWrittenTime r e. number-refused _ _ r (create-number buffer count application) (outcome-refused _ _ _ _ r e .0);
+  committing = λ buffer used addresses size sectors time r e. number-refused _ _ r (commit-number buffer used addresses size sectors _) (outcome-refused _ _ _ _ r e .0);
+  rollingBack = λ buffer used offset time r e. number-refused _ _ r (rollback-number buffer used offset) (outcome-refused _ _ _ _ r e .0);
 }

@@ -27,18 +27,33 @@ use Rattle.format.specs.Facts.{HeaderOk, IndexOk, EntryOk, UserData, Tab
 abbrev pub FromTo : ℕ → ℕ → ℕ → Type 0
 FromTo least most n = (least ≤ n) × (n ≤ most)
 
+abbrev pub openingNumber : ℕ → Type 0
+openingNumber n = FromTo 1 14 n
+
+abbrev pub readingNumber : ℕ → Type 0
+readingNumber n = FromTo 1 14 n ⊎ FromTo 20 27 n
+
+abbrev pub creatingNumber : ℕ → Type 0
+creatingNumber n = FromTo 30 31 n ⊎ (n ≡ 33) ⊎ (n ≡ 35)
+
+abbrev pub committingNumber : ℕ → Type 0
+committingNumber n = FromTo 1 14 n ⊎ (n ≡ 20) ⊎ FromTo 22 27 n ⊎ FromTo 30 35 n
+
+abbrev pub rollingBackNumber : ℕ → Type 0
+rollingBackNumber n = FromTo 1 14 n ⊎ FromTo 31 32 n
+
 -- where the answer is a refusal, its number is such
 abbrev pub RefusesBy : {A : Type 0} → (ℕ → Type 0) → Answer A → Type 0
 RefusesBy P a = (r : Refusal) → a ≡ refused r → P (r .number)
 
 pub record Demand1Numbers : Type 0 where
-  pub counting : (img : List ℕ) → RefusesBy (FromTo 1 14) (sectorCount img)
-  pub locating : (img : List ℕ) (a : ℕ) → RefusesBy (λ n. FromTo 1 14 n ⊎ FromTo 20 27 n) (locate img a)
+  pub counting : (img : List ℕ) → RefusesBy openingNumber (sectorCount img)
+  pub locating : (img : List ℕ) (a : ℕ) → RefusesBy readingNumber (locate img a)
   pub creating : (buffer : List ℕ) (count : ℕ) (application : List ℕ) (major minor mediaType creationTime lastWrittenTime : ℕ)
-      → RefusesBy (λ n. FromTo 30 31 n ⊎ (n ≡ 33) ⊎ (n ≡ 35)) (create buffer count application major minor mediaType creationTime lastWrittenTime .result)
+      → RefusesBy creatingNumber (create buffer count application major minor mediaType creationTime lastWrittenTime .result)
   pub committing : (buffer : List ℕ) (used : ℕ) (addresses : List ℕ) (size : ℕ) (sectors : List ℕ) (time : ℕ)
-      → RefusesBy (λ n. FromTo 1 14 n ⊎ (n ≡ 20) ⊎ FromTo 22 27 n ⊎ FromTo 30 35 n) (commit buffer used addresses size sectors time .result)
-  pub rollingBack : (buffer : List ℕ) (used offset time : ℕ) → RefusesBy (λ n. FromTo 1 14 n ⊎ FromTo 31 32 n) (rollback buffer used offset time .result)
+      → RefusesBy committingNumber (commit buffer used addresses size sectors time .result)
+  pub rollingBack : (buffer : List ℕ) (used offset time : ℕ) → RefusesBy rollingBackNumber (rollback buffer used offset time .result)
 
 -- ---- Demand 2, reading: in an image that opens, a sector is given exactly if its table entry names an item of an indexed, intact,
 -- unpacked data block, and then it is that item's bytes.
