@@ -5,8 +5,9 @@
  *     cc program.c -Ibindings/c -Ltarget/staticlib -laaru_c
  *
  * An image is the first `used` bytes of a buffer that the caller lends. A call returns 0 if it is accepted, else the number of the check that
- * refuses it: of all that apply, the first in the order that is said below for each call. No check has the number 0. A refused call
- * changes no byte behind any pointer. Numbers in an image may be hostile: every input is answered, and no sum of places wraps.
+ * refuses it: of all that apply, the first in the order that is said below for each call. No check has the number 0. A refused call sets
+ * `*place`, a byte offset in the image that is said below for each number, and changes no other byte behind any pointer. An accepted call
+ * leaves `*place` as it is. Numbers in an image may be hostile: every input is answered, and no sum of places wraps.
  *
  * What is proved holds for callers that pass what C's types can't say:
  *   - a pointer beside a length points to so many bytes (in `addresses`: numbers) that may be read and, where it is not const, written. Where
@@ -18,7 +19,8 @@
  * The library has no heap and no state of its own; calls on different buffers may run at the same time. Compiled for
  * x86-64, no call takes more than 20 KiB of stack.
  *
- * Checks of the image, made by each call that opens one, in this order:
+ * Checks of the image, made by each call that opens one, in this order. The place is 0 for 1, 2 and 3; for 4, 5, 6, 9 and 10 the index's offset as
+ * it was read, or handed to aaru_rollback, even past the end; for 7 and 8 that of the index entry; for 11 to 14 the table's offset.
  *    1  `used` is below 72
  *    2  the header's identifier is neither 'AARUFRMT' nor 'DICMFRMT'
  *    3  the image's major version is not 2
@@ -36,7 +38,7 @@
  *   11  the table's payload runs past the end
  *   14  either checksum of the table is wrong
  *
- * Checks of a sector, in this order:
+ * Checks of a sector, in this order. The place is that of the table entry for 22, the block's offset for 23 to 27, and 0 for 20 and 21.
  *   20  the address is not below the number of sectors
  *   21  the sector is not written
  *   22  no index entry for a 'DBLK' block of data type 1 has the byte offset that the table entry names
@@ -46,6 +48,8 @@
  *   23  the block's payload runs past the end
  *   26  the item number is not below length / sector size
  *   27  either checksum of the block is wrong
+ *
+ * The other checks, 30 to 35, are of what the caller hands in, not of the image: their place is 0.
  */
 #ifndef AARU_H
 #define AARU_H
@@ -61,14 +65,14 @@ extern "C" {
  * How many sectors the image has: `*sectors`.
  * Refused with: 1 to 14, as above.
  */
-uint32_t aaru_open(const uint8_t *image, size_t used, uint64_t *sectors);
+uint32_t aaru_open(const uint8_t *image, size_t used, uint64_t *sectors, uint64_t *place);
 
 /*
  * Where the sector at an address lies: it is the `*size` bytes of the image from `*start` on, which lie inside it. Sectors of one disc may differ
  * in size.
  * Refused with: 1 to 14, then 20 to 27, as above.
  */
-uint32_t aaru_locate(const uint8_t *image, size_t used, uint64_t address, uint64_t *start, uint64_t *size);
+uint32_t aaru_locate(const uint8_t *image, size_t used, uint64_t address, uint64_t *start, uint64_t *size, uint64_t *place);
 
 /*
  * Makes a new image at the start of the buffer, of `sectors` sectors that are not written: 157 + 8 x sectors bytes. Later bytes of the buffer stay
@@ -81,7 +85,8 @@ uint32_t aaru_locate(const uint8_t *image, size_t used, uint64_t address, uint64
  *   35  the image would not fit into the buffer
  */
 uint32_t aaru_create(uint8_t *buffer, size_t length, uint64_t sectors, const uint8_t *application, size_t application_length,
-                     uint8_t major, uint8_t minor, uint32_t media_type, uint64_t created, uint64_t written, uint64_t *used, uint64_t *index);
+                     uint8_t major, uint8_t minor, uint32_t media_type, uint64_t created, uint64_t written, uint64_t *used, uint64_t *index,
+                     uint64_t *place);
 
 /*
  * Commits one sector to each address of the list: these read as handed in from then on, every other address as before. The sectors are of
@@ -98,10 +103,11 @@ uint32_t aaru_create(uint8_t *buffer, size_t length, uint64_t sectors, const uin
  *    1 to 14, as above
  *   20  an address is not below the number of sectors
  *   22 to 27, as above: every sector of the disc is checked, by rising address, and the first that is refused other than with 21 gives its number
+ *      and place
  *   35  the new image would not fit into the buffer
  */
 uint32_t aaru_commit(uint8_t *buffer, size_t length, uint64_t used, const uint64_t *addresses, size_t address_count, uint64_t sector_size,
-                     const uint8_t *sectors, size_t sectors_length, uint64_t time, uint64_t *new_used, uint64_t *index);
+                     const uint8_t *sectors, size_t sectors_length, uint64_t time, uint64_t *new_used, uint64_t *index, uint64_t *place);
 
 /*
  * Makes the index at `offset` the disc's. Where a creation or a commit answered that offset as its index, the disc then reads as right after that
@@ -113,7 +119,8 @@ uint32_t aaru_commit(uint8_t *buffer, size_t length, uint64_t used, const uint64
  *   32  `used` exceeds the buffer's length
  *    1 to 14, as above, with `offset` in place of the header's indexOffset
  */
-uint32_t aaru_rollback(uint8_t *buffer, size_t length, uint64_t used, uint64_t offset, uint64_t time, uint64_t *new_used, uint64_t *index);
+uint32_t aaru_rollback(uint8_t *buffer, size_t length, uint64_t used, uint64_t offset, uint64_t time, uint64_t *new_used, uint64_t *index,
+                       uint64_t *place);
 
 #ifdef __cplusplus
 }

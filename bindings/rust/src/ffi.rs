@@ -1,12 +1,13 @@
 //! The C interface as `bindings/c/aaru.h` declares it. Nothing checks these lines against that file or the library.
 extern "C" {
-    pub fn aaru_open(image: *const u8, used: usize, sectors: *mut u64) -> u32;
+    pub fn aaru_open(image: *const u8, used: usize, sectors: *mut u64, place: *mut u64) -> u32;
     pub fn aaru_locate(
         image: *const u8,
         used: usize,
         address: u64,
         start: *mut u64,
         size: *mut u64,
+        place: *mut u64,
     ) -> u32;
     pub fn aaru_create(
         buffer: *mut u8,
@@ -21,6 +22,7 @@ extern "C" {
         written: u64,
         used: *mut u64,
         index: *mut u64,
+        place: *mut u64,
     ) -> u32;
     pub fn aaru_commit(
         buffer: *mut u8,
@@ -34,6 +36,7 @@ extern "C" {
         time: u64,
         new_used: *mut u64,
         index: *mut u64,
+        place: *mut u64,
     ) -> u32;
     pub fn aaru_rollback(
         buffer: *mut u8,
@@ -43,5 +46,6 @@ extern "C" {
         time: u64,
         new_used: *mut u64,
         index: *mut u64,
+        place: *mut u64,
     ) -> u32;
 }

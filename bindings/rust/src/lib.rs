@@ -1,7 +1,8 @@
 //! Reads and writes AaruFormat disc images by the proved library.
 //!
-//! An image is the first `used` bytes of a lent buffer. Every call is answered or refused by a number of document 01, on every
-//! input; a refused call changes nothing. The numbers are those of `bindings/c/aaru.h`, which says for each call what it gives.
+//! An image is the first `used` bytes of a lent buffer. Every call is answered or refused by a number of document 01 and a place
+//! in the image, on every input; a refused call changes nothing. The numbers are those of `bindings/c/aaru.h`, which says for each
+//! call what it gives, and for each number where its place is.
 //!
 //! ```
 //! let mut buffer = [0; 4096];
@@ -12,21 +13,25 @@
 //! assert_eq!(aaru::open(image)?, 16);
 //! assert_eq!(aaru::read(image, 5)?.bytes, b"BBBB");
 //! assert_eq!(aaru::read(image, 1).unwrap_err().number, 21); // not written
+//! let refusal = aaru::rollback(&mut buffer, take.used, 100, 2).unwrap_err();
+//! assert_eq!((refusal.number, refusal.place), (5, 100)); // no index there
 //! # Ok::<(), aaru::Refusal>(())
 //! ```
 use std::{error, fmt};
 
 pub mod ffi;
 
-/// Why a call is refused: the number of document 01.
+/// Why a call is refused: the number of document 01, and where.
 #[derive(Clone, Copy, Debug, PartialEq, Eq)]
 pub struct Refusal {
     pub number: u32,
+    /// The byte offset, in the image, of the record that the number is about; 0 where there is none.
+    pub place: u64,
 }
 
 impl fmt::Display for Refusal {
     fn fmt(&self, f: &mut fmt::Formatter) -> fmt::Result {
-        write!(f, "refused with {}", self.number)
+        write!(f, "refused with {} at byte {}", self.number, self.place)
     }
 }
 
@@ -59,28 +64,36 @@ pub struct Creation<'a> {
     pub written: u64,
 }
 
-fn answer<T>(number: u32, value: T) -> Result<T, Refusal> {
+fn answer<T>(number: u32, place: u64, value: T) -> Result<T, Refusal> {
     match number {
         0 => Ok(value),
-        number => Err(Refusal { number }),
+        number => Err(Refusal { number, place }),
     }
 }
 
 /// How many sectors the image has. Refused with 1 to 14.
 pub fn open(image: &[u8]) -> Result<u64, Refusal> {
-    let mut sectors = 0;
-    // SAFETY: the slice is valid for its length, and the number is not part of it.
-    let number = unsafe { ffi::aaru_open(image.as_ptr(), image.len(), &mut sectors) };
-    answer(number, sectors)
+    let (mut sectors, mut place) = (0, 0);
+    // SAFETY: the slice is valid for its length, and the numbers are not part of it.
+    let number = unsafe { ffi::aaru_open(image.as_ptr(), image.len(), &mut sectors, &mut place) };
+    answer(number, place, sectors)
 }
 
 /// The sector at an address. Refused with 1 to 14, 20 to 27.
 pub fn read(image: &[u8], address: u64) -> Result<Sector<'_>, Refusal> {
-    let (mut start, mut size) = (0, 0);
+    let (mut start, mut size, mut place) = (0, 0, 0);
     // SAFETY: as for `open`.
-    let number =
-        unsafe { ffi::aaru_locate(image.as_ptr(), image.len(), address, &mut start, &mut size) };
-    answer(number, ())?;
+    let number = unsafe {
+        ffi::aaru_locate(
+            image.as_ptr(),
+            image.len(),
+            address,
+            &mut start,
+            &mut size,
+            &mut place,
+        )
+    };
+    answer(number, place, ())?;
     Ok(Sector {
         start,
         bytes: &image[start as usize..][..size as usize],
@@ -89,7 +102,7 @@ pub fn read(image: &[u8], address: u64) -> Result<Sector<'_>, Refusal> {
 
 /// Makes a new image at the start of the buffer, of sectors that are not written. Refused with 30, 31, 33, 35.
 pub fn create(buffer: &mut [u8], about: &Creation) -> Result<Placed, Refusal> {
-    let mut placed = Placed { used: 0, index: 0 };
+    let (mut placed, mut place) = (Placed { used: 0, index: 0 }, 0);
     // SAFETY: both slices are valid for their lengths, the buffer is borrowed alone, and the numbers are parts of neither.
     let number = unsafe {
         ffi::aaru_create(
@@ -105,9 +118,10 @@ pub fn create(buffer: &mut [u8], about: &Creation) -> Result<Placed, Refusal> {
             about.written,
             &mut placed.used,
             &mut placed.index,
+            &mut place,
         )
     };
-    answer(number, placed)
+    answer(number, place, placed)
 }
 
 /// Commits sectors of `sector_size` bytes, which stand one after another in `sectors`, to rising addresses. Refused with 1 to 14, 20, 22 to 27,
@@ -120,7 +134,7 @@ pub fn commit(
     sectors: &[u8],
     time: u64,
 ) -> Result<Placed, Refusal> {
-    let mut placed = Placed { used: 0, index: 0 };
+    let (mut placed, mut place) = (Placed { used: 0, index: 0 }, 0);
     // SAFETY: as for `create`.
     let number = unsafe {
         ffi::aaru_commit(
@@ -135,14 +149,15 @@ pub fn commit(
             time,
             &mut placed.used,
             &mut placed.index,
+            &mut place,
         )
     };
-    answer(number, placed)
+    answer(number, place, placed)
 }
 
 /// Makes the disc read as right after the call that answered `offset` as its index. Refused with 1 to 14, 31, 32.
 pub fn rollback(buffer: &mut [u8], used: u64, offset: u64, time: u64) -> Result<Placed, Refusal> {
-    let mut placed = Placed { used: 0, index: 0 };
+    let (mut placed, mut place) = (Placed { used: 0, index: 0 }, 0);
     // SAFETY: as for `create`.
     let number = unsafe {
         ffi::aaru_rollback(
@@ -153,7 +168,8 @@ pub fn rollback(buffer: &mut [u8], used: u64, offset: u64, time: u64) -> Result<
             time,
             &mut placed.used,
             &mut placed.index,
+            &mut place,
         )
     };
-    answer(number, placed)
+    answer(number, place, placed)
 }

@@ -1,5 +1,5 @@
-// The library: the public calls. None asks anything of its caller; each refuses by the numbers of document 01, in its order. A call
-// that is refused changes no byte of what it was lent. An image is the first `used` bytes of a lent buffer.
+// The library: the public calls. None asks anything of its caller; each refuses by the numbers of document 01, in its order, and says
+// where in the image. A call that is refused changes no byte of what it was lent. An image is the first `used` bytes of a lent buffer.
 ghost use mathlib.Core.Path.{_≡_};
 ghost use Rattle.format.specs.Opening.{sectorCount};
 ghost use Rattle.format.specs.Reading.{locate, read};
@@ -88,7 +88,7 @@ pub fn create(
 }
 
 // Commits sectors of `size` bytes, which stand one after another in `sectors`, to the addresses of the list: these read as handed in
-// from then on, every other as before. Or says why it can't: 31, 32, 30, 33, 34, opening's numbers, 20, the number of the first sector of
+// from then on, every other as before. Or says why it can't: 31, 32, 30, 33, 34, opening's numbers, 20, the refusal of the first sector of
 // the disc that is refused other than with 21, 35. The answer is the new `used`, and where the new index stands. No byte changes below the
 // old `used` but the header's indexOffset and lastWrittenTime, and none from the new one on.
 //

@@ -10,21 +10,23 @@ use Rattle.format.specs.Writing.{Outcome}
 pub record Returned (A : Type 0) : Type 0 where
   pub number : ℕ
   pub values : A
+  pub place : ℕ
 
--- By what the call answers, and by the values that stood behind its pointers: an accepted call returns 0 and sets them; a refused one returns
--- its number and leaves them. No refusal has the number 0 (`Demand1Numbers` in format/specs/Demands), so 0 means "accepted" and nothing else.
-unfoldable pub returned : {A : Type 0} → Answer A → A → Returned A
-returned (accepted a) before = record { number = 0; values = a }
-returned (refused r) before = record { number = r .number; values = before }
+-- By what the call answers, and by the values and the place that stood behind its pointers: an accepted call returns 0, sets the values and leaves
+-- the place; a refused one returns its number, sets the place and leaves the values. No refusal has the number 0 (`Demand1Refusals` in
+-- format/specs/Demands), so 0 means "accepted" and nothing else.
+unfoldable pub returned : {A : Type 0} → Answer A → A → ℕ → Returned A
+returned (accepted a) values place = record { number = 0; values = a; place = place }
+returned (refused r) values place = record { number = r .number; values = values; place = r .place .0 }
 
 -- the values of aaru_locate; those of a call that writes are `placed` of format/specs/Writing
-abbrev pub place : ℕ → ℕ → Place
-place start size = record { start = record { 0 = start }; size = size }
+abbrev pub startAndSize : ℕ → ℕ → Place
+startAndSize start size = record { start = record { 0 = start }; size = size }
 
 -- of a call that writes also every byte of the buffer
 pub record Left : Type 0 where
   pub answer : Returned Placed
   pub buffer : List ℕ
 
-unfoldable pub left : Outcome → Placed → Left
-left o before = record { answer = returned (o .result) before; buffer = o .buffer }
+unfoldable pub left : Outcome → Placed → ℕ → Left
+left o values place = record { answer = returned (o .result) values place; buffer = o .buffer }

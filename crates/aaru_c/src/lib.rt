@@ -1,6 +1,7 @@
 // The C interface: the public calls of `aaru`, as bindings/c/aaru.h declares them. A slice is a pointer and a length, a call returns 0 or the
-// number of its refusal, and values come back behind pointers, which a refused call leaves as they are. As in `aaru`, no call asks anything
-// of its caller; what the language itself takes for granted of pointers that come from outside is said in the header.
+// number of its refusal, and values come back behind pointers, which a refused call leaves as they are; it sets `place` alone, which an
+// accepted one leaves. As in `aaru`, no call asks anything of its caller; what the language itself takes for granted of pointers that
+// come from outside is said in the header.
 ghost use mathlib.Core.Path.{_≡_};
 ghost use Rattle.format.specs.Opening.{sectorCount};
 ghost use Rattle.format.specs.Reading.{locate};
@@ -9,17 +10,26 @@ ghost use Rattle.format.specs.Committing.{commit};
 ghost use Rattle.format.specs.RollingBack.{rollback};
 ghost use Rattle.format.specs.Writing.{placed};
 ghost use Rattle.format.specs.Answers.{updated};
-ghost use Rattle.aaru_c.specs.Returned.{returned, place, left};
+ghost use Rattle.aaru_c.specs.Returned.{returned, startAndSize, left};
 use aaru::ByteOffset;
 use aaru::Counted;
 use aaru::Located;
+use aaru::Refusal;
 use aaru::SectorAddress;
 use aaru::Updated;
 
+// What a refused call returns, and sets.
+fn refused(r: Refusal, place: &mut u64) -> u32
+    ensures { λ n. ⌜ (n ≡ r .number) × (now (place .exit) ≡ r .place .0) ⌝ }
+{
+    *place = r.place.0;
+    r.number
+}
+
 // How many sectors the image has.
 #[no_mangle]
-pub extern "C" fn aaru_open(image: &[u8], sectors: &mut u64) -> u32
-    ensures { λ r. ⌜ record { number = r; values = now (sectors .exit) } ≡ returned (sectorCount (now (image .entry))) (now (sectors .entry)) ⌝ }
+pub extern "C" fn aaru_open(image: &[u8], sectors: &mut u64, place: &mut u64) -> u32
+    ensures { λ r. ⌜ record { number = r; values = now (sectors .exit); place = now (place .exit) } ≡ returned (sectorCount (now (image .entry))) (now (sectors .entry)) (now (place .entry)) ⌝ }
 {
     let answer = aaru::sector_count(image);
     match answer {
@@ -27,14 +37,20 @@ pub extern "C" fn aaru_open(image: &[u8], sectors: &mut u64) -> u32
             *sectors = n;
             0
         }
-        Counted::Refused(r) => r.number,
+        Counted::Refused(r) => refused(r, place),
     }
 }
 
 // Where the sector at an address lies in the image.
 #[no_mangle]
-pub extern "C" fn aaru_locate(image: &[u8], address: u64, start: &mut u64, size: &mut u64) -> u32
-    ensures { λ r. ⌜ record { number = r; values = place (now (start .exit)) (now (size .exit)) } ≡ returned (locate (now (image .entry)) address) (place (now (start .entry)) (now (size .entry))) ⌝ }
+pub extern "C" fn aaru_locate(
+    image: &[u8],
+    address: u64,
+    start: &mut u64,
+    size: &mut u64,
+    place: &mut u64,
+) -> u32
+    ensures { λ r. ⌜ record { number = r; values = startAndSize (now (start .exit)) (now (size .exit)); place = now (place .exit) } ≡ returned (locate (now (image .entry)) address) (startAndSize (now (start .entry)) (now (size .entry))) (now (place .entry)) ⌝ }
 {
     let answer = aaru::locate(image, SectorAddress(address));
     match answer {
@@ -43,13 +59,13 @@ pub extern "C" fn aaru_locate(image: &[u8], address: u64, start: &mut u64, size:
             *size = p.size;
             0
         }
-        Located::Refused(r) => r.number,
+        Located::Refused(r) => refused(r, place),
     }
 }
 
-// What a call that writes returns, and leaves behind its two pointers.
-fn numbers(answer: Updated, used: &mut u64, index: &mut u64) -> u32
-    ensures { λ r. ⌜ record { number = r; values = placed (now (used .exit)) (now (index .exit)) } ≡ returned (updated answer) (placed (now (used .entry)) (now (index .entry))) ⌝ }
+// What a call that writes returns, and leaves behind its three pointers.
+fn numbers(answer: Updated, used: &mut u64, index: &mut u64, place: &mut u64) -> u32
+    ensures { λ r. ⌜ record { number = r; values = placed (now (used .exit)) (now (index .exit)); place = now (place .exit) } ≡ returned (updated answer) (placed (now (used .entry)) (now (index .entry))) (now (place .entry)) ⌝ }
 {
     match answer {
         Updated::To(p) => {
@@ -57,7 +73,7 @@ fn numbers(answer: Updated, used: &mut u64, index: &mut u64) -> u32
             *index = p.index.0;
             0
         }
-        Updated::Refused(r) => r.number,
+        Updated::Refused(r) => refused(r, place),
     }
 }
 
@@ -74,8 +90,9 @@ pub extern "C" fn aaru_create(
     written: u64,
     used: &mut u64,
     index: &mut u64,
+    place: &mut u64,
 ) -> u32
-    ensures { λ r. ⌜ record { answer = record { number = r; values = placed (now (used .exit)) (now (index .exit)) }; buffer = now (buffer .exit) } ≡ left (create (now (buffer .entry)) sectors (now (application .entry)) major minor mediaType created written) (placed (now (used .entry)) (now (index .entry))) ⌝ }
+    ensures { λ r. ⌜ record { answer = record { number = r; values = placed (now (used .exit)) (now (index .exit)); place = now (place .exit) }; buffer = now (buffer .exit) } ≡ left (create (now (buffer .entry)) sectors (now (application .entry)) major minor mediaType created written) (placed (now (used .entry)) (now (index .entry))) (now (place .entry)) ⌝ }
 {
     let answer = aaru::create(
         buffer,
@@ -87,7 +104,7 @@ pub extern "C" fn aaru_create(
         created,
         written,
     );
-    numbers(answer, used, index)
+    numbers(answer, used, index, place)
 }
 
 // Commits sectors to the addresses of the list.
@@ -101,11 +118,12 @@ pub extern "C" fn aaru_commit(
     time: u64,
     newUsed: &mut u64,
     index: &mut u64,
+    place: &mut u64,
 ) -> u32
-    ensures { λ r. ⌜ record { answer = record { number = r; values = placed (now (newUsed .exit)) (now (index .exit)) }; buffer = now (buffer .exit) } ≡ left (commit (now (buffer .entry)) used (now (addresses .entry)) sectorSize (now (sectors .entry)) time) (placed (now (newUsed .entry)) (now (index .entry))) ⌝ }
+    ensures { λ r. ⌜ record { answer = record { number = r; values = placed (now (newUsed .exit)) (now (index .exit)); place = now (place .exit) }; buffer = now (buffer .exit) } ≡ left (commit (now (buffer .entry)) used (now (addresses .entry)) sectorSize (now (sectors .entry)) time) (placed (now (newUsed .entry)) (now (index .entry))) (now (place .entry)) ⌝ }
 {
     let answer = aaru::commit(buffer, used, addresses, sectorSize, sectors, time);
-    numbers(answer, newUsed, index)
+    numbers(answer, newUsed, index, place)
 }
 
 // Makes the index at an offset the disc's.
@@ -117,9 +135,10 @@ pub extern "C" fn aaru_rollback(
     time: u64,
     newUsed: &mut u64,
     index: &mut u64,
+    place: &mut u64,
 ) -> u32
-    ensures { λ r. ⌜ record { answer = record { number = r; values = placed (now (newUsed .exit)) (now (index .exit)) }; buffer = now (buffer .exit) } ≡ left (rollback (now (buffer .entry)) used offset time) (placed (now (newUsed .entry)) (now (index .entry))) ⌝ }
+    ensures { λ r. ⌜ record { answer = record { number = r; values = placed (now (newUsed .exit)) (now (index .exit)); place = now (place .exit) }; buffer = now (buffer .exit) } ≡ left (rollback (now (buffer .entry)) used offset time) (placed (now (newUsed .entry)) (now (index .entry))) (now (place .entry)) ⌝ }
 {
     let answer = aaru::rollback(buffer, used, ByteOffset(offset), time);
-    numbers(answer, newUsed, index)
+    numbers(answer, newUsed, index, place)
 }

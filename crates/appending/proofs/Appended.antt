@@ -165,7 +165,7 @@ module _ (buf : List ℕ) (used : ℕ) (t : Opened) (addresses : List ℕ) (size
   pub commits : Commits img t addresses size sectors
   commits =
       record {
-        checked = (passed .opens, sym (then-rest _ _ (row-passes _ (refusal 20) inside)) ∙ sym (disc-opened img t addresses (passed .opens)) ∙ passed .disc);
+        checked = (passed .opens, sym (then-rest _ _ (row-passes _ (refusal 20 0) inside)) ∙ sym (disc-opened img t addresses (passed .opens)) ∙ passed .disc);
         short = omega (arith, length-img, arguments .bufferOk .inside, arguments .bufferOk .long);
         rises = arguments .rises;
         inside = inside;
@@ -246,7 +246,7 @@ module _ (buf : List ℕ) (used : ℕ) (t : Opened) (addresses : List ℕ) (size
       e₃ ∙ ap (λ l. setHeader l (at .index .0) time) f₂ ∙ ap (λ n. setHeader (overwrite buf used (added .block ++ (added .table ++ added .index))) n time) (sym index-start)
 
   -- ---- what the commit answers
-  no-room : (time : ℕ) → length buf < at .end → answered (update.Refused (refusal 35)) buf ≡ commit buf used addresses size sectors time
+  no-room : (time : ℕ) → length buf < at .end → answered (update.Refused (refusal 35 0)) buf ≡ commit buf used addresses size sectors time
   unfolding commit append commitVerdict
   no-room time h =
       outcome-stops buf _ _
@@ -271,7 +271,7 @@ module _ {buf : List ℕ} {used : ℕ} {t : Opened} {addresses : List ℕ} {size
   planned-few = rw stored-planned (items-few buf used t addresses size sectors passed)
 
   pub refused-35 : {place : Layout} (time : ℕ) → place ≡ layoutFor (take used buf) t size (plan .stored) → length buf < place .end
-      → answered (update.Refused (refusal 35)) buf ≡ commit buf used addresses size sectors time
+      → answered (update.Refused (refusal 35 0)) buf ≡ commit buf used addresses size sectors time
   refused-35 time e h =
       no-room buf used t addresses size sectors passed time (rw (ap (λ (l : Layout). l .end) (e ∙ ap (layoutFor (take used buf) t size) stored-planned)) at h)
 

@@ -162,7 +162,8 @@ fn append(
     let index = at.index;
     let length = buf.len() as u64;
     if length < end {
-        return Updated::Refused(Refusal { number: 35 });
+        let place = ByteOffset(0);
+        return Updated::Refused(Refusal { number: 35, place });
     }
     put_all(buf, used, t, addresses, size, sectors, time, plan, at);
     Updated::To(Placed { used: end, index })

@@ -6,6 +6,7 @@ ghost use Rattle.format.specs.Tests.{same, below, _or_};
 ghost use Rattle.format.specs.Writing.{mostSectors, largestSize, mostAddresses, bufferVerdict};
 ghost use Rattle.format.specs.Creating.{createVerdict};
 ghost use Rattle.format.specs.Committing.{rising, argumentsVerdict};
+use format::ByteOffset;
 use format::Refusal;
 use format::Verdict;
 
@@ -25,18 +26,19 @@ fn count_refused(count: u64) -> bool
 pub fn create_verdict(buffer: &[u8], count: u64, application: &[u8]) -> Verdict
     ensures { λ r. ⌜ r ≡ createVerdict (now (buffer .entry)) count (now (application .entry)) ⌝ }
 {
+    let place = ByteOffset(0);
     let length = buffer.len() as u64;
     if LONGEST_BUFFER < length {
-        return Verdict::Refuses(Refusal { number: 31 });
+        return Verdict::Refuses(Refusal { number: 31, place });
     }
     if count_refused(count) {
-        return Verdict::Refuses(Refusal { number: 30 });
+        return Verdict::Refuses(Refusal { number: 30, place });
     }
     if application.len() != 32 {
-        return Verdict::Refuses(Refusal { number: 33 });
+        return Verdict::Refuses(Refusal { number: 33, place });
     }
     if length < 157 + 8 * count {
-        return Verdict::Refuses(Refusal { number: 35 });
+        return Verdict::Refuses(Refusal { number: 35, place });
     }
     Verdict::Passes
 }
@@ -45,12 +47,13 @@ pub fn create_verdict(buffer: &[u8], count: u64, application: &[u8]) -> Verdict
 pub fn buffer_verdict(buffer: &[u8], used: u64) -> Verdict
     ensures { λ r. ⌜ r ≡ bufferVerdict (now (buffer .entry)) used ⌝ }
 {
+    let place = ByteOffset(0);
     let length = buffer.len() as u64;
     if LONGEST_BUFFER < length {
-        return Verdict::Refuses(Refusal { number: 31 });
+        return Verdict::Refuses(Refusal { number: 31, place });
     }
     if length < used {
-        return Verdict::Refuses(Refusal { number: 32 });
+        return Verdict::Refuses(Refusal { number: 32, place });
     }
     Verdict::Passes
 }
@@ -97,15 +100,16 @@ pub fn commit_verdict(
     if let Verdict::Refuses(r) = v {
         return Verdict::Refuses(r);
     }
+    let place = ByteOffset(0);
     let count = addresses.len() as u64;
     if size_refused(size, count) {
-        return Verdict::Refuses(Refusal { number: 30 });
+        return Verdict::Refuses(Refusal { number: 30, place });
     }
     if sectors.len() as u64 != count * size {
-        return Verdict::Refuses(Refusal { number: 33 });
+        return Verdict::Refuses(Refusal { number: 33, place });
     }
     if is_rising(addresses) {
         return Verdict::Passes;
     }
-    Verdict::Refuses(Refusal { number: 34 })
+    Verdict::Refuses(Refusal { number: 34, place })
 }

@@ -1,4 +1,4 @@
-// Opening: for every two neighbours in document 01's order of checks an image to which both apply, and the number that it gives;
+// Opening: for every two neighbours in document 01's order of checks an image to which both apply, and the number and place that it gives;
 // beside them what one check finds alone. Each script bends the disc `table_last`.
 use super::ONES;
 use super::disc::AARU;

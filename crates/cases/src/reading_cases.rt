@@ -1,4 +1,4 @@
-// Reading: for every two neighbours in document 01's order of checks an image to which both apply, and the number that it gives;
+// Reading: for every two neighbours in document 01's order of checks an image to which both apply, and the number and place that it gives;
 // beside them what one check finds alone. Each script bends the disc `block_last`, but the first, which reads `table_last`.
 use super::ONES;
 use super::disc::block_last;
@@ -42,7 +42,7 @@ fn address_cases(disc: &[u8; 512]) {
     );
 }
 
-const POINTER_ROWS: [[u64; 3]; 23] = [
+const POINTER_ROWS: [[u64; 3]; 24] = [
     [WHOLE, PLACE, 0],
     [WHOLE, PLACE, 2],
     [TABLE + 49, 8, 2 * 206], // entry 0
@@ -66,6 +66,7 @@ const POINTER_ROWS: [[u64; 3]; 23] = [
     [BLOCK_ENTRY + 4, 4, 2], // dataType
     [INDEX + 12, CRC, 32],
     [WHOLE, PLACE, 0],
+    [WHOLE, PLACE, 2],
 ];
 
 fn pointer_cases(disc: &[u8; 512]) {
@@ -77,7 +78,8 @@ fn pointer_cases(disc: &[u8; 512]) {
           22, block 2^64 - 1, wraps to 35\n\
           22, block 2^32 + 197\n\
           22, a table there\n\
-          22, block's dataType 2\n",
+          22, block's dataType 2\n\
+          22, the same, address 2\n",
         &POINTER_ROWS,
     );
 }

@@ -10,7 +10,7 @@ use Rattle.format.specs.Tests.{same, _and_}
 use Rattle.format.specs.Refusals.{refusal, row, _then_}
 use Rattle.format.specs.Layouts.{DBLK, entryLength, entryAt, entriesFrom}
 use Rattle.format.specs.Opening.{isUserData, offsetsOf, Opened}
-use Rattle.format.specs.Reading.{notWritten, pointerAt, has}
+use Rattle.format.specs.Reading.{tableEntryAt, notWritten, pointerAt, has}
 use Rattle.format.proofs.Tests.{on-or-off, never, not-iff, same-on, same-iff, or-rest, and-iff, and-true, choose-true, choose-false}
 use Rattle.format.proofs.Refusals.{then-rest, then-stays, row-refuses}
 use Rattle.format.proofs.Chains.{on-last, ends}
@@ -27,10 +27,10 @@ module _ (img : List ℕ) (t : Opened) where
   Into b a = (notWritten img t a ≡ false) × (pointerAt img t a .block .0 ≡ b)
 
   module _ (b : ℕ) (left : List ℕ) where
-    into : (l : List ℕ) (a : ℕ) → Into b a → addressVerdict img t l a ≡ (formVerdict img (pointerAt img t a) then mark img l b)
-    into l a i = written img t l a (i .0) ∙ ap (λ (q : ℕ). formVerdict img (pointerAt img t a) then mark img l q) (i .1)
+    into : (l : List ℕ) (a : ℕ) → Into b a → addressVerdict img t l a ≡ (formVerdict img (tableEntryAt t a) (pointerAt img t a) then mark img l b)
+    into l a i = written img t l a (i .0) ∙ ap (λ (q : ℕ). formVerdict img (tableEntryAt t a) (pointerAt img t a) then mark img l q) (i .1)
 
-    into-before : (a : ℕ) → Into b a → addressVerdict img t (b ∷ left) a ≡ formVerdict img (pointerAt img t a)
+    into-before : (a : ℕ) → Into b a → addressVerdict img t (b ∷ left) a ≡ formVerdict img (tableEntryAt t a) (pointerAt img t a)
     into-before a i = into (b ∷ left) a i ∙ sym (ends _ (on-last _ (and-iff not-iff Iff·rfl .1 (inl (has-head b b left refl)))))
 
     elsewhere : (a : ℕ) → ¬ Into b a → addressVerdict img t (b ∷ left) a ≡ addressVerdict img t left a
@@ -40,7 +40,7 @@ module _ (img : List ℕ) (t : Opened) where
         other : notWritten img t a ≡ false → addressVerdict img t (b ∷ left) a ≡ addressVerdict img t left a
         other e =
             written img t (b ∷ left) a e
-            ∙ ap (λ (h : Bool). formVerdict img (pointerAt img t a) then row (not h and damaged img (pointerAt img t a .block .0)) (refusal 27))
+            ∙ ap (λ (h : Bool). formVerdict img (tableEntryAt t a) (pointerAt img t a) then row (not h and damaged img (pointerAt img t a .block .0)) (refusal 27 (pointerAt img t a .block .0)))
             (or-rest _ (same-iff .1 (λ q. away (e, sym q))))
             ∙ sym (written img t left a e)
 
@@ -57,7 +57,7 @@ module _ (img : List ℕ) (t : Opened) where
     -- a damaged block: its first address below the limit is the new limit
     pub found : damaged img b ≡ true → has b left ≡ false → {first : First} → FirstLeft img t (b ∷ left) first
         → (m : ℕ) → m < first .address .0 → Into b m → ((a : ℕ) → a < m → ¬ Into b a)
-        → FirstLeft img t left (record { address = record { 0 = m }; verdict = Refuses (refusal 27) })
+        → FirstLeft img t left (record { address = record { 0 = m }; verdict = Refuses (refusal 27 b) })
     found d h {first} p m l i away =
         let w : first .address .0 ≤ t .count = p .within in
         first-at _ _ m _ (omega arith) (λ a k. sym (elsewhere a (away a k)) ∙ p .before a (omega arith))

@@ -5,13 +5,14 @@ use mathlib.Core.Logic.{⊎-elim}
 use mathlib.Core.Path.{_≡_, refl, sym, ap, _∙_, subst}
 use Prim.Native.Nat.{ℕ, _≤_, _<_}
 use Rattle.format.specs.declared.Pointer.{Pointer}
+use Rattle.format.specs.declared.Refusal.{Refusal}
 use Rattle.format.specs.declared.Verdict.{Verdict}
 use Rattle.format.specs.declared.Verdict.the-variants.{Passes, Refuses}
 use Rattle.format.specs.Tests.{same, _and_, choose}
 use Rattle.format.specs.Refusals.{refusal, row, _then_}
 use Rattle.format.specs.Layouts.{DBLK, indexOffset, entries}
 use Rattle.format.specs.Opening.{Opened}
-use Rattle.format.specs.Reading.{notWritten, pointerAt, has, blockVerdict, itemVerdict, pointerVerdict, sectorVerdict}
+use Rattle.format.specs.Reading.{tableEntryAt, notWritten, pointerAt, has, blockVerdict, itemVerdict, pointerVerdict, sectorVerdict}
 use Rattle.format.specs.Committing.{otherThan21, sectorsVerdict}
 use Rattle.format.proofs.Tests.{on-or-off}
 use Rattle.format.proofs.Refusals.{then-assoc}
@@ -22,24 +23,24 @@ use Rattle.checking.specs.Checked.{indexed, formVerdict, onlyAfter, dama
 use Rattle.checking.proofs.Firsts.{first-same, first-refusal}
 use Rattle.checking.proofs.Forms.{written, not-written}
 
-only-after : (v w : Verdict) (d : Bool) → (v then (w then row (true and onlyAfter v d) (refusal 27))) ≡ (v then (w then row d (refusal 27)))
+only-after : (v w : Verdict) (d : Bool) (r : Refusal) → (v then (w then row (true and onlyAfter v d) r)) ≡ (v then (w then row d r))
 unfolding _then_ _and_ onlyAfter
-only-after Passes w d = refl
-only-after (Refuses r) w d = refl
+only-after Passes w d r = refl
+only-after (Refuses q) w d r = refl
 
 module _ (img : List ℕ) (t : Opened) where
-  pointer-whole : (q : Pointer) → (formVerdict img q then mark img [] (q .block .0)) ≡ pointerVerdict img (entries img (indexOffset img)) q
+  pointer-whole : (at : ℕ) (q : Pointer) → (formVerdict img at q then mark img [] (q .block .0)) ≡ pointerVerdict img (entries img (indexOffset img)) at q
   unfolding formVerdict pointerVerdict itemVerdict damaged has
-  pointer-whole q =
+  pointer-whole at q =
       then-assoc _ _ _
-      ∙ ap (λ (v : Verdict). row (not (has (q .block .0) (indexed img))) (refusal 22) then v) (then-assoc _ _ _ ∙ only-after (blockVerdict img (q .block .0)) _ _)
+      ∙ ap (λ (v : Verdict). row (not (has (q .block .0) (indexed img))) (refusal 22 at) then v) (then-assoc _ _ _ ∙ only-after (blockVerdict img (q .block .0)) _ _ _)
 
   address-whole : (a : ℕ) → a < t .count → addressVerdict img t [] a ≡ otherThan21 (sectorVerdict img (entries img (indexOffset img)) t a)
   unfolding otherThan21 same choose
   address-whole a l =
       ⊎-elim (λ e. not-written img t [] a e ∙ sym (ap otherThan21 (sector-21 img _ t a l e)))
-      (λ e. written img t [] a e ∙ pointer-whole (pointerAt img t a)
-      ∙ sym (ap otherThan21 (sector-pointer img _ t a l e) ∙ keeps-others _ (pointer-not-21 img _ (pointerAt img t a))))
+      (λ e. written img t [] a e ∙ pointer-whole (tableEntryAt t a) (pointerAt img t a)
+      ∙ sym (ap otherThan21 (sector-pointer img _ t a l e) ∙ keeps-others _ (pointer-not-21 img _ _ (pointerAt img t a))))
       (on-or-off (notWritten img t a))
 
   pub all-looked-at : (left p : ℕ) {first : First} → left ≤ 0 → FirstFrom img t left p first

@@ -12,7 +12,7 @@ use Rattle.format.specs.Tests.{atLeast, _and_, choose}
 use Rattle.format.specs.Refusals.{refusal, row, _then_}
 use Rattle.format.specs.Layouts.{DBLK, indexOffset, entries, entriesFrom, sectorSize, blockLength, blockCmpCrc64, blockCrc64, blockPayload}
 use Rattle.format.specs.Opening.{sumsDiffer, offsetsOf, Opened}
-use Rattle.format.specs.Reading.{notWritten, pointerAt, has, blockVerdict}
+use Rattle.format.specs.Reading.{tableEntryAt, notWritten, pointerAt, has, blockVerdict}
 use Rattle.format.specs.Facts.{BlockOk}
 use Rattle.checking.specs.declared.First.{First}
 
@@ -20,13 +20,13 @@ use Rattle.checking.specs.declared.First.{First}
 abbrev pub indexed : List ℕ → List ℕ
 indexed img = offsetsOf DBLK (entries img (indexOffset img))
 
--- what a pointer points to, but for the block's checksums: checks 22 to 26
-unfoldable pub formVerdict : List ℕ → Pointer → Verdict
-formVerdict img p =
+-- what a pointer, whose table entry stands at place `at`, points to, but for the block's checksums: checks 22 to 26
+unfoldable pub formVerdict : List ℕ → ℕ → Pointer → Verdict
+formVerdict img at p =
     let b = p .block .0 in
-    row (not (has b (indexed img))) (refusal 22)
+    row (not (has b (indexed img))) (refusal 22 at)
     then blockVerdict img b
-    then row (atLeast (p .item .0) (blockLength img b / sectorSize img b)) (refusal 26)
+    then row (atLeast (p .item .0) (blockLength img b / sectorSize img b)) (refusal 26 b)
 
 -- what a caller knows of a block: nothing, by 0, or that the index names it and that it passes all checks of a block before that of its
 -- checksums
@@ -48,13 +48,13 @@ damaged img b = onlyAfter (blockVerdict img b) (wrongSum img b)
 
 -- 27 in a damaged block that is none of those still to be looked at
 abbrev pub mark : List ℕ → List ℕ → ℕ → Verdict
-mark img left b = row (not (has b left) and damaged img b) (refusal 27)
+mark img left b = row (not (has b left) and damaged img b) (refusal 27 b)
 
 -- an address while the blocks `left` are still to be looked at: all checks but that of their checksums, 21 left out
 unfoldable pub addressVerdict : List ℕ → Opened → List ℕ → ℕ → Verdict
 addressVerdict img t left a =
     let p = pointerAt img t a in
-    choose (notWritten img t a) Passes (formVerdict img p then mark img left (p .block .0))
+    choose (notWritten img t a) Passes (formVerdict img (tableEntryAt t a) p then mark img left (p .block .0))
 
 -- the first of `count` addresses that a check refuses, and how; the count where there is none
 pub record IsFirst (check : ℕ → Verdict) (count : ℕ) (first : First) : Type 0 where

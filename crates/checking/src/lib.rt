@@ -50,10 +50,11 @@ fn any_outside(count: u64, addresses: &[u64]) -> bool
     false
 }
 
-// What p points to, but for the block's checksums: checks 22 to 26. Of the block that is known only the item's number is looked at.
-fn form_verdict(s: &[u8], t: Opened, p: Pointer, known: ByteOffset) -> Verdict
+// What p, whose table entry stands at `place`, points to, but for the block's checksums: checks 22 to 26. Of the block that is known only
+// the item's number is looked at.
+fn form_verdict(s: &[u8], t: Opened, place: ByteOffset, p: Pointer, known: ByteOffset) -> Verdict
     requires { ⌜ (opening (now s) ≡ accepted (contents t)) × Formed (now s) (known .0) ⌝ }
-    ensures { λ r. ⌜ r ≡ formVerdict (now (s .entry)) p ⌝ }
+    ensures { λ r. ⌜ r ≡ formVerdict (now (s .entry)) (place .0) p ⌝ }
 {
     let b = p.block;
     if sectors::is_known(b, known) {
@@ -66,7 +67,7 @@ fn form_verdict(s: &[u8], t: Opened, p: Pointer, known: ByteOffset) -> Verdict
         }
         return sectors::number_verdict(s, p);
     }
-    Verdict::Refuses(Refusal { number: 22 })
+    Verdict::Refuses(Refusal { number: 22, place })
 }
 
 // The first address that is refused other than with 21, by all checks but that of the checksums.
@@ -83,7 +84,7 @@ fn first_form(s: &[u8], t: Opened) -> First
         a += 1;
         if !opening::not_written(s, t, here) {
             let p = opening::pointer_at(s, t, here);
-            let v = form_verdict(s, t, p, known);
+            let v = form_verdict(s, t, opening::entry_place(t, here), p, known);
             if let Verdict::Refuses(r) = v {
                 return First {
                     address: here,
@@ -132,7 +133,10 @@ fn first_into(s: &[u8], t: Opened, b: ByteOffset, first: First) -> First
             if block.0 == b.0 {
                 return First {
                     address: here,
-                    verdict: Verdict::Refuses(Refusal { number: 27 }),
+                    verdict: Verdict::Refuses(Refusal {
+                        number: 27,
+                        place: b,
+                    }),
                 };
             }
         }
@@ -184,7 +188,8 @@ fn disc_verdict_at(s: &[u8], t: Opened, addresses: &[u64]) -> Verdict
     ensures { λ r. ⌜ r ≡ discVerdict (now (s .entry)) (indexOffset (now (s .entry))) (now (addresses .entry)) ⌝ }
 {
     if any_outside(opening::count(t), addresses) {
-        return Verdict::Refuses(Refusal { number: 20 });
+        let place = ByteOffset(0);
+        return Verdict::Refuses(Refusal { number: 20, place });
     }
     sectors_verdict(s, t)
 }

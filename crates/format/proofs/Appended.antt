@@ -137,7 +137,7 @@ flatten-block size (i ∷ is) = omega (arith, length-blockBytes size (flatten (i
 
 -- what an address gets, nothing or a pointer that stands, and what it then reads as
 data Gets (y : List ℕ) (es : List Entry) : Option Pointer → Answer (List ℕ) → Type 0 where
-  nothing : Gets y es none (refused (refusal 21))
+  nothing : Gets y es none (refused (refusal 21 0))
   stands : {p : Pointer} {sector : List ℕ} → Points y es sector p → Gets y es (some p) (accepted sector)
 
 -- ---- the table entry of an address, read back
@@ -153,7 +153,7 @@ entry-other y t a e = same-iff .1 e
 pub record NewDisc (x : List ℕ) (o : ℕ) (addresses : List ℕ) (ds : List (List ℕ)) (y : List ℕ) (i : ℕ) : Type 0 where
   pub sound : Sound y i
   pub reads : (a : ℕ) → a < opened x o .count → readAt y i a ≡ handedOr (given addresses ds a) (readAt x o a)
-  pub past : (a : ℕ) → opened x o .count ≤ a → readAt y i a ≡ refused (refusal 20)
+  pub past : (a : ℕ) → opened x o .count ≤ a → readAt y i a ≡ refused (refusal 20 0)
   pub stale : NoStaleChecksum y i
 
 module _ (x : List ℕ) (o : ℕ) (addresses : List ℕ) (size : ℕ) (sectors : List ℕ) where
@@ -410,7 +410,7 @@ module _ (x : List ℕ) (o : ℕ) (addresses : List ℕ) (size : ℕ) (sectors :
     -- an address below the count: it is not written, or its sector is good; and what is then expected of it
     abbrev Reads : ℕ → Answer (List ℕ) → Type 0
     Reads a v =
-        ((notWritten y newOpened a ≡ true) × (v ≡ refused (refusal 21)))
+        ((notWritten y newOpened a ≡ true) × (v ≡ refused (refusal 21 0)))
         ⊎ (SectorOk y newEntries newOpened a × (v ≡ accepted (itemBytes y (pointerAt y newOpened a))))
 
     reads-inside : (a : ℕ) → a < opened x o .count → Reads a (expected a)

@@ -16,7 +16,7 @@ use Rattle.format.specs.Lists.{All, done, more}
 use Rattle.format.specs.Refusals.{refusal, row, refused, accepted}
 use Rattle.format.specs.Layouts.{DBLK, DDT*, indexOffset, applicationLength, entryLength, entryAt, entriesFrom, entries, blockLength, sectorSize}
 use Rattle.format.specs.Opening.{lacks, headerVerdict, indexVerdict, entryVerdict, entriesVerdict, offsetsOf, oneOf, oneVerdict, tableAt, tableMalformed, sumsDiffer, tableVerdict, openVerdict, Opened, opened}
-use Rattle.format.specs.Reading.{notWritten, pointerAt, has, blockMalformed, blockVerdict, itemVerdict, pointerVerdict, sectorVerdict, itemBytes, readVerdict, readAt}
+use Rattle.format.specs.Reading.{tableEntryAt, notWritten, pointerAt, has, blockMalformed, blockVerdict, itemVerdict, pointerVerdict, sectorVerdict, itemBytes, readVerdict, readAt}
 use Rattle.format.specs.Writing.{mostSectors, largestSize, mostAddresses, longestBuffer, bufferVerdict}
 use Rattle.format.specs.Creating.{createdUsed, createVerdict}
 use Rattle.format.specs.Committing.{rising, argumentsVerdict, anyOutside, otherThan21, sectorsVerdict, discVerdict, Appended, usedAfter, commitVerdict}
@@ -24,7 +24,7 @@ use Rattle.format.specs.RollingBack.{rollbackVerdict}
 use Rattle.format.specs.Facts.{HeaderOk, IndexOk, EntryOk, TableOk, BlockOk, ItemOk, Identified}
 use Rattle.format.proofs.Lists.{all-head, all-tail}
 use Rattle.format.proofs.Tests.{on-or-off, not-iff, below-iff, atLeast-true, atLeast-iff, same-on, same-true, same-iff, differs-iff, or-iff, and-iff, choose-true, choose-false}
-use Rattle.format.proofs.Refusals.{answer-passes, answer-refuses, not-passes, row-iff, then-iff, then-rest, row-refuses, then-refuses, firstRefusal-iff, Number, row-number, then-number, Gives, number-not}
+use Rattle.format.proofs.Refusals.{answer-passes, answer-refuses, not-passes, row-iff, then-iff, then-rest, row-refuses, then-refuses, firstRefusal-iff, Says, row-says, then-says, Gives, says-not}
 
 -- the facts of a chain of checks, put into a record or a list
 facts : {A B C : Type 0} → A ↔ B → (B → C) → (C → B) → A ↔ C
@@ -60,11 +60,11 @@ entries-ok img (suc k) p =
     facts (then-iff (entry-ok img p) (entries-ok img k (p + entryLength))) (λ (h, hs). more h hs) (λ h. (all-head h, all-tail h))
 
 -- the one table of a list of offsets
-pub one-ok : (l : List ℕ) → (oneOf l ≡ Passes) ↔ (l ≡ getD l 0 0 ∷ [])
+pub one-ok : (o : ℕ) (l : List ℕ) → (oneOf o l ≡ Passes) ↔ (l ≡ getD l 0 0 ∷ [])
 unfolding oneOf
-one-ok [] = (λ h. absurd (not-passes h), λ h. absurd (cons-ne-nil _ _ (sym h)))
-one-ok (t ∷ []) = (λ h. refl, λ h. refl)
-one-ok (t ∷ u ∷ l) = (λ h. absurd (not-passes h), λ h. absurd (cons-ne-nil u l cc))
+one-ok o [] = (λ h. absurd (not-passes h), λ h. absurd (cons-ne-nil _ _ (sym h)))
+one-ok o (t ∷ []) = (λ h. refl, λ h. refl)
+one-ok o (t ∷ u ∷ l) = (λ h. absurd (not-passes h), λ h. absurd (cons-ne-nil u l cc))
 
 pub table-ok : (img : List ℕ) (t : ℕ) → (tableVerdict img t ≡ Passes) ↔ TableOk img t
 unfolding tableVerdict tableMalformed sumsDiffer
@@ -96,7 +96,7 @@ open-ok img o =
     (then-iff (header-ok img)
     (then-iff (index-ok img o)
     (then-iff (entries-ok img _ _)
-    (then-iff (one-ok (offsetsOf DDT* (entries img o))) (table-ok img (tableAt img o))))))
+    (then-iff (one-ok o (offsetsOf DDT* (entries img o))) (table-ok img (tableAt img o))))))
     (λ (a, (b, (c, (d, e)))). record { header = a; index = b; entriesOk = c; only = d; table = e })
     (λ k. (k .header, (k .index, (k .entriesOk, (k .only, k .table)))))
 
@@ -126,22 +126,22 @@ pub item-inside : (img : List ℕ) (b i : ℕ) → ItemOk img b i → i * sector
 item-inside img b i k =
     rw suc-mul at (le-trans (mul-le-mul-right (sectorSize img b) (k .item)) (div-mul-le-self (blockLength img b) (sectorSize img b)))
 
--- the numbers that an item's checks give are among 23 to 27
-pub item-number : (P : ℕ → Type 0) → ((m : ℕ) → 23 ≤ m → m ≤ 27 → P m) → (img : List ℕ) (p : Pointer) → Number P (itemVerdict img p)
+-- the numbers that an item's checks give are among 23 to 27, at its block
+pub item-says : (P : ℕ → ℕ → Type 0) (img : List ℕ) (p : Pointer) → ((m : ℕ) → 23 ≤ m → m ≤ 27 → P m (p .block .0)) → Says P (itemVerdict img p)
 unfolding itemVerdict blockVerdict
-item-number P among img p =
-    then-number P _ _
-    (then-number P _ _ (number _ 23 (omega arith) (omega arith))
-    (then-number P _ _ (number _ 24 (omega arith) (omega arith)) (then-number P _ _ (number _ 25 (omega arith) (omega arith)) (number _ 23 (omega arith) (omega arith)))))
-    (then-number P _ _ (number _ 26 (omega arith) (omega arith)) (number _ 27 (omega arith) (omega arith)))
+item-says P img p among =
+    then-says P _ _
+    (then-says P _ _ (says _ 23 (omega arith) (omega arith))
+    (then-says P _ _ (says _ 24 (omega arith) (omega arith)) (then-says P _ _ (says _ 25 (omega arith) (omega arith)) (says _ 23 (omega arith) (omega arith)))))
+    (then-says P _ _ (says _ 26 (omega arith) (omega arith)) (says _ 27 (omega arith) (omega arith)))
   where
-    number : (b : Bool) (m : ℕ) → 23 ≤ m → m ≤ 27 → Number P (row b (refusal m))
-    number b m h k = row-number P b (refusal m) (among m h k)
+    says : (b : Bool) (m : ℕ) → 23 ≤ m → m ≤ 27 → Says P (row b (refusal m (p .block .0)))
+    says b m h k = row-says P b (refusal m (p .block .0)) (among m h k)
 
-pub pointer-not-21 : (img : List ℕ) (es : List Entry) (p : Pointer) → ¬ Gives 21 (pointerVerdict img es p)
+pub pointer-not-21 : (img : List ℕ) (es : List Entry) (at : ℕ) (p : Pointer) → ¬ Gives 21 (pointerVerdict img es at p)
 unfolding pointerVerdict
-pointer-not-21 img es p =
-    number-not 21 _ (then-number (λ m. m ≢ 21) _ _ (row-number _ _ (refusal 22) (λ e. omega arith)) (item-number _ (λ m h k e. omega arith) img p))
+pointer-not-21 img es at p =
+    says-not 21 _ (then-says (λ m q. m ≢ 21) _ _ (row-says _ _ (refusal 22 at) (λ e. omega arith)) (item-says _ img p (λ m h k e. omega arith)))
 
 -- a verdict but for 21
 pub keeps-others : (v : Verdict) → ¬ Gives 21 v → otherThan21 v ≡ v
@@ -172,23 +172,23 @@ module _ (img : List ℕ) (es : List Entry) (t : Opened) (a : ℕ) where
       (λ (b, (c, (d, e))). record { inside = b; written = c; named = d; item = e }) (λ k. (k .inside, (k .written, (k .named, k .item))))
 
   -- which addresses are refused with 20 and with 21
-  sector-20 : t .count ≤ a → sectorVerdict img es t a ≡ Refuses (refusal 20)
+  sector-20 : t .count ≤ a → sectorVerdict img es t a ≡ Refuses (refusal 20 0)
   unfolding sectorVerdict
   sector-20 h = then-refuses _ _ _ (row-refuses _ _ (atLeast-true a (t .count) h))
 
-  pub sector-21 : a < t .count → notWritten img t a ≡ true → sectorVerdict img es t a ≡ Refuses (refusal 21)
+  pub sector-21 : a < t .count → notWritten img t a ≡ true → sectorVerdict img es t a ≡ Refuses (refusal 21 0)
   unfolding sectorVerdict
   sector-21 h e = then-rest _ _ (row-iff _ atLeast-iff .1 h) ∙ then-refuses _ _ _ (row-refuses _ _ e)
 
   -- all others by what their pointers point to
-  pub sector-pointer : a < t .count → notWritten img t a ≡ false → sectorVerdict img es t a ≡ pointerVerdict img es (pointerAt img t a)
+  pub sector-pointer : a < t .count → notWritten img t a ≡ false → sectorVerdict img es t a ≡ pointerVerdict img es (tableEntryAt t a) (pointerAt img t a)
   unfolding sectorVerdict
-  sector-pointer h e = then-rest _ _ (row-iff (refusal 20) atLeast-iff .1 h) ∙ then-rest _ _ (row-iff (refusal 21) Iff·rfl .1 e)
+  sector-pointer h e = then-rest _ _ (row-iff (refusal 20 0) atLeast-iff .1 h) ∙ then-rest _ _ (row-iff (refusal 21 0) Iff·rfl .1 e)
 
   gives-21 : a < t .count → Gives 21 (sectorVerdict img es t a) ↔ (notWritten img t a ≡ true)
   unfolding Gives
   gives-21 h = (
-    (λ e. ⊎-elim (λ q. q) (λ q. absurd (pointer-not-21 img es _ (subst (Gives 21) (sector-pointer h q) e))) (on-or-off (notWritten img t a))),
+    (λ e. ⊎-elim (λ q. q) (λ q. absurd (pointer-not-21 img es _ _ (subst (Gives 21) (sector-pointer h q) e))) (on-or-off (notWritten img t a))),
     λ e. subst (Gives 21) (sym (sector-21 h e)) refl,
   )
 
@@ -213,11 +213,11 @@ module _ (img : List ℕ) (o : ℕ) (k : OpenOk img o) (a : ℕ) where
   unfolding readVerdict
   verdict-opened = then-rest _ _ (open-ok img o .1 k)
 
-  pub read-20 : opened img o .count ≤ a → readAt img o a ≡ refused (refusal 20)
+  pub read-20 : opened img o .count ≤ a → readAt img o a ≡ refused (refusal 20 0)
   unfolding readAt
   read-20 h = answer-refuses _ _ _ (verdict-opened ∙ sector-20 img (entries img o) (opened img o) a h)
 
-  pub read-21 : a < opened img o .count → notWritten img (opened img o) a ≡ true → readAt img o a ≡ refused (refusal 21)
+  pub read-21 : a < opened img o .count → notWritten img (opened img o) a ≡ true → readAt img o a ≡ refused (refusal 21 0)
   unfolding readAt
   read-21 h e = answer-refuses _ _ _ (verdict-opened ∙ sector-21 img (entries img o) (opened img o) a h e)
 

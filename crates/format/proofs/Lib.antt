@@ -3,7 +3,7 @@ pub mod Refusals
 pub mod Chains
 pub mod Lists
 pub mod Checks
-pub mod Numbers
+pub mod Refusing
 pub mod Answers
 pub mod Named
 pub mod Agree

@@ -63,41 +63,46 @@ pub then-refuses : (v w : Verdict) (r : Refusal) → v ≡ Refuses r → (v then
 unfolding _then_
 then-refuses v w r p = rw p
 
--- ---- the number of a refusal
--- what holds of the number that a verdict refuses with, if it does
-unfoldable pub Number : (ℕ → Type 0) → Verdict → Type 0
-Number P Passes = Unit {0}
-Number P (Refuses r) = P (r .number)
+-- ---- what a refusal says
+-- what holds of the number and the place that a verdict refuses with, if it does
+unfoldable pub Says : (ℕ → ℕ → Type 0) → Verdict → Type 0
+Says P Passes = Unit {0}
+Says P (Refuses r) = P (r .number) (r .place .0)
 
-module _ (P : ℕ → Type 0) where
-  pub row-number : (b : Bool) (r : Refusal) → P (r .number) → Number P (row b r)
-  unfolding row Number
-  row-number true r p = p
-  row-number false r p = tt
+module _ (P : ℕ → ℕ → Type 0) where
+  pub row-says : (b : Bool) (r : Refusal) → P (r .number) (r .place .0) → Says P (row b r)
+  unfolding row Says
+  row-says true r p = p
+  row-says false r p = tt
 
-  pub then-number : (v w : Verdict) → Number P v → Number P w → Number P (v then w)
-  unfolding _then_ Number
-  then-number Passes w p q = q
-  then-number (Refuses r) w p q = p
+  pub then-says : (v w : Verdict) → Says P v → Says P w → Says P (v then w)
+  unfolding _then_ Says
+  then-says Passes w p q = q
+  then-says (Refuses r) w p q = p
 
-  pub first-number : (f : ℕ → Verdict) (k i : ℕ) → ((a : ℕ) → Number P (f a)) → Number P (firstRefusal f k i)
-  unfolding firstRefusal Number
-  first-number f zero i p = tt
-  first-number f (suc k) i p = then-number (f i) _ (p i) (first-number f k (suc i) p)
+  pub first-says : (f : ℕ → Verdict) (n k i : ℕ) → i + k ≡ n → ((a : ℕ) → a < n → Says P (f a)) → Says P (firstRefusal f k i)
+  unfolding firstRefusal Says
+  first-says f n zero i e p = tt
+  first-says f n (suc k) i e p = then-says (f i) _ (p i (omega arith)) (first-says f n k (suc i) (omega arith) p)
 
-  pub number-refused : (v : Verdict) (r : Refusal) → Number P v → v ≡ Refuses r → P (r .number)
-  unfolding Number
-  number-refused v r p e = subst (Number P) e p
+  pub says-refused : (v : Verdict) (r : Refusal) → Says P v → v ≡ Refuses r → P (r .number) (r .place .0)
+  unfolding Says
+  says-refused v r p e = subst (Says P) e p
+
+pub says-also : {P Q : ℕ → ℕ → Type 0} (v : Verdict) → ((n p : ℕ) → P n p → Q n p) → Says P v → Says Q v
+unfolding Says
+says-also Passes f s = tt
+says-also (Refuses r) f s = f _ _ s
 
 -- a verdict refuses with this number
 unfoldable pub Gives : ℕ → Verdict → Type 0
 Gives n Passes = ⊥
 Gives n (Refuses r) = r .number ≡ n
 
-pub number-not : (n : ℕ) (v : Verdict) → Number (λ m. m ≢ n) v → ¬ Gives n v
-unfolding Gives Number
-number-not n Passes p = λ x. x
-number-not n (Refuses r) p = p
+pub says-not : (n : ℕ) (v : Verdict) → Says (λ m p. m ≢ n) v → ¬ Gives n v
+unfolding Gives Says
+says-not n Passes p = λ x. x
+says-not n (Refuses r) p = p
 
 -- ---- answers
 pub answer-passes : {A : Type 0} (v : Verdict) (a : A) → v ≡ Passes → answer v a ≡ accepted a

@@ -27,9 +27,9 @@ rising (a ∷ b ∷ addresses) = below a b and rising (b ∷ addresses)
 unfoldable pub argumentsVerdict : List ℕ → ℕ → List ℕ → ℕ → List ℕ → Verdict
 argumentsVerdict buffer used addresses size sectors =
     bufferVerdict buffer used
-    then row (same size 0 or below largestSize size or below mostAddresses (length addresses)) (refusal 30)
-    then row (differs (length sectors) (length addresses * size)) (refusal 33)
-    then row (not (rising addresses)) (refusal 34)
+    then row (same size 0 or below largestSize size or below mostAddresses (length addresses)) (refusal 30 0)
+    then row (differs (length sectors) (length addresses * size)) (refusal 33 0)
+    then row (not (rising addresses)) (refusal 34 0)
 
 -- an address of the list is not below the count
 unfoldable pub anyOutside : ℕ → List ℕ → Bool
@@ -48,7 +48,7 @@ sectorsVerdict img es t = firstRefusal (λ a. otherThan21 (sectorVerdict img es 
 unfoldable pub discVerdict : List ℕ → ℕ → List ℕ → Verdict
 discVerdict img o addresses =
     openVerdict img o
-    then row (anyOutside (opened img o .count) addresses) (refusal 20)
+    then row (anyOutside (opened img o .count) addresses) (refusal 20 0)
     then sectorsVerdict img (entries img o) (opened img o)
 
 -- ---- "Equal sectors are stored once: for each handed-in sector, the old disc is searched by rising address, then the stored sectors of
@@ -225,7 +225,7 @@ unfoldable pub commitVerdict : List ℕ → ℕ → List ℕ → ℕ → List �
 commitVerdict buffer used addresses size sectors new =
     argumentsVerdict buffer used addresses size sectors
     then discVerdict (take used buffer) (indexOffset (take used buffer)) addresses
-    then row (below (length buffer) (usedAfter used new)) (refusal 35)
+    then row (below (length buffer) (usedAfter used new)) (refusal 35 0)
 
 unfoldable pub commit : List ℕ → ℕ → List ℕ → ℕ → List ℕ → ℕ → Outcome
 commit buffer used addresses size sectors time =

@@ -28,10 +28,10 @@ createdBytes count application major minor mediaType creationTime lastWrittenTim
 -- "Order: 31, 30 (E), 33 (application), 35."
 unfoldable pub createVerdict : List ℕ → ℕ → List ℕ → Verdict
 createVerdict buffer count application =
-    row (below longestBuffer (length buffer)) (refusal 31)
-    then row (same count 0 or below mostSectors count) (refusal 30)
-    then row (differs (length application) applicationLength) (refusal 33)
-    then row (below (length buffer) (createdUsed count)) (refusal 35)
+    row (below longestBuffer (length buffer)) (refusal 31 0)
+    then row (same count 0 or below mostSectors count) (refusal 30 0)
+    then row (differs (length application) applicationLength) (refusal 33 0)
+    then row (below (length buffer) (createdUsed count)) (refusal 35 0)
 
 -- "Later bytes of the buffer don't change."
 unfoldable pub create : List ℕ → ℕ → List ℕ → ℕ → ℕ → ℕ → ℕ → ℕ → Outcome

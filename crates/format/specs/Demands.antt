@@ -11,9 +11,9 @@ use Rattle.format.specs.declared.Placed.{Placed}
 use Rattle.format.specs.declared.Refusal.{Refusal}
 use Rattle.format.specs.Lists.{All, Any, Only, IsBytes}
 use Rattle.format.specs.Refusals.{Answer, refused, accepted}
-use Rattle.format.specs.Layouts.{DBLK, DDT*, CKSM, tag, indexOffset, entries, blockHeaderLength, sectorSize, tableHeaderLength, tableShift, tableCount, tableEntryLength}
-use Rattle.format.specs.Opening.{sectorCount}
-use Rattle.format.specs.Reading.{read, locate}
+use Rattle.format.specs.Layouts.{DBLK, DDT*, CKSM, tag, indexOffset, indexHeaderLength, entryCount, entryLength, entries, blockHeaderLength, sectorSize, tableHeaderLength, tableShift, tableCount, tableEntryLength}
+use Rattle.format.specs.Opening.{tableAt, opened, sectorCount}
+use Rattle.format.specs.Reading.{tableEntryAt, pointerAt, read, locate}
 use Rattle.format.specs.Answers.{bytesRead}
 use Rattle.format.specs.Writing.{placed}
 use Rattle.format.specs.Creating.{create}
@@ -22,8 +22,8 @@ use Rattle.format.specs.RollingBack.{rollback}
 use Rattle.format.specs.Histories.{Call, commits, rollsBack, Point, Moment, reads, ReadTheSame, started, outcomeOf, after, atEnd, Throughout, Permitted}
 use Rattle.format.specs.Facts.{HeaderOk, IndexOk, EntryOk, UserData, TableOk, ItemOk}
 
--- ---- Demand 1: every call refuses by 01's numbers. These are the numbers that each call gives; none is 0, so that an interface can answer 0 for
--- "accepted". (That they are given in 01's order, and exactly when their check applies, is how the calls are defined.)
+-- ---- Demand 1: every call refuses by 01's numbers, and says where: "number and place". (That they are given in 01's order, and exactly when their
+-- check applies, is how the calls are defined.) These are the numbers that each call gives; none is 0, so that an interface can answer 0 for "accepted".
 abbrev pub FromTo : ℕ → ℕ → ℕ → Type 0
 FromTo least most n = (least ≤ n) × (n ≤ most)
 
@@ -42,18 +42,41 @@ committingNumber n = FromTo 1 14 n ⊎ (n ≡ 20) ⊎ FromTo 22 27 n ⊎ FromTo 
 abbrev pub rollingBackNumber : ℕ → Type 0
 rollingBackNumber n = FromTo 1 14 n ⊎ FromTo 31 32 n
 
--- where the answer is a refusal, its number is such
-abbrev pub RefusesBy : {A : Type 0} → (ℕ → Type 0) → Answer A → Type 0
-RefusesBy P a = (r : Refusal) → a ≡ refused r → P (r .number)
+-- 1/13's list: the place of each number, of a call that opens the image at o and looks at the sectors at such addresses
+pub data PlaceFor (img : List ℕ) (o : ℕ) (LookedAt : ℕ → Type 0) : ℕ → ℕ → Type 0 where
+  -- "0 for 1, 2 and 3"
+  atHeader : {n : ℕ} → FromTo 1 3 n → PlaceFor img o LookedAt n 0
+  -- "the index's offset, as read or handed in, even past the end, for 4, 5, 6, 9 and 10"
+  atIndex : {n : ℕ} → FromTo 4 6 n ⊎ FromTo 9 10 n → PlaceFor img o LookedAt n o
+  -- "the place of the index entry for 7 and 8"
+  atEntry : {n : ℕ} (i : ℕ) → FromTo 7 8 n → i < entryCount img o → PlaceFor img o LookedAt n (o + indexHeaderLength + entryLength * i)
+  -- "the table's offset for 11 to 14"
+  atTable : {n : ℕ} → FromTo 11 14 n → PlaceFor img o LookedAt n (tableAt img o)
+  -- "the place of the table entry for 22"
+  atTableEntry : (a : ℕ) → LookedAt a → PlaceFor img o LookedAt 22 (tableEntryAt (opened img o) a)
+  -- "the block's offset for 23 to 27"
+  atBlock : {n : ℕ} (a : ℕ) → FromTo 23 27 n → LookedAt a → PlaceFor img o LookedAt n (pointerAt img (opened img o) a .block .0)
+  -- "0 for all others"
+  atNone : {n : ℕ} → FromTo 20 21 n ⊎ FromTo 30 35 n → PlaceFor img o LookedAt n 0
 
-pub record Demand1Numbers : Type 0 where
-  pub counting : (img : List ℕ) → RefusesBy openingNumber (sectorCount img)
-  pub locating : (img : List ℕ) (a : ℕ) → RefusesBy readingNumber (locate img a)
+-- where the answer is a refusal, its number and its place are such
+abbrev pub RefusesBy : {A : Type 0} → (ℕ → Type 0) → (ℕ → ℕ → Type 0) → Answer A → Type 0
+RefusesBy N P a = (r : Refusal) → a ≡ refused r → N (r .number) × P (r .number) (r .place .0)
+
+-- a call that looks at no sector
+abbrev pub NoSector : ℕ → Type 0
+NoSector a = ⊥
+
+pub record Demand1Refusals : Type 0 where
+  pub counting : (img : List ℕ) → RefusesBy openingNumber (PlaceFor img (indexOffset img) NoSector) (sectorCount img)
+  pub locating : (img : List ℕ) (a : ℕ) → RefusesBy readingNumber (PlaceFor img (indexOffset img) (λ b. b ≡ a)) (locate img a)
   pub creating : (buffer : List ℕ) (count : ℕ) (application : List ℕ) (major minor mediaType creationTime lastWrittenTime : ℕ)
-      → RefusesBy creatingNumber (create buffer count application major minor mediaType creationTime lastWrittenTime .result)
+      → RefusesBy creatingNumber (λ n p. p ≡ 0) (create buffer count application major minor mediaType creationTime lastWrittenTime .result)
   pub committing : (buffer : List ℕ) (used : ℕ) (addresses : List ℕ) (size : ℕ) (sectors : List ℕ) (time : ℕ)
-      → RefusesBy committingNumber (commit buffer used addresses size sectors time .result)
-  pub rollingBack : (buffer : List ℕ) (used offset time : ℕ) → RefusesBy rollingBackNumber (rollback buffer used offset time .result)
+      → let img = take used buffer in
+      RefusesBy committingNumber (PlaceFor img (indexOffset img) (λ a. a < opened img (indexOffset img) .count)) (commit buffer used addresses size sectors time .result)
+  pub rollingBack : (buffer : List ℕ) (used offset time : ℕ)
+      → RefusesBy rollingBackNumber (PlaceFor (take used buffer) offset NoSector) (rollback buffer used offset time .result)
 
 -- ---- Demand 2, reading: in an image that opens, a sector is given exactly if its table entry names an item of an indexed, intact,
 -- unpacked data block, and then it is that item's bytes.
@@ -128,7 +151,7 @@ Demand2Committing =
 
 -- ---- Demand 3: one claim over the whole list.
 -- (a) A rollback, made at m, to the offset of a point: it is accepted, it answers `used` and the offset, and right after it every address
--- reads the same bytes, or the same refusal, as at the point
+-- reads the same bytes, or the same refusal, number and place, as at the point
 pub record ReturnsTo (m : Moment) (offset time : ℕ) (p : Point) : Type 0 where
   pub accepts : outcomeOf m (rollsBack offset time) .result ≡ accepted (placed (m .used) offset)
   pub same : ReadTheSame (reads (after m (rollsBack offset time))) (p .disc)

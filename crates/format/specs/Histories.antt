@@ -32,7 +32,7 @@ unfoldable pub reads : Moment → ℕ → Answer (List ℕ)
 reads m = read (take (m .used) (m .buffer))
 
 -- "Two moments read the same if, for every address that a read can be handed, a read .. gives the same bytes, length included, or the
--- same refusal."
+-- same refusal." By 1/13 a refusal is its number and its place: two moments read the same only if the places agree too.
 unfoldable pub ReadTheSame : (ℕ → Answer (List ℕ)) → (ℕ → Answer (List ℕ)) → Type 0
 ReadTheSame one other = (a : ℕ) → one a ≡ other a
 

@@ -20,25 +20,25 @@ lacks img at letters = differs (field img at (length letters)) (tag letters)
 -- 1. "`used` below 72: 1. Identifier neither 'AARUFRMT' nor 'DICMFRMT': 2. Image major not 2: 3 (minor is not looked at)."
 unfoldable pub headerVerdict : List ℕ → Verdict
 headerVerdict img =
-    row (below (length img) headerLength) (refusal 1)
-    then row (lacks img 0 AARUFRMT and lacks img 0 DICMFRMT) (refusal 2)
-    then row (differs (field img imageMajorAt 1) 2) (refusal 3)
+    row (below (length img) headerLength) (refusal 1 0)
+    then row (lacks img 0 AARUFRMT and lacks img 0 DICMFRMT) (refusal 2 0)
+    then row (differs (field img imageMajorAt 1) 2) (refusal 3 0)
 
 -- 2. "indexOffset below 72, or its header past the end: 4. Not 'IDX2': 5. Entries past the end: 4. Checksum: 6."
 unfoldable pub indexVerdict : List ℕ → ℕ → Verdict
 indexVerdict img o =
-    row (below o headerLength or below (length img) (o + indexHeaderLength)) (refusal 4)
-    then row (lacks img o IDX2) (refusal 5)
-    then row (below (length img) (o + indexHeaderLength + entryLength * entryCount img o)) (refusal 4)
-    then row (differs (crcOf (entriesPart img o)) (indexCrc64 img o)) (refusal 6)
+    row (below o headerLength or below (length img) (o + indexHeaderLength)) (refusal 4 o)
+    then row (lacks img o IDX2) (refusal 5 o)
+    then row (below (length img) (o + indexHeaderLength + entryLength * entryCount img o)) (refusal 4 o)
+    then row (differs (crcOf (entriesPart img o)) (indexCrc64 img o)) (refusal 6 o)
 
 -- 3. "For each index entry in turn: offset below 72 or offset + 4 past the end: 7; the four bytes there differ from blockType: 8."
 -- The entry stands at place p.
 unfoldable pub entryVerdict : List ℕ → ℕ → Verdict
 entryVerdict img p =
     let e = entryAt img p in
-    row (below (e .offset .0) headerLength or below (length img) (e .offset .0 + 4)) (refusal 7)
-    then row (differs (field img (e .offset .0) 4) (e .blockType)) (refusal 8)
+    row (below (e .offset .0) headerLength or below (length img) (e .offset .0 + 4)) (refusal 7 p)
+    then row (differs (field img (e .offset .0) 4) (e .blockType)) (refusal 8 p)
 
 -- the k entries from place p on
 unfoldable pub entriesVerdict : List ℕ → ℕ → ℕ → Verdict
@@ -59,13 +59,14 @@ unfoldable pub offsetsOf : List ℕ → List Entry → List ℕ
 offsetsOf letters [] = []
 offsetsOf letters (e ∷ es) = choose (isUserData letters e) (e .offset .0 ∷ offsetsOf letters es) (offsetsOf letters es)
 
-unfoldable pub oneOf : List ℕ → Verdict
-oneOf [] = Refuses (refusal 9)
-oneOf (t ∷ []) = Passes
-oneOf (t ∷ u ∷ ts) = Refuses (refusal 10)
+-- where the index at o names these tables
+unfoldable pub oneOf : ℕ → List ℕ → Verdict
+oneOf o [] = Refuses (refusal 9 o)
+oneOf o (t ∷ []) = Passes
+oneOf o (t ∷ u ∷ ts) = Refuses (refusal 10 o)
 
 unfoldable pub oneVerdict : List ℕ → ℕ → Verdict
-oneVerdict img o = oneOf (offsetsOf DDT* (entries img o))
+oneVerdict img o = oneOf o (offsetsOf DDT* (entries img o))
 
 -- the table's place, where the index names one table
 unfoldable pub tableAt : List ℕ → ℕ → ℕ
@@ -84,11 +85,11 @@ sumsDiffer sum stored1 stored2 = differs sum stored1 or differs sum stored2
 
 unfoldable pub tableVerdict : List ℕ → ℕ → Verdict
 tableVerdict img t =
-    row (below (length img) (t + tableHeaderLength)) (refusal 11)
-    then row (differs (tableCompression img t) 0) (refusal 13)
-    then row (tableMalformed img t) (refusal 12)
-    then row (below (length img) (t + tableHeaderLength + tableLength img t)) (refusal 11)
-    then row (sumsDiffer (crcOf (tablePayload img t)) (tableCmpCrc64 img t) (tableCrc64 img t)) (refusal 14)
+    row (below (length img) (t + tableHeaderLength)) (refusal 11 t)
+    then row (differs (tableCompression img t) 0) (refusal 13 t)
+    then row (tableMalformed img t) (refusal 12 t)
+    then row (below (length img) (t + tableHeaderLength + tableLength img t)) (refusal 11 t)
+    then row (sumsDiffer (crcOf (tablePayload img t)) (tableCmpCrc64 img t) (tableCrc64 img t)) (refusal 14 t)
 
 -- all of opening's checks
 unfoldable pub openVerdict : List ℕ → ℕ → Verdict

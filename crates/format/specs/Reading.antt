@@ -15,9 +15,12 @@ use Rattle.format.specs.Refusals.{refusal, row, _then_, Answer, answer}
 use Rattle.format.specs.Layouts.{DBLK, indexOffset, entries, blockHeaderLength, blockDataType, blockCompression, sectorSize, blockCmpLength, blockLength, blockCmpCrc64, blockCrc64, blockPayload, tableHeaderLength, tableEntryLength, decode}
 use Rattle.format.specs.Opening.{Opened, opened, openVerdict, offsetsOf, sumsDiffer}
 
--- the table entry of address a
+-- the table entry of address a: where it stands, and the number there
+abbrev pub tableEntryAt : Opened → ℕ → ℕ
+tableEntryAt t a = t .table + tableHeaderLength + tableEntryLength * a
+
 unfoldable pub tableEntry : List ℕ → Opened → ℕ → ℕ
-tableEntry img t a = field img (t .table + tableHeaderLength + tableEntryLength * a) tableEntryLength
+tableEntry img t a = field img (tableEntryAt t a) tableEntryLength
 
 -- not written (01's own term): "Entry 0x0 means not written."
 unfoldable pub notWritten : List ℕ → Opened → ℕ → Bool
@@ -41,30 +44,30 @@ blockMalformed img b =
 
 unfoldable pub blockVerdict : List ℕ → ℕ → Verdict
 blockVerdict img b =
-    row (below (length img) (b + blockHeaderLength)) (refusal 23)
-    then row (differs (blockCompression img b) 0) (refusal 24)
-    then row (blockMalformed img b) (refusal 25)
-    then row (below (length img) (b + blockHeaderLength + blockLength img b)) (refusal 23)
+    row (below (length img) (b + blockHeaderLength)) (refusal 23 b)
+    then row (differs (blockCompression img b) 0) (refusal 24 b)
+    then row (blockMalformed img b) (refusal 25 b)
+    then row (below (length img) (b + blockHeaderLength + blockLength img b)) (refusal 23 b)
 
 -- "item number not below length / sectorSize: 26; either checksum wrong: 27"
 unfoldable pub itemVerdict : List ℕ → Pointer → Verdict
 itemVerdict img p =
     let b = p .block .0 in
     blockVerdict img b
-    then row (atLeast (p .item .0) (blockLength img b / sectorSize img b)) (refusal 26)
-    then row (sumsDiffer (crcOf (blockPayload img b)) (blockCmpCrc64 img b) (blockCrc64 img b)) (refusal 27)
+    then row (atLeast (p .item .0) (blockLength img b / sectorSize img b)) (refusal 26 b)
+    then row (sumsDiffer (crcOf (blockPayload img b)) (blockCmpCrc64 img b) (blockCrc64 img b)) (refusal 27 b)
 
--- what a pointer points to: "byte offset named by no index entry with blockType 'DBLK' and dataType 1: 22", where the index has the
--- entries es, and the item's checks
-unfoldable pub pointerVerdict : List ℕ → List Entry → Pointer → Verdict
-pointerVerdict img es p = row (not (has (p .block .0) (offsetsOf DBLK es))) (refusal 22) then itemVerdict img p
+-- what a pointer, whose table entry stands at place `at`, points to: "byte offset named by no index entry with blockType 'DBLK' and
+-- dataType 1: 22", where the index has the entries es, and the item's checks
+unfoldable pub pointerVerdict : List ℕ → List Entry → ℕ → Pointer → Verdict
+pointerVerdict img es at p = row (not (has (p .block .0) (offsetsOf DBLK es))) (refusal 22 at) then itemVerdict img p
 
 -- a sector of an opened image: "address not below entries: 20; not written: 21", and its pointer's checks
 unfoldable pub sectorVerdict : List ℕ → List Entry → Opened → ℕ → Verdict
 sectorVerdict img es t a =
-    row (atLeast a (t .count)) (refusal 20)
-    then row (notWritten img t a) (refusal 21)
-    then pointerVerdict img es (pointerAt img t a)
+    row (atLeast a (t .count)) (refusal 20 0)
+    then row (notWritten img t a) (refusal 21 0)
+    then pointerVerdict img es (tableEntryAt t a) (pointerAt img t a)
 
 -- where an item lies
 unfoldable pub placeOf : List ℕ → Pointer → Place

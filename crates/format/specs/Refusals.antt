@@ -1,12 +1,14 @@
 -- Refusals. "A number is given exactly when its check is the first in the call's order that applies; a call to which none applies is accepted."
+-- 1/13: "A refusal now returns a byte offset in its image beside its number". Each row says both; `PlaceFor` in Demands is 1/13's list of the places.
 use mathlib.Core.Bool.{Bool, true, false}
 use Prim.Native.Nat.{ℕ, zero, suc}
 use Rattle.format.specs.declared.Refusal.{Refusal}
 use Rattle.format.specs.declared.Verdict.{Verdict}
 use Rattle.format.specs.declared.Verdict.the-variants.{Passes, Refuses}
 
-abbrev pub refusal : ℕ → Refusal
-refusal n = record { number = n }
+-- by this number, at this place
+abbrev pub refusal : ℕ → ℕ → Refusal
+refusal number place = record { number = number; place = record { 0 = place } }
 
 -- one check: its refusal where its test applies
 unfoldable pub row : Bool → Refusal → Verdict

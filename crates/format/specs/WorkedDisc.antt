@@ -25,10 +25,10 @@ unfoldable pub leaves : ℕ → ℕ → Answer Placed → Bool
 leaves used index (refused r) = false
 leaves used index (accepted p) = same (p .used) used and same (p .index .0) index
 
--- refused with this number
-unfoldable pub refusedWith : {A : Type 0} → ℕ → Answer A → Bool
-refusedWith n (refused r) = same (r .number) n
-refusedWith n (accepted a) = false
+-- refused with this number at this place
+unfoldable pub refusedWith : {A : Type 0} → ℕ → ℕ → Answer A → Bool
+refusedWith n place (refused r) = same (r .number) n and same (r .place .0) place
+refusedWith n place (accepted a) = false
 
 -- accepted with these bytes
 unfoldable pub gives : List ℕ → Answer (List ℕ) → Bool
@@ -80,19 +80,20 @@ workedDisc =
     -- P3: "Then commit address 1 "AAAA": no block, table 350, index 423, used 475, entries 362, 362, 363." And the listing's lines
     ∷ leaves 475 423 (p3 .result) ∷ hasTable i3 350 1 (362 ∷ 362 ∷ 363 ∷ [])
     ∷ liesAt 217 4 (locate i3 0) ∷ liesAt 217 4 (locate i3 1) ∷ liesAt 221 4 (locate i3 2)
-    -- P4: "Roll back to 298: address 1 is 21; used stays 475." P5: "Back to 423: address 1 reads "AAAA"."
-    ∷ leaves 475 298 (p4 .result) ∷ refusedWith 21 (read i4 1) ∷ leaves 475 423 (p5 .result) ∷ gives AAAA (read i5 1)
+    -- P4: "Roll back to 298: address 1 is 21; used stays 475." 21 has no place. P5: "Back to 423: address 1 reads "AAAA"."
+    ∷ leaves 475 298 (p4 .result) ∷ refusedWith 21 0 (read i4 1) ∷ leaves 475 423 (p5 .result) ∷ gives AAAA (read i5 1)
     -- P6: "After P4, commit 1 "BBBB": entry 363, used 600."
     ∷ leaves 600 548 (p6 .result) ∷ hasTable i6 475 1 (362 ∷ 363 ∷ 363 ∷ [])
     -- P7: "Empty commit after P1: table 181, index 254, used 290."
     ∷ leaves 290 254 (p7 .result) ∷ hasTable i7 181 0 (0 ∷ 0 ∷ 0 ∷ [])
     -- P8: "Largest item 0, 1, 2, 3, 4: shift 0, 1, 2, 2, 3."
     ∷ equal (map shiftFor (0 ∷ 1 ∷ 2 ∷ 3 ∷ 4 ∷ [])) (0 ∷ 1 ∷ 2 ∷ 2 ∷ 3 ∷ [])
-    -- P9: "In P1's bytes indexOffset 4,294,967,295 gives 4 (a 32-bit sum gives 19); 162 and 71 give 4; 161 gives 5."
-    ∷ refusedWith 4 (opening (overwrite i1 indexOffsetAt (toLe 8 4294967295))) ∷ refusedWith 4 (opening (overwrite i1 indexOffsetAt (toLe 8 162)))
-    ∷ refusedWith 4 (opening (overwrite i1 indexOffsetAt (toLe 8 71))) ∷ refusedWith 5 (opening (overwrite i1 indexOffsetAt (toLe 8 161)))
-    -- P10: "In P2's block both lengths 4,294,967,292: 23 for address 0 (a 32-bit sum gives 213)."
-    ∷ refusedWith 23 (read (overwrite i2 193 (toLe 4 4294967292 ++ toLe 4 4294967292)) 0)
+    -- P9: "In P1's bytes indexOffset 4,294,967,295 gives 4 (a 32-bit sum gives 19); 162 and 71 give 4; 161 gives 5." Each at that offset
+    ∷ refusedWith 4 4294967295 (opening (overwrite i1 indexOffsetAt (toLe 8 4294967295)))
+    ∷ refusedWith 4 162 (opening (overwrite i1 indexOffsetAt (toLe 8 162))) ∷ refusedWith 4 71 (opening (overwrite i1 indexOffsetAt (toLe 8 71)))
+    ∷ refusedWith 5 161 (opening (overwrite i1 indexOffsetAt (toLe 8 161)))
+    -- P10: "In P2's block both lengths 4,294,967,292: 23 for address 0 (a 32-bit sum gives 213)." At the block
+    ∷ refusedWith 23 181 (read (overwrite i2 193 (toLe 4 4294967292 ++ toLe 4 4294967292)) 0)
     -- P11: "Checksum of no bytes is 0." P12: "0x8003 with shift 5 is offset 1024, item 3."
     ∷ same (crcOf []) 0 ∷ same (decode 5 0x8003 .block .0) 1024 ∷ same (decode 5 0x8003 .item .0) 3
     -- beyond the P cases: the header as creating (versions 2.0 and 1.2, mediaType 3, times 4 and 5), a commit (6) and a rollback (8) leave it

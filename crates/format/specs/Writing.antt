@@ -31,7 +31,7 @@ longestBuffer = 4294967296
 
 -- 31 and 32, with which committing and rolling back begin
 unfoldable pub bufferVerdict : List ℕ → ℕ → Verdict
-bufferVerdict buffer used = row (below longestBuffer (length buffer)) (refusal 31) then row (below (length buffer) used) (refusal 32)
+bufferVerdict buffer used = row (below longestBuffer (length buffer)) (refusal 31 0) then row (below (length buffer) used) (refusal 32 0)
 
 -- what a call that writes answers, and every byte of the buffer afterwards
 pub record Outcome : Type 0 where
@@ -41,7 +41,7 @@ pub record Outcome : Type 0 where
 abbrev pub placed : ℕ → ℕ → Placed
 placed used index = record { used = used; index = record { 0 = index } }
 
--- the outcome of a call on `buffer` by its verdict: "Each refusal, 1 to 35, returns its number alone and writes nothing."
+-- the outcome of a call on `buffer` by its verdict. 01, as 1/13 has it: "Each refusal, 1 to 35, returns its number and place and writes nothing."
 unfoldable pub outcome : List ℕ → Verdict → Placed → List ℕ → Outcome
 outcome buffer Passes p new = record { result = accepted p; buffer = new }
 outcome buffer (Refuses r) p new = record { result = refused r; buffer = buffer }

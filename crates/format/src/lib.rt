@@ -10,9 +10,10 @@ pub struct ItemNumber(pub u64);
 // Which sector of a disc.
 pub struct SectorAddress(pub u64);
 
-// Why a call is refused: the number of document 01.
+// Why a call is refused: the number of document 01, and the byte offset in the image of what it is about, 0 where there is none.
 pub struct Refusal {
     pub number: u32,
+    pub place: ByteOffset,
 }
 
 // What a check, or a chain of checks, comes to.

@@ -80,7 +80,8 @@ const LISTS: [[u64; 6]; 18] = [
 
 // The answer to a row whose numbers are past the bounds here; 01 has no such refusal.
 fn no_call() -> Updated {
-    Updated::Refused(Refusal { number: 0 })
+    let place = ByteOffset(0);
+    Updated::Refused(Refusal { number: 0, place })
 }
 
 // Creates. The application is bytes of 7, its version 1.2, mediaType 3.

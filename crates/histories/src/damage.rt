@@ -24,16 +24,19 @@ const DDT: u64 = 0x1_2a54_4444; // 'DDT*', dataType 1
 
 const DBLK: u64 = 0x1_4b4c_4244; // 'DBLK', dataType 1
 
-const ROWS: [[u64; 5]; 44] = [
+const ROWS: [[u64; 5]; 52] = [
     [FRESH, 900, 0, 0, 0],
     [CREATE, 3, 32, 4, 5],
     [COMMIT, 181, AT_0_2, 4, 6],
     [COMMIT, 350, AT_1, 4, 7],
     [SET, BLOCK + 28, 8, 0, 0], // crc64
     [COMMIT, 531, NONE, 4, 8],
+    [CRC, BLOCK + 28, BLOCK + 36, 4, 0],
     [SET, TABLE + 65, 8, 2 * 145, 0], // entry 2: no block there
     [CRC, TABLE + 33, TABLE + 49, 24, 0],
     [CRC, TABLE + 41, TABLE + 49, 24, 0],
+    [COMMIT, 531, NONE, 4, 8],
+    [SET, BLOCK + 28, 8, 0, 0], // crc64
     [DISC, 531, 0, 0, 0],
     [COMMIT, 531, NONE, 4, 8],
     [SET, TABLE + 49, 8, 2 * BLOCK + 1, 0], // entry 0: an item too many, of the damaged block
@@ -52,6 +55,11 @@ const ROWS: [[u64; 5]; 44] = [
     [SET, BLOCK + 6, 2, 1, 0], // compression
     [COMMIT, 531, NONE, 4, 8],
     [SET, BLOCK + 6, 2, 0, 0], // compression
+    [SET, BLOCK + 12, 8, 0x3e8_0000_03e8, 0], // cmpLength and length
+    [COMMIT, 531, NONE, 4, 8],
+    [SET, BLOCK + 16, 4, 4, 0], // length
+    [COMMIT, 531, NONE, 4, 8],
+    [SET, BLOCK + 12, 4, 4, 0], // cmpLength
     [CRC, BLOCK + 28, BLOCK + 36, 4, 0],
     [SET, INDEX, 4, 0x3258_4449, 0], // IDX2
     [SET, INDEX + 4, 8, 4, 0], // entries
@@ -76,12 +84,15 @@ pub fn all() {
         b"P1\nP2\nAAAABBBB\n\
           a second block, address 1\nCCCC\n\
           commit, address 1 is 27\n\n\
+          commit, address 2 is 22\n\n\
           address 1 is 27, address 2 is 22\n\
           commit, 27 of the lower address\n\n\
           address 0 is 26 in the damaged block, address 1 is 27, address 2 is 22\n\
           commit, 26 before 27, of the lower address\n\n\
           commit, addresses 0 and 1 are 27\n\n\
           commit, 24 before 27, address 1\n\n\
+          commit, 23 before 27, address 1\n\n\
+          commit, 25 before 27, address 1\n\n\
           an index that names the second block twice\n\
           commit, address 1 is 27\nDDDD\n\
           commit, no address is refused\nDDDD\n",

@@ -64,20 +64,20 @@ module _ (letters img : List ℕ) (left p : ℕ) where
 
 -- ---- checks 9 and 10; all entries are those of the index at o
 module _ (img : List ℕ) (o : ℕ) where
-  one-is : oneAnswer (offsetsOf DDT* (entries img o)) ≡ answer (oneVerdict img o) (tableAt img o)
+  one-is : oneAnswer o (offsetsOf DDT* (entries img o)) ≡ answer (oneVerdict img o) (tableAt img o)
   unfolding oneVerdict tableAt
   one-is = refl
 
-  module _ (left p : ℕ) (seen : Tables) (all : oneAnswer (before seen (offsetsOf DDT* (entriesFrom img left p))) ≡ oneAnswer (offsetsOf DDT* (entries img o))) where
+  module _ (left p : ℕ) (seen : Tables) (all : oneAnswer o (before seen (offsetsOf DDT* (entriesFrom img left p))) ≡ oneAnswer o (offsetsOf DDT* (entries img o))) where
     pub one-goes : (next : Tables) → 0 < left
-        → ((l : List ℕ) → oneAnswer (before next l) ≡ oneAnswer (before seen (choose (isUserData DDT* (entryAt img p)) (entryAt img p .offset .0 ∷ l) l)))
-        → oneAnswer (before next (offsetsOf DDT* (entriesFrom img (left - 1) (p + entryLength)))) ≡ oneAnswer (offsetsOf DDT* (entries img o))
-    one-goes next h e = e _ ∙ ap (λ (l : List ℕ). oneAnswer (before seen l)) (sym (offsets-next DDT* img left p h)) ∙ all
+        → ((l : List ℕ) → oneAnswer o (before next l) ≡ oneAnswer o (before seen (choose (isUserData DDT* (entryAt img p)) (entryAt img p .offset .0 ∷ l) l)))
+        → oneAnswer o (before next (offsetsOf DDT* (entriesFrom img (left - 1) (p + entryLength)))) ≡ oneAnswer o (offsetsOf DDT* (entries img o))
+    one-goes next h e = e _ ∙ ap (λ (l : List ℕ). oneAnswer o (before seen l)) (sym (offsets-next DDT* img left p h)) ∙ all
 
-    done : left ≤ 0 → oneAnswer (before seen []) ≡ answer (oneVerdict img o) (tableAt img o)
-    done h = ap (λ (l : List ℕ). oneAnswer (before seen l)) (sym (offsets-done DDT* img left p h)) ∙ all ∙ one-is
+    done : left ≤ 0 → oneAnswer o (before seen []) ≡ answer (oneVerdict img o) (tableAt img o)
+    done h = ap (λ (l : List ℕ). oneAnswer o (before seen l)) (sym (offsets-done DDT* img left p h)) ∙ all ∙ one-is
 
-    pub one-none : left ≤ 0 → seen ≡ tables.None → refused (refusal 9) ≡ answer (oneVerdict img o) (tableAt img o)
+    pub one-none : left ≤ 0 → seen ≡ tables.None → refused (refusal 9 o) ≡ answer (oneVerdict img o) (tableAt img o)
     unfolding before oneOf answer
     one-none h e = rw e at (done h)
 
@@ -85,6 +85,6 @@ module _ (img : List ℕ) (o : ℕ) where
     unfolding before oneOf answer
     one-single t h e = rw e at (done h)
 
-    pub one-many : left ≤ 0 → seen ≡ tables.More → refused (refusal 10) ≡ answer (oneVerdict img o) (tableAt img o)
+    pub one-many : left ≤ 0 → seen ≡ tables.More → refused (refusal 10 o) ≡ answer (oneVerdict img o) (tableAt img o)
     unfolding before oneOf answer
     one-many h e = rw e at (done h)

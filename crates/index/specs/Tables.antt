@@ -15,9 +15,9 @@ use Rattle.index.specs.declared.Named.the-variants as named
 abbrev pub namedVerdict : List ℕ → ℕ → Verdict
 namedVerdict img o = entriesVerdict img (entryCount img o) (o + indexHeaderLength) then oneVerdict img o
 
--- checks 9 and 10 of a list of tables
-abbrev pub oneAnswer : List ℕ → Answer ℕ
-oneAnswer l = answer (oneOf l) (getD l 0 0)
+-- checks 9 and 10 of the index at o, with these tables
+abbrev pub oneAnswer : ℕ → List ℕ → Answer ℕ
+oneAnswer o l = answer (oneOf o l) (getD l 0 0)
 
 -- the tables seen, before those that are left; of more than one it does not matter which
 unfoldable pub before : Tables → List ℕ → List ℕ

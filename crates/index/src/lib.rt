@@ -58,14 +58,15 @@ fn unknown(identifier: u64) -> bool
 pub fn header_verdict(s: &[u8]) -> Verdict
     ensures { λ r. ⌜ r ≡ headerVerdict (now (s .entry)) ⌝ }
 {
+    let place = ByteOffset(0);
     if s.len() < 72 {
-        return Verdict::Refuses(Refusal { number: 1 });
+        return Verdict::Refuses(Refusal { number: 1, place });
     }
     if unknown(get(s, 0, 8)) {
-        return Verdict::Refuses(Refusal { number: 2 });
+        return Verdict::Refuses(Refusal { number: 2, place });
     }
     if get(s, 40, 1) != 2 {
-        return Verdict::Refuses(Refusal { number: 3 });
+        return Verdict::Refuses(Refusal { number: 3, place });
     }
     Verdict::Passes
 }
@@ -74,22 +75,23 @@ pub fn header_verdict(s: &[u8]) -> Verdict
 pub fn index_verdict(s: &[u8], o: ByteOffset) -> Verdict
     ensures { λ r. ⌜ r ≡ indexVerdict (now (s .entry)) (o .0) ⌝ }
 {
+    let place = o;
     let index = o.0;
     if index < 72 {
-        return Verdict::Refuses(Refusal { number: 4 });
+        return Verdict::Refuses(Refusal { number: 4, place });
     }
     if room(s, index) < 20 {
-        return Verdict::Refuses(Refusal { number: 4 });
+        return Verdict::Refuses(Refusal { number: 4, place });
     }
     if get(s, index, 4) != IDX2 {
-        return Verdict::Refuses(Refusal { number: 5 });
+        return Verdict::Refuses(Refusal { number: 5, place });
     }
     let entries = get(s, index + 4, 8);
     if room(s, index + 20) / 16 < entries {
-        return Verdict::Refuses(Refusal { number: 4 });
+        return Verdict::Refuses(Refusal { number: 4, place });
     }
     if checksum(part(s, index + 20, 16 * entries)) != get(s, index + 12, 8) {
-        return Verdict::Refuses(Refusal { number: 6 });
+        return Verdict::Refuses(Refusal { number: 6, place });
     }
     Verdict::Passes
 }
@@ -110,20 +112,22 @@ pub fn entry(s: &[u8], p: ByteOffset) -> Entry
     }
 }
 
-// An index entry: checks 7 and 8.
-fn entry_verdict(s: &[u8], e: Entry) -> Verdict
-    ensures { λ r. ⌜ ((p : ℕ) → e ≡ entryAt (now (s .entry)) p → r ≡ entryVerdict (now (s .entry)) p) ⌝ }
+// The index entry e, which stands at p: checks 7 and 8.
+fn entry_verdict(s: &[u8], p: ByteOffset, e: Entry) -> Verdict
+    requires { ⌜ e ≡ entryAt (now s) (p .0) ⌝ }
+    ensures { λ r. ⌜ r ≡ entryVerdict (now (s .entry)) (p .0) ⌝ }
 {
+    let place = p;
     let offset = e.offset;
     let at = offset.0;
     if at < 72 {
-        return Verdict::Refuses(Refusal { number: 7 });
+        return Verdict::Refuses(Refusal { number: 7, place });
     }
     if room(s, at) < 4 {
-        return Verdict::Refuses(Refusal { number: 7 });
+        return Verdict::Refuses(Refusal { number: 7, place });
     }
     if get(s, at, 4) != e.blockType {
-        return Verdict::Refuses(Refusal { number: 8 });
+        return Verdict::Refuses(Refusal { number: 8, place });
     }
     Verdict::Passes
 }
@@ -143,7 +147,7 @@ pub fn is_user_data(e: Entry, blockType: u64) -> bool
 
 // The tables seen so far, and one more entry.
 fn with_entry(seen: Tables, e: Entry) -> Tables
-    ensures { λ r. ⌜ ((l : List ℕ) → oneAnswer (before r l) ≡ oneAnswer (before seen (choose (isUserData DDT* e) (e .offset .0 ∷ l) l))) ⌝ }
+    ensures { λ r. ⌜ ((o : ℕ) (l : List ℕ) → oneAnswer o (before r l) ≡ oneAnswer o (before seen (choose (isUserData DDT* e) (e .offset .0 ∷ l) l))) ⌝ }
 {
     if is_user_data(e, DDT) {
         let offset = e.offset;
@@ -168,8 +172,9 @@ pub fn one_table(s: &[u8], o: ByteOffset) -> Named
     let mut seen = Tables::None;
     // an iteration for each entry
     while 0 < left {
-        let e = entry(s, ByteOffset(p));
-        let v = entry_verdict(s, e);
+        let here = ByteOffset(p);
+        let e = entry(s, here);
+        let v = entry_verdict(s, here, e);
         if let Verdict::Refuses(r) = v {
             return Named::Refused(r);
         }
@@ -177,9 +182,10 @@ pub fn one_table(s: &[u8], o: ByteOffset) -> Named
         p += 16;
         left -= 1;
     }
+    let place = o;
     match seen {
-        Tables::None => Named::Refused(Refusal { number: 9 }),
+        Tables::None => Named::Refused(Refusal { number: 9, place }),
         Tables::One(t) => Named::One(t),
-        Tables::More => Named::Refused(Refusal { number: 10 }),
+        Tables::More => Named::Refused(Refusal { number: 10, place }),
     }
 }

@@ -12,14 +12,14 @@ use Rattle.format.specs.Opening.{opened, openedAt, sectorCount}
 use Rattle.format.specs.Reading.{locate}
 use Rattle.format.proofs.Refusals.{answer-accepted}
 use Rattle.format.proofs.Checks.{open-ok}
-use Rattle.format.proofs.Numbers.{demand-1-numbers}
+use Rattle.format.proofs.Refusing.{demand-1-refusals}
 
 module _ (img : List ℕ) where
   pub count-refusal : (r : Refusal) → sectorCount img ≡ refused r → r .number < 100
-  count-refusal r e = let f = demand-1-numbers .counting img r e in omega arith
+  count-refusal r e = let f = demand-1-refusals .counting img r e .0 in omega arith
 
   pub locate-refusal : (a : ℕ) (r : Refusal) → locate img a ≡ refused r → r .number < 100
-  locate-refusal a r e = ⊎-elim (λ f. omega arith) (λ f. omega arith) (demand-1-numbers .locating img a r e)
+  locate-refusal a r e = ⊎-elim (λ f. omega arith) (λ f. omega arith) (demand-1-refusals .locating img a r e .0)
 
   -- ---- the table lies in the image
   pub count-short : (n : ℕ) → sectorCount img ≡ accepted n → 49 + 8 * n ≤ length img

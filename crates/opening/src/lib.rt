@@ -6,14 +6,14 @@
 // Cost: the index is passed over twice, for its checksum and for its entries, and the table once, for its checksum.
 ghost use mathlib.Core.List.{List};
 ghost use mathlib.Core.Path.{_≡_};
-ghost use Prim.Native.Nat.{ℕ, _+_, _≤_, _<_};
+ghost use Prim.Native.Nat.{ℕ, _+_, _^_, _≤_, _<_};
 ghost use lib.ListN.{length};
 ghost use Rattle.crc64.specs.Crc.{crcOf};
 ghost use Rattle.format.specs.declared.Verdict.the-variants.{Passes};
 ghost use Rattle.format.specs.Refusals.{accepted, answer};
 ghost use Rattle.format.specs.Layouts.{decode};
 ghost use Rattle.format.specs.Opening.{headerVerdict, tableMalformed, sumsDiffer, tableVerdict, openVerdict, openedAt, opened, opening};
-ghost use Rattle.format.specs.Reading.{tableEntry, notWritten, pointerAt};
+ghost use Rattle.format.specs.Reading.{tableEntryAt, tableEntry, notWritten, pointerAt};
 ghost use Rattle.opening.specs.Answers.{contents, outcome, numbersOf, viewOf, held};
 use crc64::checksum;
 use fields::get;
@@ -92,26 +92,27 @@ fn table_malformed(s: &[u8], t: ByteOffset) -> bool
 fn table_verdict(s: &[u8], t: ByteOffset) -> Verdict
     ensures { λ r. ⌜ r ≡ tableVerdict (now (s .entry)) (t .0) ⌝ }
 {
+    let place = t;
     let table = t.0;
     if room(s, table) < 49 {
-        return Verdict::Refuses(Refusal { number: 11 });
+        return Verdict::Refuses(Refusal { number: 11, place });
     }
     if get(s, table + 6, 2) != 0 {
-        return Verdict::Refuses(Refusal { number: 13 });
+        return Verdict::Refuses(Refusal { number: 13, place });
     }
     if table_malformed(s, t) {
-        return Verdict::Refuses(Refusal { number: 12 });
+        return Verdict::Refuses(Refusal { number: 12, place });
     }
     let length = get(s, table + 25, 8);
     if room(s, table + 49) < length {
-        return Verdict::Refuses(Refusal { number: 11 });
+        return Verdict::Refuses(Refusal { number: 11, place });
     }
     if sums_differ(
         part(s, table + 49, length),
         get(s, table + 33, 8),
         get(s, table + 41, 8),
     ) {
-        return Verdict::Refuses(Refusal { number: 14 });
+        return Verdict::Refuses(Refusal { number: 14, place });
     }
     Verdict::Passes
 }
@@ -214,13 +215,22 @@ pub fn count(t: Opened) -> u64
     t.count
 }
 
+// Where the table entry of address a stands.
+pub fn entry_place(t: Opened, a: SectorAddress) -> ByteOffset
+    requires { ⌜ tableEntryAt (contents t) (a .0) < 2 ^ 64 ⌝ }
+    ensures { λ r. ⌜ r .0 ≡ tableEntryAt (contents t) (a .0) ⌝ }
+{
+    let table = t.table;
+    ByteOffset(table.0 + 49 + 8 * a.0)
+}
+
 // The table entry of address a.
 fn table_entry(s: &[u8], t: Opened, a: SectorAddress) -> u64
     requires { ⌜ (opening (now s) ≡ accepted (contents t)) × (a .0 < contents t .count) ⌝ }
     ensures { λ r. ⌜ r ≡ tableEntry (now (s .entry)) (contents t) (a .0) ⌝ }
 {
-    let table = t.table;
-    get(s, table.0 + 49 + 8 * a.0, 8)
+    let place = entry_place(t, a);
+    get(s, place.0, 8)
 }
 
 // Whether address a is not written.

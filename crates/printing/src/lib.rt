@@ -36,8 +36,11 @@ pub fn bytes(s: &[u8]) {
     }
 }
 
+// A refusal: its number and its place.
 pub fn refused(r: Refusal) {
     number(b"refused ", r.number as u64);
+    let place = r.place;
+    number(b" at ", place.0);
 }
 
 // A sector count, or the refusal.

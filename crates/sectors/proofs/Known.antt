@@ -22,9 +22,10 @@ known-block P b k known e =
     ⊎-elim (λ z. absurd (never (both .0) (differs-iff .1 z))) (λ i. subst P (sym (same-on b k (both .1))) i) known
 
 -- of an intact block's item only the check of its number is left
-pub known-verdict : (img : List ℕ) (p : Pointer) → Intact img (p .block .0)
-    → row (atLeast (p .item .0) (blockLength img (p .block .0) / sectorSize img (p .block .0))) (refusal 26) ≡ pointerVerdict img (entries img (indexOffset img)) p
+pub known-verdict : (img : List ℕ) (at : ℕ) (p : Pointer) → Intact img (p .block .0)
+    → row (atLeast (p .item .0) (blockLength img (p .block .0) / sectorSize img (p .block .0))) (refusal 26 (p .block .0))
+    ≡ pointerVerdict img (entries img (indexOffset img)) at p
 unfolding pointerVerdict itemVerdict sumsDiffer
-known-verdict img p k =
+known-verdict img at p k =
     on _ (not-iff .1 (k .indexed))
     (goes (sym (block-ok img (p .block .0) .1 (k .block))) (ends _ (on-last _ (or-iff differs-iff differs-iff .1 (k .cmpSum, k .sum)))))

@@ -118,18 +118,19 @@ fn block_malformed(s: &[u8], b: ByteOffset) -> bool
 pub fn block_verdict(s: &[u8], b: ByteOffset) -> Verdict
     ensures { λ r. ⌜ r ≡ blockVerdict (now (s .entry)) (b .0) ⌝ }
 {
+    let place = b;
     let block = b.0;
     if room(s, block) < 36 {
-        return Verdict::Refuses(Refusal { number: 23 });
+        return Verdict::Refuses(Refusal { number: 23, place });
     }
     if get(s, block + 6, 2) != 0 {
-        return Verdict::Refuses(Refusal { number: 24 });
+        return Verdict::Refuses(Refusal { number: 24, place });
     }
     if block_malformed(s, b) {
-        return Verdict::Refuses(Refusal { number: 25 });
+        return Verdict::Refuses(Refusal { number: 25, place });
     }
     if room(s, block + 36) < get(s, block + 16, 4) {
-        return Verdict::Refuses(Refusal { number: 23 });
+        return Verdict::Refuses(Refusal { number: 23, place });
     }
     Verdict::Passes
 }
@@ -137,15 +138,15 @@ pub fn block_verdict(s: &[u8], b: ByteOffset) -> Verdict
 // The item of p, in a block that passed: check 26.
 pub fn number_verdict(s: &[u8], p: Pointer) -> Verdict
     requires { ⌜ BlockOk (now s) (p .block .0) ⌝ }
-    ensures { λ r. ⌜ r ≡ row (atLeast (p .item .0) (blockLength (now (s .entry)) (p .block .0) / sectorSize (now (s .entry)) (p .block .0))) (refusal 26) ⌝ }
+    ensures { λ r. ⌜ r ≡ row (atLeast (p .item .0) (blockLength (now (s .entry)) (p .block .0) / sectorSize (now (s .entry)) (p .block .0))) (refusal 26 (p .block .0)) ⌝ }
 {
-    let b = p.block;
-    let block = b.0;
+    let place = p.block;
+    let block = place.0;
     let item = p.item;
     let length = get(s, block + 16, 4);
     let size = get(s, block + 8, 4);
     if length / size <= item.0 {
-        return Verdict::Refuses(Refusal { number: 26 });
+        return Verdict::Refuses(Refusal { number: 26, place });
     }
     Verdict::Passes
 }
@@ -154,8 +155,8 @@ pub fn number_verdict(s: &[u8], p: Pointer) -> Verdict
 fn item_verdict(s: &[u8], p: Pointer) -> Verdict
     ensures { λ r. ⌜ r ≡ itemVerdict (now (s .entry)) p ⌝ }
 {
-    let b = p.block;
-    let v = block_verdict(s, b);
+    let place = p.block;
+    let v = block_verdict(s, place);
     if let Verdict::Refuses(r) = v {
         return Verdict::Refuses(r);
     }
@@ -163,14 +164,14 @@ fn item_verdict(s: &[u8], p: Pointer) -> Verdict
     if let Verdict::Refuses(r) = w {
         return Verdict::Refuses(r);
     }
-    let block = b.0;
+    let block = place.0;
     let length = get(s, block + 16, 4);
     if opening::sums_differ(
         part(s, block + 36, length),
         get(s, block + 20, 8),
         get(s, block + 28, 8),
     ) {
-        return Verdict::Refuses(Refusal { number: 27 });
+        return Verdict::Refuses(Refusal { number: 27, place });
     }
     Verdict::Passes
 }
@@ -188,10 +189,10 @@ pub fn is_known(b: ByteOffset, known: ByteOffset) -> bool
     true
 }
 
-// What p points to: checks 22 to 27. Of the block that is known only the item's number is looked at.
-fn pointer_verdict(s: &[u8], p: Pointer, known: ByteOffset) -> Verdict
+// What p, whose table entry stands at `place`, points to: checks 22 to 27. Of the block that is known only the item's number is looked at.
+fn pointer_verdict(s: &[u8], place: ByteOffset, p: Pointer, known: ByteOffset) -> Verdict
     requires { ⌜ (openVerdict (now s) (indexOffset (now s)) ≡ Passes) × Known (now s) (known .0) ⌝ }
-    ensures { λ r. ⌜ r ≡ pointerVerdict (now (s .entry)) (entries (now (s .entry)) (indexOffset (now (s .entry)))) p ⌝ }
+    ensures { λ r. ⌜ r ≡ pointerVerdict (now (s .entry)) (entries (now (s .entry)) (indexOffset (now (s .entry)))) (place .0) p ⌝ }
 {
     let b = p.block;
     if is_known(b, known) {
@@ -200,7 +201,7 @@ fn pointer_verdict(s: &[u8], p: Pointer, known: ByteOffset) -> Verdict
     if is_indexed(s, ByteOffset(get(s, 48, 8)), b) {
         return item_verdict(s, p);
     }
-    Verdict::Refuses(Refusal { number: 22 })
+    Verdict::Refuses(Refusal { number: 22, place })
 }
 
 // The sector at address a of the image that opened as t: checks 20 to 27. Its table entry is read once; of the block that is known only the
@@ -209,14 +210,15 @@ fn find(s: &[u8], t: Opened, a: SectorAddress, known: ByteOffset) -> Found
     requires { ⌜ (opening (now s) ≡ accepted (contents t)) × Known (now s) (known .0) ⌝ }
     ensures { λ r. ⌜ found r ≡ answer (sectorVerdict (now (s .entry)) (entries (now (s .entry)) (indexOffset (now (s .entry)))) (contents t) (a .0)) (pointerAt (now (s .entry)) (contents t) (a .0)) ⌝ }
 {
+    let place = ByteOffset(0);
     if opening::count(t) <= a.0 {
-        return Found::Refused(Refusal { number: 20 });
+        return Found::Refused(Refusal { number: 20, place });
     }
     let p = opening::pointer_at(s, t, a);
     if opening::encodes_nothing(p) {
-        return Found::Refused(Refusal { number: 21 });
+        return Found::Refused(Refusal { number: 21, place });
     }
-    let v = pointer_verdict(s, p, known);
+    let v = pointer_verdict(s, opening::entry_place(t, a), p, known);
     if let Verdict::Refuses(r) = v {
         return Found::Refused(r);
     }

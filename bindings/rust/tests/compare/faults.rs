@@ -80,10 +80,8 @@ pub fn clash(one: &Fault, other: &Fault) -> bool {
         .any(|edit| other.iter().any(|more| edit.clashes(more)))
 }
 
-/// The input with these edits. The layout is that of the image before them.
-pub fn with(base: &Input, layout: &Layout, edits: &[Edit]) -> Input {
-    let mut input = base.clone();
-    let image = &mut input.buffer[..base.used as usize];
+/// Makes those of the edits that are to the image. The layout is that of the image before them.
+pub fn edit_image(image: &mut [u8], layout: &Layout, edits: &[Edit]) {
     for edit in edits {
         if let Field(at, width, value) = *edit {
             put(image, at, width, value);
@@ -93,16 +91,21 @@ pub fn with(base: &Input, layout: &Layout, edits: &[Edit]) -> Input {
         layout.make_right(image);
     }
     for edit in edits {
-        match *edit {
-            Damage(at, width, value) => put(image, at, width, value),
-            _ => edit.argument(&mut input.call),
+        if let Damage(at, width, value) = *edit {
+            put(image, at, width, value);
         }
     }
+}
+
+/// The input with these edits.
+pub fn with(base: &Input, layout: &Layout, edits: &[Edit]) -> Input {
+    let mut input = base.clone();
+    edit_image(&mut input.buffer[..base.used as usize], layout, edits);
     for edit in edits {
         match *edit {
             Used(used) => input.used = used,
             BufferLength(length) => input.buffer.truncate(length),
-            _ => {}
+            _ => edit.argument(&mut input.call),
         }
     }
     input

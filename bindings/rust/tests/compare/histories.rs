@@ -5,18 +5,16 @@ use crate::arguments::{self, with_room};
 use crate::images::Description;
 use crate::layout::Layout;
 use crate::random::Random;
-use crate::sides::{Call, Commit, Sides};
+use crate::sides::{refused, Answer, Call, Commit, Sides};
+use aaru::Refusal;
 
-/// How a disc reads: for every address and some that no disc has, the bytes or the number.
-type Reading = Vec<Result<Vec<u8>, u32>>;
+/// How a disc reads: for every address and some that no disc has, the bytes or the refusal.
+type Reading = Vec<Result<Vec<u8>, Refusal>>;
 
 fn reading(image: &[u8]) -> Reading {
     let count = aaru::open(image).expect("a disc of a history opens");
     let beyond = [count, count + 1, 1 << 32, 1 << 63, u64::MAX];
-    let read = |address| match aaru::read(image, address) {
-        Ok(sector) => Ok(sector.bytes.to_vec()),
-        Err(refusal) => Err(refusal.number),
-    };
+    let read = |address| aaru::read(image, address).map(|sector| sector.bytes.to_vec());
     (0..count).chain(beyond).map(read).collect()
 }
 
@@ -33,18 +31,20 @@ struct History<'a> {
 /// Histories of created discs and of built images.
 pub fn run(sides: &mut Sides, seed: u64, histories: usize) {
     let mut random = Random::new(seed);
+    let mut damaged = 0;
     for number in 0..histories {
-        let started = match number % 3 {
+        let mut history = match number % 3 {
             0 => built(sides, &mut random),
-            _ => Some(created(sides, &mut random)),
+            _ => created(sides, &mut random),
         };
-        if let Some(mut history) = started {
-            for _ in 0..5 + random.below(16) {
-                history.step(&mut random);
-            }
-            history.go_everywhere(&mut random);
+        damaged += usize::from(history.damage().is_some());
+        for _ in 0..5 + random.below(16) {
+            history.step(&mut random);
         }
+        history.go_everywhere(&mut random);
     }
+    // Only their reads are refused with a place other than 0.
+    assert!(20 * damaged >= histories, "{damaged} damaged discs");
 }
 
 fn created<'a>(sides: &'a mut Sides, random: &mut Random) -> History<'a> {
@@ -56,15 +56,12 @@ fn created<'a>(sides: &'a mut Sides, random: &mut Random) -> History<'a> {
     start(sides, buffer, used, index)
 }
 
-/// None if a sector of the built image can't be read: then nothing can be committed either.
-fn built<'a>(sides: &'a mut Sides, random: &mut Random) -> Option<History<'a>> {
+fn built<'a>(sides: &'a mut Sides, random: &mut Random) -> History<'a> {
     let image = Description::random(random).build(random);
     let room = 300 + random.below(3000);
     let buffer = with_room(&image, room, random);
-    let layout = Layout::of(&image);
-    let now = reading(&image);
-    let readable = now.iter().all(|read| matches!(read, Ok(_) | Err(20 | 21)));
-    readable.then(|| start(sides, buffer, image.len() as u64, layout.index as u64))
+    let index = Layout::of(&image).index as u64;
+    start(sides, buffer, image.len() as u64, index)
 }
 
 fn start(sides: &mut Sides, buffer: Vec<u8>, used: u64, index: u64) -> History<'_> {
@@ -102,7 +99,7 @@ impl History<'_> {
         }
     }
 
-    fn call(&mut self, call: &Call) -> Result<(u64, u64), u32> {
+    fn call(&mut self, call: &Call) -> Answer {
         let answer = self.sides.run_on(&mut self.buffer, self.used, call);
         if let Ok((used, _)) = answer {
             self.used = used;
@@ -113,8 +110,10 @@ impl History<'_> {
         answer
     }
 
-    /// The named addresses must read as handed in, every other as before.
+    /// The named addresses must read as handed in, every other as before. A refusal must be that
+    /// of the first damaged sector or, if there is none, be for want of room.
     fn commit(&mut self, commit: &Commit) {
+        let damage = self.damage();
         let mut expected = self.now.clone();
         let sectors = commit.sectors.chunks_exact(commit.size as usize);
         for (&address, sector) in commit.addresses.iter().zip(sectors) {
@@ -122,11 +121,19 @@ impl History<'_> {
         }
         match self.call(&Call::Commit(commit.clone())) {
             Ok((_, index)) => {
+                assert_eq!(damage, None);
                 assert_eq!(self.now, expected);
                 self.points.push((index, expected));
             }
-            Err(number) => assert_eq!(number, 35),
+            answer => assert_eq!(answer, damage.map_or(refused(35), Err)),
         }
+    }
+
+    /// How the first sector reads, by rising address, that is written but can't be read.
+    fn damage(&self) -> Option<Refusal> {
+        let mut refusals = self.now.iter().filter_map(|read| read.as_ref().err());
+        let damage = refusals.find(|refusal| !matches!(refusal.number, 20 | 21));
+        damage.copied()
     }
 
     /// Hands in sectors that stand elsewhere on the disc, at addresses that change as well.

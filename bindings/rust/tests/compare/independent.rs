@@ -1,8 +1,9 @@
 //! Document 01 in plain Rust, in the paper's order: layouts, checksum, opening, reading, creating,
-//! committing, rolling back. It is written from the paper alone and shares no code with the
-//! library; it is there to compare the library with.
+//! committing, rolling back. Each refusal carries the place that request 1/13 gives it. All is
+//! written from the papers alone and shares no code with the library; it is there to compare the
+//! library with.
 
-use aaru::Creation;
+use aaru::{Creation, Refusal};
 use std::collections::BTreeMap;
 
 // Layouts.
@@ -129,97 +130,118 @@ fn checksums_right(header: &[u8], at: usize, payload: &[u8]) -> bool {
     number(header, at, 8) == sum && number(header, at + 8, 8) == sum
 }
 
+// Refusals.
+
+/// "A refusal now returns a byte offset in its image beside its number." (1/13) "The lowest readers
+/// say it and all above pass it on."
+fn refusal_at(number: u32, place: u64) -> Refusal {
+    Refusal { number, place }
+}
+
+/// A refusal that has no place of its own: "0 for 1, 2 and 3", "0 for all others".
+fn refusal(number: u32) -> Refusal {
+    refusal_at(number, 0)
+}
+
 // Opening.
 
 /// An opened image.
 struct Disc<'a> {
     image: &'a [u8],
     index: Vec<IndexEntry>,
+    table_offset: u64,
     table: &'a [u8],
     count: u64,
     shift: u64,
 }
 
 /// Opens an image and gives its number of sectors.
-pub fn open(image: &[u8]) -> Result<u64, u32> {
+pub fn open(image: &[u8]) -> Result<u64, Refusal> {
     Ok(open_disc(image)?.count)
 }
 
-fn open_disc(image: &[u8]) -> Result<Disc<'_>, u32> {
+fn open_disc(image: &[u8]) -> Result<Disc<'_>, Refusal> {
     let index_offset = open_header(image)?;
     open_at(image, index_offset)
 }
 
 /// Opening, step 1. Gives indexOffset.
-fn open_header(image: &[u8]) -> Result<u64, u32> {
-    let header = part(image, 0, HEADER).ok_or(1u32)?;
+fn open_header(image: &[u8]) -> Result<u64, Refusal> {
+    let header = part(image, 0, HEADER).ok_or(refusal(1))?;
     let identifier = number(header, 0, 8);
     if identifier != AARUFRMT && identifier != DICMFRMT {
-        return Err(2);
+        return Err(refusal(2));
     }
     if number(header, 40, 1) != 2 {
-        return Err(3);
+        return Err(refusal(3));
     }
     Ok(number(header, 48, 8))
 }
 
-/// Opening, steps 2 to 5, with the index at `index_offset`.
-fn open_at(image: &[u8], index_offset: u64) -> Result<Disc<'_>, u32> {
+/// Opening, steps 2 to 5, with the index at `index_offset`: "as read or handed in, even past the
+/// end", it is the place of 4, 5, 6, 9 and 10.
+fn open_at(image: &[u8], index_offset: u64) -> Result<Disc<'_>, Refusal> {
     let index = open_index(image, index_offset)?;
     let mut tables = index.iter().filter(|entry| entry.is_user_data(DDT));
-    let table_offset = tables.next().ok_or(9u32)?.offset;
+    let table_offset = tables.next().ok_or(refusal_at(9, index_offset))?.offset;
     if tables.next().is_some() {
-        return Err(10);
+        return Err(refusal_at(10, index_offset));
     }
     let (table, count, shift) = open_table(image, table_offset)?;
     Ok(Disc {
         image,
         index,
+        table_offset,
         table,
         count,
         shift,
     })
 }
 
-/// Opening, steps 2 and 3. Gives the index entries.
-fn open_index(image: &[u8], index_offset: u64) -> Result<Vec<IndexEntry>, u32> {
+/// Opening, steps 2 and 3. Gives the index entries. 7 and 8 have "the place of the index entry",
+/// not the one that it names.
+fn open_index(image: &[u8], index_offset: u64) -> Result<Vec<IndexEntry>, Refusal> {
     if index_offset < HEADER {
-        return Err(4);
+        return Err(refusal_at(4, index_offset));
     }
-    let header = part(image, index_offset, INDEX).ok_or(4u32)?;
+    let header = part(image, index_offset, INDEX).ok_or(refusal_at(4, index_offset))?;
     if number(header, 0, 4) != IDX2 {
-        return Err(5);
+        return Err(refusal_at(5, index_offset));
     }
     let length = u128::from(INDEX_ENTRY) * u128::from(number(header, 4, 8));
-    let payload = part(image, index_offset + INDEX, length).ok_or(4u32)?;
+    let entries_offset = index_offset + INDEX;
+    let payload = part(image, entries_offset, length).ok_or(refusal_at(4, index_offset))?;
     if number(header, 12, 8) != checksum(payload) {
-        return Err(6);
+        return Err(refusal_at(6, index_offset));
     }
 
     let mut index = Vec::new();
-    for record in payload.chunks_exact(INDEX_ENTRY as usize) {
+    for (n, record) in (0..).zip(payload.chunks_exact(INDEX_ENTRY as usize)) {
+        // The entry lies inside the image, so that its place fits.
+        let place = entries_offset + INDEX_ENTRY * n;
         let entry = IndexEntry {
             block_type: number(record, 0, 4),
             data_type: number(record, 4, 4),
             offset: number(record, 8, 8),
         };
         if entry.offset < HEADER {
-            return Err(7);
+            return Err(refusal_at(7, place));
         }
-        let identifier = part(image, entry.offset, 4u64).ok_or(7u32)?;
+        let identifier = part(image, entry.offset, 4u64).ok_or(refusal_at(7, place))?;
         if number(identifier, 0, 4) != entry.block_type {
-            return Err(8);
+            return Err(refusal_at(8, place));
         }
         index.push(entry);
     }
     Ok(index)
 }
 
-/// Opening, step 5. Gives the table's payload, count and shift.
-fn open_table(image: &[u8], offset: u64) -> Result<(&[u8], u64, u64), u32> {
-    let header = part(image, offset, TABLE).ok_or(11u32)?;
+/// Opening, step 5. Gives the table's payload, count and shift. Its refusals have "the table's
+/// offset".
+fn open_table(image: &[u8], offset: u64) -> Result<(&[u8], u64, u64), Refusal> {
+    let header = part(image, offset, TABLE).ok_or(refusal_at(11, offset))?;
     if number(header, 6, 2) != NO_COMPRESSION {
-        return Err(13);
+        return Err(refusal_at(13, offset));
     }
     let shift = number(header, 8, 1);
     let count = number(header, 9, 8);
@@ -230,11 +252,11 @@ fn open_table(image: &[u8], offset: u64) -> Result<(&[u8], u64, u64), u32> {
         || u128::from(length) != u128::from(TABLE_ENTRY) * u128::from(count)
         || cmp_length != length
     {
-        return Err(12);
+        return Err(refusal_at(12, offset));
     }
-    let payload = part(image, offset + TABLE, length).ok_or(11u32)?;
+    let payload = part(image, offset + TABLE, length).ok_or(refusal_at(11, offset))?;
     if !checksums_right(header, 33, payload) {
-        return Err(14);
+        return Err(refusal_at(14, offset));
     }
     Ok((payload, count, shift))
 }
@@ -242,7 +264,7 @@ fn open_table(image: &[u8], offset: u64) -> Result<(&[u8], u64, u64), u32> {
 // Reading a sector.
 
 /// Reads a sector: the place of its first byte in the image, and its size.
-pub fn locate(image: &[u8], address: u64) -> Result<(u64, u64), u32> {
+pub fn locate(image: &[u8], address: u64) -> Result<(u64, u64), Refusal> {
     read(&open_disc(image)?, address, &mut BTreeMap::new())
 }
 
@@ -252,20 +274,23 @@ fn pointer(disc: &Disc, address: u64) -> Option<Pointer> {
     decode(entry, disc.shift)
 }
 
-/// Reading's checks after the opening. `right` remembers, by the block's offset, whether a block's
-/// checksums are right, so that many reads of one disc compute them once.
-fn read(disc: &Disc, address: u64, right: &mut BTreeMap<u64, bool>) -> Result<(u64, u64), u32> {
+/// Reading's checks after the opening: "the place of the table entry for 22; the block's offset for
+/// 23 to 27". `right` remembers, by the block's offset, whether a block's checksums are right, so
+/// that many reads of one disc compute them once.
+fn read(disc: &Disc, address: u64, right: &mut BTreeMap<u64, bool>) -> Result<(u64, u64), Refusal> {
     if address >= disc.count {
-        return Err(20);
+        return Err(refusal(20));
     }
-    let Pointer { offset, item } = pointer(disc, address).ok_or(21u32)?;
+    let Pointer { offset, item } = pointer(disc, address).ok_or(refusal(21))?;
     let mut blocks = disc.index.iter().filter(|entry| entry.is_user_data(DBLK));
     if !blocks.any(|entry| entry.offset == offset) {
-        return Err(22);
+        // The payload lies inside the image, so that the place of its entry fits.
+        let place = disc.table_offset + TABLE + TABLE_ENTRY * address;
+        return Err(refusal_at(22, place));
     }
-    let header = part(disc.image, offset, BLOCK).ok_or(23u32)?;
+    let header = part(disc.image, offset, BLOCK).ok_or(refusal_at(23, offset))?;
     if number(header, 6, 2) != NO_COMPRESSION {
-        return Err(24);
+        return Err(refusal_at(24, offset));
     }
     let sector_size = number(header, 8, 4);
     let cmp_length = number(header, 12, 4);
@@ -275,15 +300,15 @@ fn read(disc: &Disc, address: u64, right: &mut BTreeMap<u64, bool>) -> Result<(u
         || cmp_length != length
         || length.checked_rem(sector_size) != Some(0)
     {
-        return Err(25);
+        return Err(refusal_at(25, offset));
     }
-    let payload = part(disc.image, offset + BLOCK, length).ok_or(23u32)?;
+    let payload = part(disc.image, offset + BLOCK, length).ok_or(refusal_at(23, offset))?;
     if item >= length / sector_size {
-        return Err(26);
+        return Err(refusal_at(26, offset));
     }
     let block_right = right.entry(offset);
     if !*block_right.or_insert_with(|| checksums_right(header, 20, payload)) {
-        return Err(27);
+        return Err(refusal_at(27, offset));
     }
     Ok((offset + BLOCK + item * sector_size, sector_size))
 }
@@ -296,21 +321,21 @@ const MOST_SECTOR_SIZE: u64 = 65_536;
 const MOST_ADDRESSES: usize = 65_536;
 
 /// Creates a disc whose sectors are all not written. Gives `used` and the index's offset.
-pub fn create(buffer: &mut [u8], creation: &Creation) -> Result<(u64, u64), u32> {
+pub fn create(buffer: &mut [u8], creation: &Creation) -> Result<(u64, u64), Refusal> {
     if buffer.len() as u64 > MOST_BYTES {
-        return Err(31);
+        return Err(refusal(31));
     }
     if creation.sectors == 0 || creation.sectors > MOST_SECTORS {
-        return Err(30);
+        return Err(refusal(30));
     }
     if creation.application.len() != 32 {
-        return Err(33);
+        return Err(refusal(33));
     }
     let table_offset = HEADER;
     let index_offset = table_offset + TABLE + TABLE_ENTRY * creation.sectors;
     let used = index_offset + INDEX + INDEX_ENTRY;
     if used > buffer.len() as u64 {
-        return Err(35);
+        return Err(refusal(35));
     }
 
     let mut image = Vec::new();
@@ -341,20 +366,20 @@ pub fn commit(
     size: u64,
     sectors: &[u8],
     time: u64,
-) -> Result<(u64, u64), u32> {
+) -> Result<(u64, u64), Refusal> {
     let image = lent_image(buffer, used)?;
     if size == 0 || size > MOST_SECTOR_SIZE || addresses.len() > MOST_ADDRESSES {
-        return Err(30);
+        return Err(refusal(30));
     }
     if sectors.len() as u64 != addresses.len() as u64 * size {
-        return Err(33);
+        return Err(refusal(33));
     }
     if addresses.windows(2).any(|pair| pair[0] >= pair[1]) {
-        return Err(34);
+        return Err(refusal(34));
     }
     let disc = open_disc(image)?;
     if addresses.iter().any(|&address| address >= disc.count) {
-        return Err(20);
+        return Err(refusal(20));
     }
     let old = old_sectors(&disc)?;
 
@@ -385,7 +410,7 @@ pub fn commit(
     let index = new_index(&disc.index, table_offset, block_offset);
     let new_used = index_offset + INDEX + INDEX_ENTRY * index.len() as u64;
     if new_used > buffer.len() as u64 {
-        return Err(35);
+        return Err(refusal(35));
     }
 
     let mut appended = Vec::new();
@@ -400,7 +425,12 @@ pub fn commit(
 }
 
 /// Goes back, or forward again, to the index at `offset`. Gives `used` and that offset.
-pub fn rollback(buffer: &mut [u8], used: u64, offset: u64, time: u64) -> Result<(u64, u64), u32> {
+pub fn rollback(
+    buffer: &mut [u8],
+    used: u64,
+    offset: u64,
+    time: u64,
+) -> Result<(u64, u64), Refusal> {
     let image = lent_image(buffer, used)?;
     open_header(image)?;
     open_at(image, offset)?;
@@ -409,16 +439,16 @@ pub fn rollback(buffer: &mut [u8], used: u64, offset: u64, time: u64) -> Result<
 }
 
 /// "The image is the first `used` bytes of a lent buffer." Checks 31 and 32.
-fn lent_image(buffer: &[u8], used: u64) -> Result<&[u8], u32> {
+fn lent_image(buffer: &[u8], used: u64) -> Result<&[u8], Refusal> {
     if buffer.len() as u64 > MOST_BYTES {
-        return Err(31);
+        return Err(refusal(31));
     }
-    part(buffer, 0, used).ok_or(32)
+    part(buffer, 0, used).ok_or(refusal(32))
 }
 
 /// The written sectors of a disc by rising address, each with its pointer; "the first that reads as
-/// a refusal other than 21 gives that number".
-fn old_sectors<'a>(disc: &Disc<'a>) -> Result<Vec<(Pointer, &'a [u8])>, u32> {
+/// a refusal other than 21 gives that number", and with it the place of that read.
+fn old_sectors<'a>(disc: &Disc<'a>) -> Result<Vec<(Pointer, &'a [u8])>, Refusal> {
     let mut old = Vec::new();
     let mut right = BTreeMap::new();
     for address in 0..disc.count {
@@ -534,7 +564,7 @@ fn set_header(buffer: &mut [u8], index_offset: u64, time: u64) {
     buffer[64..72].copy_from_slice(&time.to_le_bytes());
 }
 
-/// "A small disc, worked out."
+/// "A small disc, worked out", and where its damaged copies are refused.
 mod tests {
     use super::*;
 
@@ -565,7 +595,7 @@ mod tests {
         buffer
     }
 
-    fn create_disc(buffer: &mut [u8], sectors: u64) -> Result<(u64, u64), u32> {
+    fn create_disc(buffer: &mut [u8], sectors: u64) -> Result<(u64, u64), Refusal> {
         let creation = Creation {
             sectors,
             application: b"0123456789abcdef0123456789ABCDEF",
@@ -597,7 +627,7 @@ mod tests {
         )
     }
 
-    fn sector(image: &[u8], address: u64) -> Result<&[u8], u32> {
+    fn sector(image: &[u8], address: u64) -> Result<&[u8], Refusal> {
         let (place, size) = locate(image, address)?;
         Ok(&image[place as usize..(place + size) as usize])
     }
@@ -626,10 +656,10 @@ mod tests {
         assert_eq!(index(image), [(DDT, 1, 72)]);
         assert_eq!(table(image), (0, vec![0, 0, 0]));
         assert_eq!(open(image), Ok(3));
-        assert_eq!(locate(image, 0), Err(21));
-        assert_eq!(locate(image, 3), Err(20));
+        assert_eq!(locate(image, 0), Err(refusal(21)));
+        assert_eq!(locate(image, 3), Err(refusal(20)));
         assert!(buffer[181..].iter().all(|&byte| byte == 0xEE));
-        assert_eq!(create_disc(&mut [0; 180], 3), Err(35));
+        assert_eq!(create_disc(&mut [0; 180], 3), Err(refusal(35)));
     }
 
     #[test]
@@ -644,7 +674,7 @@ mod tests {
         assert_eq!(index(image), [(DDT, 1, 225), (DBLK, 1, 181)]);
         assert_eq!(table(image), (1, vec![362, 0, 363]));
         assert_eq!(sector(image, 0), Ok(&b"AAAA"[..]));
-        assert_eq!(sector(image, 1), Err(21));
+        assert_eq!(sector(image, 1), Err(refusal(21)));
         assert_eq!(sector(image, 2), Ok(&b"BBBB"[..]));
         same_outside(&p1(), &buffer, &[48..56, 64..72, 181..350]);
     }
@@ -667,7 +697,7 @@ mod tests {
     #[test]
     fn p4_p5_rollback_and_back() {
         let mut buffer = p4();
-        assert_eq!(locate(&buffer[..475], 1), Err(21));
+        assert_eq!(locate(&buffer[..475], 1), Err(refusal(21)));
         assert_eq!(number(&buffer, 48, 8), 298);
         assert_eq!(number(&buffer, 64, 8), 9);
         same_outside(&p3(), &buffer, &[48..56, 64..72]);
@@ -706,11 +736,12 @@ mod tests {
 
     #[test]
     fn p9_index_offset_past_the_end() {
-        for (offset, refusal) in [(4_294_967_295, 4), (162, 4), (71, 4), (161, 5)] {
+        for (offset, number) in [(4_294_967_295, 4), (162, 4), (71, 4), (161, 5)] {
             let mut buffer = p1();
             set_header(&mut buffer, offset, 4);
-            assert_eq!(open(&buffer[..181]), Err(refusal));
-            assert_eq!(rollback(&mut p1(), 181, offset, 4), Err(refusal));
+            let refused = refusal_at(number, offset);
+            assert_eq!(open(&buffer[..181]), Err(refused));
+            assert_eq!(rollback(&mut p1(), 181, offset, 4), Err(refused));
         }
     }
 
@@ -720,9 +751,11 @@ mod tests {
         for at in [181 + 12, 181 + 16] {
             buffer[at..at + 4].copy_from_slice(&4_294_967_292u32.to_le_bytes());
         }
-        assert_eq!(locate(&buffer[..350], 0), Err(23));
+        let refused = refusal_at(23, 181);
+        assert_eq!(locate(&buffer[..350], 0), Err(refused));
         let damaged = buffer.clone();
-        assert_eq!(commit(&mut buffer, 350, &[1], 4, b"AAAA", 8), Err(23));
+        let result = commit(&mut buffer, 350, &[1], 4, b"AAAA", 8);
+        assert_eq!(result, Err(refused));
         assert_eq!(buffer, damaged);
     }
 
@@ -763,13 +796,75 @@ mod tests {
     #[test]
     fn refused_addresses() {
         let cases: [(&[u64], u32); 3] = [(&[1, 1], 34), (&[2, 1], 34), (&[1, 3], 20)];
-        for (addresses, refusal) in cases {
+        for (addresses, number) in cases {
             let mut buffer = p2();
             let result = commit(&mut buffer, 350, addresses, 4, b"CCCCDDDD", 8);
-            assert_eq!(result, Err(refusal));
+            assert_eq!(result, Err(refusal(number)));
             assert_eq!(buffer, p2());
         }
-        assert_eq!(locate(&p2()[..350], 3), Err(20));
-        assert_eq!(commit(&mut p2(), 350, &[3], 4, b"CCCC", 8), Err(20));
+        assert_eq!(locate(&p2()[..350], 3), Err(refusal(20)));
+        let result = commit(&mut p2(), 350, &[3], 4, b"CCCC", 8);
+        assert_eq!(result, Err(refusal(20)));
+    }
+
+    /// P2's disc with some bits of one byte turned over, read at address 2.
+    #[test]
+    fn places_in_p2() {
+        let cases = [
+            (0, 1, refusal(2)),
+            (40, 1, refusal(3)),
+            // Three index entries, the last one past the end.
+            (298 + 4, 2 ^ 3, refusal_at(4, 298)),
+            (298, 1, refusal_at(5, 298)),
+            (298 + 12, 1, refusal_at(6, 298)),
+            (225, 1, refusal_at(8, 318)),
+            (181, 1, refusal_at(8, 334)),
+            (225 + 4, 1, refusal_at(12, 225)),
+            (225 + 6, 1, refusal_at(13, 225)),
+            (225 + 41, 1, refusal_at(14, 225)),
+            // Shift 0, so that item 1 is a different block.
+            (225 + 8, 1, refusal_at(22, 290)),
+            (181 + 6, 1, refusal_at(24, 181)),
+            (181 + 4, 1, refusal_at(25, 181)),
+            // Sector size 8, so that the block has one item.
+            (181 + 8, 4 ^ 8, refusal_at(26, 181)),
+            (181 + 28, 1, refusal_at(27, 181)),
+        ];
+        for (at, bits, refused) in cases {
+            let mut buffer = p2();
+            buffer[at] ^= bits;
+            assert_eq!(locate(&buffer[..350], 2), Err(refused), "byte {at}");
+        }
+        assert_eq!(open(&p2()[..71]), Err(refusal(1)));
+    }
+
+    /// P1's disc with another index at 181, its checksum right, and last of all the letters 'DDT*'.
+    #[test]
+    fn places_by_index() {
+        let entry = |block_type, offset| IndexEntry {
+            block_type,
+            data_type: USER_DATA,
+            offset,
+        };
+        let table = entry(DDT, 72);
+        let cases: [(&[IndexEntry], Refusal); 6] = [
+            (&[table, entry(DBLK, 71)], refusal_at(7, 217)),
+            (&[table, entry(DBLK, u64::MAX)], refusal_at(7, 217)),
+            (&[table, entry(DBLK, 72)], refusal_at(8, 217)),
+            (&[], refusal_at(9, 181)),
+            (&[table, table], refusal_at(10, 181)),
+            (&[entry(DDT, 217)], refusal_at(11, 217)),
+        ];
+        for (entries, refused) in cases {
+            let mut image = p1();
+            image.truncate(181);
+            put_index(&mut image, entries);
+            put(&mut image, DDT, 4);
+            let used = image.len() as u64;
+            assert_eq!(rollback(&mut image, used, 181, 5), Err(refused));
+            set_header(&mut image, 181, 4);
+            assert_eq!(open(&image), Err(refused));
+            assert_eq!(commit(&mut image, used, &[], 4, b"", 5), Err(refused));
+        }
     }
 }

@@ -2,7 +2,7 @@
 
 use crate::arguments;
 use crate::random::Random;
-use crate::sides::{Call, Commit, Sides};
+use crate::sides::{refused, Call, Commit, Sides};
 
 pub fn run(sides: &mut Sides, seed: u64) {
     let mut random = Random::new(seed);
@@ -41,7 +41,7 @@ fn most_sectors(sides: &mut Sides, random: &mut Random) {
     let most = 1_048_576;
     let (mut buffer, used) = created(sides, 17_000_000, most, random);
     let more = Call::Create(arguments::create(random, most + 1));
-    assert_eq!(sides.run(&buffer, 0, &more), Err(30));
+    assert_eq!(sides.run(&buffer, 0, &more), refused(30));
     let commit = Call::Commit(Commit {
         addresses: vec![0, 77, most - 1],
         size: 3,
@@ -74,7 +74,7 @@ fn largest_sectors(sides: &mut Sides, random: &mut Random) {
     assert!(sides.run(&buffer, used, &call).is_ok());
     commit.size += 1;
     commit.sectors.extend([0; 3]);
-    assert_eq!(sides.run(&buffer, used, &Call::Commit(commit)), Err(30));
+    assert_eq!(sides.run(&buffer, used, &Call::Commit(commit)), refused(30));
 }
 
 /// The sectors are equal to the first one, which makes the search short.
@@ -95,5 +95,5 @@ fn most_addresses(sides: &mut Sides, random: &mut Random) {
     assert!(sides.run(&buffer, used, &call).is_ok());
     commit.addresses.push(most);
     commit.sectors.push(b'A');
-    assert_eq!(sides.run(&buffer, used, &Call::Commit(commit)), Err(30));
+    assert_eq!(sides.run(&buffer, used, &Call::Commit(commit)), refused(30));
 }

@@ -81,7 +81,7 @@ pub struct Place {
 }
 
 /// The places of the records of an image that opens.
-#[derive(Default)]
+#[derive(Clone, Default)]
 pub struct Layout {
     pub index: usize,
     pub entries: usize,

@@ -72,13 +72,31 @@ fn null_pointers_to_nothing() {
     let used = aaru::create(&mut buffer, &about).expect("room enough").used;
     let (start, length) = (buffer.as_mut_ptr(), buffer.len());
     let (mut a, mut b) = (0, 0);
+    // One for each call: a refused one sets it.
+    let mut places = [7; 5];
     // SAFETY: the pointers that are not null are valid for their lengths, and apart from each other.
     unsafe {
-        assert_eq!(aaru_open(nothing.0, 0, &mut a), 1);
-        assert_eq!(aaru_locate(nothing.0, 0, 0, &mut a, &mut b), 1);
-        let create = aaru_create(nothing.1, 0, 3, nothing.0, 0, 1, 0, 0, 0, 0, &mut a, &mut b);
+        assert_eq!(aaru_open(nothing.0, 0, &mut a, &mut places[0]), 1);
+        let locate = aaru_locate(nothing.0, 0, 0, &mut a, &mut b, &mut places[1]);
+        assert_eq!(locate, 1);
+        let create = aaru_create(
+            nothing.1,
+            0,
+            3,
+            nothing.0,
+            0,
+            1,
+            0,
+            0,
+            0,
+            0,
+            &mut a,
+            &mut b,
+            &mut places[2],
+        );
         assert_eq!(create, 33);
-        assert_eq!(aaru_rollback(nothing.1, 0, 0, 0, 0, &mut a, &mut b), 1);
+        let rollback = aaru_rollback(nothing.1, 0, 0, 0, 0, &mut a, &mut b, &mut places[3]);
+        assert_eq!(rollback, 1);
         let no_sectors = aaru_commit(
             start,
             length,
@@ -91,7 +109,9 @@ fn null_pointers_to_nothing() {
             1,
             &mut a,
             &mut b,
+            &mut places[4],
         );
         assert_eq!((no_sectors, a), (0, used + 109));
     }
+    assert_eq!(places, [0, 0, 0, 0, 7]);
 }

@@ -1,5 +1,5 @@
 //! Two faults at once: a call that is accepted, and any two faults each of which alone is refused,
-//! with another number than the other. Which number both give is decided by the order of checks.
+//! with another number or place than the other. What both give is decided by the order of checks.
 
 use crate::arguments::{self, with_room};
 use crate::faults::{self, clash, with, Edit::*, Fault, Input};
@@ -7,6 +7,7 @@ use crate::images;
 use crate::layout::Layout;
 use crate::random::Random;
 use crate::sides::{Answer, Call, Sides};
+use aaru::Refusal;
 
 pub fn run(sides: &mut Sides, seed: u64, images: usize) {
     let mut random = Random::new(seed);
@@ -30,8 +31,8 @@ const ORDER: [u32; 28] = [
     27, 35,
 ];
 
-/// Runs the base, every fault alone, and two of them with different numbers at once: those that
-/// are near each other in the order of checks always, the rest sometimes.
+/// Runs the base, every fault alone, and two of them with different numbers or places at once:
+/// those that are near each other in the order of checks always, the rest sometimes.
 fn pairs(
     sides: &mut Sides,
     base: &Input,
@@ -42,17 +43,20 @@ fn pairs(
     run_input(sides, base).expect("the base is accepted");
     let mut refused = Vec::new();
     for fault in faults {
-        if let Err(number) = run_input(sides, &with(base, layout, &fault)) {
-            refused.push((number, fault));
+        if let Err(refusal) = run_input(sides, &with(base, layout, &fault)) {
+            refused.push((refusal, fault));
         }
     }
-    let met = |number: &&u32| refused.iter().any(|(met, _)| met == *number);
+    let met = |number: &&u32| refused.iter().any(|(met, _)| met.number == **number);
     let order: Vec<u32> = ORDER.iter().filter(met).copied().collect();
-    let place = |number| order.iter().position(|met| *met == number).unwrap();
-    for (second, (number, fault)) in refused.iter().enumerate() {
-        for (other_number, other) in &refused[..second] {
-            let distance = place(*number).abs_diff(place(*other_number));
-            let wanted = (1..=2).contains(&distance) || distance > 2 && random.once_in(4);
+    let rank = |refusal: &Refusal| order.iter().position(|met| *met == refusal.number).unwrap();
+    for (second, (refusal, fault)) in refused.iter().enumerate() {
+        for (other_refusal, other) in &refused[..second] {
+            let wanted = match rank(refusal).abs_diff(rank(other_refusal)) {
+                0 => refusal.place != other_refusal.place,
+                1 | 2 => true,
+                _ => random.once_in(4),
+            };
             if wanted && !clash(fault, other) {
                 let both = [&fault[..], &other[..]].concat();
                 // Some mend each other: the table's entry loses its data type, another gets it.
@@ -135,7 +139,21 @@ fn commit(sides: &mut Sides, image: &[u8], layout: &Layout, random: &mut Random)
     pairs(sides, &base, layout, faults, random);
 }
 
+/// The image with a copy of its index behind it, and the layout by that one: the header still
+/// names the other.
+fn with_second_index(image: &[u8], layout: &Layout) -> (Vec<u8>, Layout) {
+    let index = layout.index..layout.index_entry(layout.entries);
+    let longer = [image, &image[index]].concat();
+    let layout = Layout {
+        index: image.len(),
+        length: longer.len(),
+        ..layout.clone()
+    };
+    (longer, layout)
+}
+
 fn rollback(sides: &mut Sides, image: &[u8], layout: &Layout, random: &mut Random) {
+    let (image, layout) = &with_second_index(image, layout);
     let (used, index) = (image.len() as u64, layout.index as u64);
     let base = Input {
         buffer: with_room(image, 9, random),

@@ -2,6 +2,7 @@
 //! everything that they give compared.
 
 use crate::independent;
+use crate::layout::{get, Layout, INDEX};
 use crate::random::Random;
 use crate::tally::Tally;
 use aaru::{ffi, Creation, Placed, Refusal};
@@ -66,23 +67,36 @@ impl Call {
     }
 }
 
-/// Count and 0, start and size, or `used` and index offset; or the refusal's number.
-pub type Answer = Result<(u64, u64), u32>;
+/// Count and 0, start and size, or `used` and index offset; or the refusal.
+pub type Answer = Result<(u64, u64), Refusal>;
 
-/// What the library must leave in the places for its answer when it refuses.
+/// The answer where the refusal is about no record of the image.
+pub fn refused(number: u32) -> Answer {
+    Err(Refusal { number, place: 0 })
+}
+
+/// What the library must leave behind the pointers for its answer when it refuses.
 const UNTOUCHED: (u64, u64) = (0x0123_4567_89AB_CDEF, 0xFEDC_BA98_7654_3210);
+/// What it must leave behind the pointer for the place when it accepts.
+const UNPLACED: u64 = 0x1357_9BDF_0246_8ACE;
 
 /// The C call.
 pub fn raw(buffer: &mut [u8], used: u64, call: &Call) -> Answer {
     let (mut first, mut second) = UNTOUCHED;
+    let mut place = UNPLACED;
     let (start, length) = (buffer.as_mut_ptr(), buffer.len());
     // SAFETY: all slices are valid for their lengths, and the buffer is borrowed alone.
     let number = unsafe {
         match call {
-            Call::Open => ffi::aaru_open(start, used as usize, &mut first),
-            Call::Locate(address) => {
-                ffi::aaru_locate(start, used as usize, *address, &mut first, &mut second)
-            }
+            Call::Open => ffi::aaru_open(start, used as usize, &mut first, &mut place),
+            Call::Locate(address) => ffi::aaru_locate(
+                start,
+                used as usize,
+                *address,
+                &mut first,
+                &mut second,
+                &mut place,
+            ),
             Call::Create(create) => ffi::aaru_create(
                 start,
                 length,
@@ -96,6 +110,7 @@ pub fn raw(buffer: &mut [u8], used: u64, call: &Call) -> Answer {
                 create.written,
                 &mut first,
                 &mut second,
+                &mut place,
             ),
             Call::Commit(commit) => ffi::aaru_commit(
                 start,
@@ -109,26 +124,35 @@ pub fn raw(buffer: &mut [u8], used: u64, call: &Call) -> Answer {
                 commit.time,
                 &mut first,
                 &mut second,
+                &mut place,
             ),
-            Call::Rollback { offset, time } => {
-                ffi::aaru_rollback(start, length, used, *offset, *time, &mut first, &mut second)
-            }
+            Call::Rollback { offset, time } => ffi::aaru_rollback(
+                start,
+                length,
+                used,
+                *offset,
+                *time,
+                &mut first,
+                &mut second,
+                &mut place,
+            ),
         }
     };
-    match (number, call) {
-        (0, Call::Open) => Ok((first, 0)),
-        (0, _) => Ok((first, second)),
-        _ => {
-            assert_eq!((first, second), UNTOUCHED, "refused, but answered");
-            Err(number)
-        }
+    if number != 0 {
+        assert_eq!((first, second), UNTOUCHED, "refused, but answered");
+        return Err(Refusal { number, place });
+    }
+    assert_eq!(place, UNPLACED, "accepted, but placed");
+    match call {
+        Call::Open => Ok((first, 0)),
+        _ => Ok((first, second)),
     }
 }
 
 /// The safe wrapper's call.
 pub fn safe(buffer: &mut [u8], used: u64, call: &Call) -> Answer {
     let pair = |placed: Placed| (placed.used, placed.index);
-    let answer = match call {
+    match call {
         Call::Open => aaru::open(&buffer[..used as usize]).map(|count| (count, 0)),
         Call::Locate(address) => {
             let image = &buffer[..used as usize];
@@ -148,8 +172,7 @@ pub fn safe(buffer: &mut [u8], used: u64, call: &Call) -> Answer {
         )
         .map(pair),
         Call::Rollback { offset, time } => aaru::rollback(buffer, used, *offset, *time).map(pair),
-    };
-    answer.map_err(|Refusal { number }| number)
+    }
 }
 
 /// The independent implementation's call.
@@ -213,14 +236,20 @@ impl Sides {
             panic!("the sides differ");
         }
 
-        self.tally.count(call.column(), answer.err().unwrap_or(0));
+        let image = &buffer[..buffer.len().min(used as usize)];
+        self.tally.count(call.column(), answer);
+        if let Err(refusal) = answer {
+            if telling(image, call, refusal) {
+                self.tally.count_telling(call.column(), refusal);
+            }
+        }
         if !matches!(call, Call::Create(_)) && used <= buffer.len() as u64 {
-            self.note(&buffer[..used as usize]);
+            self.note(image);
         }
         if call.writes() {
             self.compare_reads(match answer {
                 Ok((used, _)) => used as usize,
-                Err(_) => buffer.len().min(used as usize),
+                Err(_) => image.len(),
             });
         }
         answer
@@ -264,6 +293,22 @@ impl Sides {
         }
         let copies = &self.copies;
         assert!(copies[0] == copies[2] && copies[1] == copies[2]);
+    }
+}
+
+/// Whether a place is one of those that `tally::telling` asks for.
+fn telling(image: &[u8], call: &Call, Refusal { number, place }: Refusal) -> bool {
+    let named = || get(image, 48, 8);
+    let index = || match call {
+        Call::Rollback { offset, .. } => *offset,
+        _ => named(),
+    };
+    match number {
+        4 => place > image.len() as u64,
+        5 | 6 | 9 | 10 => place != named(),
+        7 | 8 => place > index() + INDEX as u64,
+        22 => place > Layout::of(image).table_entry(0) as u64,
+        _ => false,
     }
 }
 

@@ -1,11 +1,11 @@
 //! Buffers of 4 GiB and a little more, of which only a few pages are ever there.
 
 use crate::arguments;
-use crate::faults::read_addresses;
+use crate::faults::{self, read_addresses};
 use crate::images::Description;
 use crate::layout::{get, put, Layout, HEADER};
 use crate::random::Random;
-use crate::sides::{other, raw, safe, Answer, Call, Commit, Sides};
+use crate::sides::{other, raw, refused, safe, Answer, Call, Commit, Sides};
 use std::ffi::c_void;
 use std::slice;
 
@@ -70,7 +70,9 @@ pub fn run(sides: &mut Sides, seed: u64) {
     let mut between = long[FRONT..MOST - FRONT].chunks_exact(FRONT);
     assert!(between.all(|part| part == nothing));
     assert_eq!(long[MOST..], nothing);
-    read_far_behind(sides, long, &mut random);
+    far_behind(sides, &mut long[..MOST], &mut random);
+    // Reading has no length limit: here every record stands above 4 GiB.
+    far_behind(sides, long, &mut random);
 }
 
 /// Calls that would be accepted if the buffer were not too long, and some with a second fault.
@@ -96,10 +98,10 @@ fn too_long(sides: &mut Sides, buffer: &mut [u8], random: &mut Random) {
     for call in &calls {
         for used in [image.len() as u64, 0, MOST as u64 + 1, MOST as u64 + 2] {
             for side in [raw, safe, other] {
-                assert_eq!(side(buffer, used, call), Err(31), "{call:?}");
+                assert_eq!(side(buffer, used, call), refused(31), "{call:?}");
                 assert_eq!(buffer[..image.len()], image);
             }
-            sides.tally.count(call.column(), 31);
+            sides.tally.count(call.column(), refused(31));
         }
     }
     buffer[..image.len()].fill(0);
@@ -109,7 +111,7 @@ fn too_long(sides: &mut Sides, buffer: &mut [u8], random: &mut Random) {
 fn longest(sides: &mut Sides, mut buffers: [&mut [u8]; 3], random: &mut Random) {
     let mut run = |used: u64, call: Call| -> Answer {
         let answer = on_each(&mut buffers, used, &call);
-        sides.tally.count(call.column(), answer.err().unwrap_or(0));
+        sides.tally.count(call.column(), answer);
         if let Ok((used, _)) = answer {
             for address in 0..=SECTORS {
                 on_each(&mut buffers, used, &Call::Locate(address)).ok();
@@ -126,8 +128,8 @@ fn longest(sides: &mut Sides, mut buffers: [&mut [u8]; 3], random: &mut Random) 
         sectors: b"AAABBB".to_vec(),
         time: 6,
     });
-    assert_eq!(run(whole + 1, commit.clone()), Err(32));
-    assert_eq!(run(whole, commit.clone()), Err(35));
+    assert_eq!(run(whole + 1, commit.clone()), refused(32));
+    assert_eq!(run(whole, commit.clone()), refused(35));
     let (grown, _) = run(used, commit.clone()).expect("not too long");
     let time = 7;
     for used in [whole, grown] {
@@ -136,11 +138,11 @@ fn longest(sides: &mut Sides, mut buffers: [&mut [u8]; 3], random: &mut Random) 
     }
     // The same commit once more, but up to the buffer's last byte.
     let last = whole - (grown - used);
-    assert_eq!(run(last + 1, commit.clone()), Err(35));
+    assert_eq!(run(last + 1, commit.clone()), refused(35));
     let (used, offset) = run(last, commit).expect("not too long");
     assert_eq!(used, whole);
     let answer = run(whole + 1, Call::Rollback { offset, time });
-    assert_eq!(answer, Err(32));
+    assert_eq!(answer, refused(32));
     let answer = run(whole, Call::Rollback { offset, time });
     assert_eq!(answer, Ok((whole, offset)));
 }
@@ -158,8 +160,49 @@ fn on_each([first, second, third]: &mut [&mut [u8]; 3], used: u64, call: &Call) 
     answer
 }
 
-/// Reading has no length limit: an image whose records all stand above 4 GiB.
-fn read_far_behind(sides: &mut Sides, long: &mut [u8], random: &mut Random) {
+/// An image whose records all stand at the buffer's end, as it is and with each fault. One buffer
+/// is enough for all sides: there is no room to commit, and a rollback writes the same again.
+fn far_behind(sides: &mut Sides, buffer: &mut [u8], random: &mut Random) {
+    let layout = build_far_behind(buffer, random);
+    for address in 0..=layout.count as u64 {
+        let answer = on_one(sides, buffer, &Call::Locate(address));
+        assert!(answer.is_ok() || [refused(20), refused(21)].contains(&answer));
+    }
+    let address = read_addresses(buffer, &layout)[0];
+    let calls = [
+        Call::Open,
+        Call::Locate(address),
+        Call::Commit(arguments::commit(random, layout.count)),
+        Call::Rollback {
+            offset: layout.index as u64,
+            time: 8,
+        },
+    ];
+    let mut faults = faults::of_opening(buffer, &layout);
+    faults.extend(faults::of_reading(buffer, &layout, address));
+    let far = buffer.len() - FRONT;
+    let (header, records) = (buffer[..HEADER].to_vec(), buffer[far..].to_vec());
+    for fault in faults {
+        faults::edit_image(buffer, &layout, &fault);
+        for call in &calls {
+            on_one(sides, buffer, call).ok();
+        }
+        buffer[..HEADER].copy_from_slice(&header);
+        buffer[far..].copy_from_slice(&records);
+    }
+}
+
+fn on_one(sides: &mut Sides, buffer: &mut [u8], call: &Call) -> Answer {
+    let used = buffer.len() as u64;
+    let answer = raw(buffer, used, call);
+    assert_eq!(safe(buffer, used, call), answer);
+    assert_eq!(other(buffer, used, call), answer);
+    sides.tally.count(call.column(), answer);
+    answer
+}
+
+/// Only the header stands at the buffer's front.
+fn build_far_behind(buffer: &mut [u8], random: &mut Random) -> Layout {
     let (image, mut layout) = loop {
         let image = Description::rich(random).build(random);
         let layout = Layout::of(&image);
@@ -168,31 +211,24 @@ fn read_far_behind(sides: &mut Sides, long: &mut [u8], random: &mut Random) {
             break (image, layout);
         }
     };
-    long[..HEADER].copy_from_slice(&image[..HEADER]);
-    long[MOST..][..image.len()].copy_from_slice(&image);
-    layout.index += MOST;
-    layout.table += MOST;
-    layout.blocks.iter_mut().for_each(|block| *block += MOST);
-    put(long, 48, 8, layout.index as u64);
+    let far = buffer.len() - image.len();
+    buffer[..HEADER].copy_from_slice(&image[..HEADER]);
+    buffer[far..].copy_from_slice(&image);
+    layout.index += far;
+    layout.table += far;
+    layout.blocks.iter_mut().for_each(|block| *block += far);
+    layout.length = buffer.len();
+    put(buffer, 48, 8, layout.index as u64);
     for entry in 0..layout.entries {
         let at = layout.index_entry(entry) + 8;
-        put(long, at, 8, get(long, at, 8) + MOST as u64);
+        put(buffer, at, 8, get(buffer, at, 8) + far as u64);
     }
     for at in (0..layout.count).map(|address| layout.table_entry(address)) {
-        let entry = get(long, at, 8);
+        let entry = get(buffer, at, 8);
         if entry != 0 {
-            put(long, at, 8, entry + ((MOST as u64) << layout.shift));
+            put(buffer, at, 8, entry + ((far as u64) << layout.shift));
         }
     }
-    layout.make_right(long);
-
-    let used = long.len() as u64;
-    let reads = (0..=layout.count as u64).map(Call::Locate);
-    for call in [Call::Open].into_iter().chain(reads) {
-        let answer = raw(long, used, &call);
-        assert_eq!(safe(long, used, &call), answer);
-        assert_eq!(other(long, used, &call), answer);
-        assert!(matches!(answer, Ok(_) | Err(20 | 21)), "{answer:?}");
-        sides.tally.count(call.column(), answer.err().unwrap_or(0));
-    }
+    layout.make_right(buffer);
+    layout
 }

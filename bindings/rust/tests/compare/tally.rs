@@ -1,6 +1,8 @@
 //! What was tried and how it was answered.
 
-use std::collections::{BTreeMap, HashMap};
+use crate::sides::Answer;
+use aaru::Refusal;
+use std::collections::{BTreeMap, HashMap, HashSet};
 use std::hash::{DefaultHasher, Hasher};
 
 pub const CALLS: [&str; 5] = ["open", "locate", "create", "commit", "rollback"];
@@ -28,24 +30,80 @@ fn least(number: usize) -> u64 {
     }
 }
 
+/// Whether a number has a place; that of every other number is 0.
+fn placed(number: usize) -> bool {
+    matches!(number, 4..=14 | 22..=27)
+}
+
+/// Whether some of a call's places with a number are telling: past the end (4), of an index that
+/// the header does not name (5, 6, 9, 10), or of an entry that is not the first (7, 8, 22).
+fn telling(call: usize, number: usize) -> bool {
+    match number {
+        4 | 7 | 8 | 22 => true,
+        5 | 6 | 9 | 10 => CALLS[call] == "rollback",
+        _ => false,
+    }
+}
+
+/// How many different places have to be met, and how many telling ones where there are such.
+const LEAST_PLACES: usize = 20;
+
+/// What a call gave with a number.
+#[derive(Default)]
+struct Met {
+    times: u64,
+    places: HashSet<u64>,
+    telling: HashSet<u64>,
+}
+
+impl Met {
+    /// That the places could not be right by chance.
+    fn check_places(&self, call: usize, number: usize) {
+        let (name, places) = (CALLS[call], &self.places);
+        let enough = places.len() >= LEAST_PLACES;
+        assert!(enough, "{name} met {number} at {} places", places.len());
+        let enough = !telling(call, number) || self.telling.len() >= LEAST_PLACES;
+        assert!(enough, "{name} met {number} at few telling places");
+        // A buffer that is written can't be so long.
+        let far = places.iter().any(|&place| place >= 1 << 32);
+        let enough = far || !matches!(name, "open" | "locate");
+        assert!(enough, "{name} met {number} at no place above 4 GiB");
+        let enough = number != 4 || places.contains(&u64::MAX);
+        assert!(enough, "{name} never met the last offset");
+    }
+}
+
 #[derive(Default)]
 pub struct Tally {
-    /// How often each call gave each number.
-    answers: BTreeMap<(usize, usize), u64>,
+    /// By call and number.
+    answers: BTreeMap<(usize, usize), Met>,
     /// Whether each image opens. An image is known by a hash of its bytes, so that it counts once.
     images: HashMap<u64, bool>,
-    /// Inputs that bring together two faults, each of which alone is refused with another number.
+    /// Inputs that bring together two faults, each of which alone is refused with another number
+    /// or place.
     pub two_faults: u64,
     /// Reads of what a call left, beyond the inputs.
     pub reads: u64,
 }
 
 impl Tally {
-    pub fn count(&mut self, call: usize, number: u32) {
-        let number = number as usize;
+    pub fn count(&mut self, call: usize, answer: Answer) {
+        let (number, place) = match answer {
+            Ok(_) => (0, 0),
+            Err(Refusal { number, place }) => (number as usize, place),
+        };
         let known = number < NUMBERS && possible(call, number);
-        assert!(known, "{} refused with {number}", CALLS[call]);
-        *self.answers.entry((call, number)).or_default() += 1;
+        let right = place == 0 || placed(number);
+        assert!(known && right, "{} gave {answer:?}", CALLS[call]);
+        let met = self.answers.entry((call, number)).or_default();
+        met.times += 1;
+        met.places.insert(place);
+    }
+
+    /// Notes that the place of a counted refusal is a telling one.
+    pub fn count_telling(&mut self, call: usize, refusal: Refusal) {
+        let met = self.answers.entry((call, refusal.number as usize));
+        met.or_default().telling.insert(refusal.place);
     }
 
     pub fn image(&mut self, image: &[u8], opens: impl Fn(&[u8]) -> bool) {
@@ -56,8 +114,11 @@ impl Tally {
     }
 
     pub fn add(&mut self, other: Tally) {
-        for (pair, times) in other.answers {
-            *self.answers.entry(pair).or_default() += times;
+        for (pair, other) in other.answers {
+            let met = self.answers.entry(pair).or_default();
+            met.times += other.times;
+            met.places.extend(other.places);
+            met.telling.extend(other.telling);
         }
         self.images.extend(other.images);
         self.two_faults += other.two_faults;
@@ -65,11 +126,17 @@ impl Tally {
     }
 
     fn times(&self, call: usize, number: usize) -> u64 {
-        self.answers.get(&(call, number)).copied().unwrap_or(0)
+        self.answers.get(&(call, number)).map_or(0, |met| met.times)
+    }
+
+    /// The different places that calls gave with a number.
+    fn places(&self, number: usize) -> HashSet<u64> {
+        let met = (0..CALLS.len()).filter_map(|call| self.answers.get(&(call, number)));
+        met.flat_map(|met| &met.places).copied().collect()
     }
 
     fn inputs(&self) -> u64 {
-        self.answers.values().sum()
+        self.answers.values().map(|met| met.times).sum()
     }
 
     fn opened(&self) -> usize {
@@ -81,7 +148,7 @@ impl Tally {
         for call in CALLS {
             print!("{call:>10}");
         }
-        println!();
+        println!("{:>10}", "places");
         for number in 0..NUMBERS {
             if (0..CALLS.len()).any(|call| possible(call, number)) {
                 self.print_row(number);
@@ -106,7 +173,10 @@ impl Tally {
                 false => print!("{:>10}", "-"),
             }
         }
-        println!();
+        match placed(number) {
+            true => println!("{:>10}", self.places(number).len()),
+            false => println!("{:>10}", "-"),
+        }
     }
 
     /// That enough was tried.
@@ -116,6 +186,11 @@ impl Tally {
                 let times = self.times(call, number);
                 let enough = !possible(call, number) || times >= least(number);
                 assert!(enough, "{name} met {number} {times} times");
+            }
+        }
+        for (&(call, number), met) in &self.answers {
+            if placed(number) {
+                met.check_places(call, number);
             }
         }
         assert!(self.inputs() >= 100_000);

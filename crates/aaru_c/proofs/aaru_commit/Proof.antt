@@ -5,7 +5,7 @@ use Rattle.aaru_c.proofs.aaru_commit.Statement.{statement}
 use Rattle.aaru_c.proofs.aaru_commit.Tie as tie
 
 returns : tie.Need-returns
-returns c = leaves _ _ (c .numbers .ensures) (c .before .before .before .before .before .commit .ensures)
+returns c = leaves _ _ _ (c .numbers .ensures) (c .before .before .before .before .before .before .commit .ensures)
 
 pub aaru-commit-spec : {M : Type 1} → statement M
 aaru-commit-spec = tie.close (tie.spec (λ c κs. search needs) (λ c κs. search needs) (λ c. search needs) returns)

@@ -11,7 +11,9 @@ returns c = rw (← c .before .before .before .locate .ensures, c .before .answe
 
 returns-2 : tie.Need-returns-2
 unfolding returned located
-returns-2 c = rw (← c .before .before .before .locate .ensures, c .before .answer2 .given .1)
+returns-2 c =
+    let a = c .before .before .before in
+    rw (c .refused .ensures .0, c .refused .ensures .1, ← a .before .before .locate .ensures, a .answer2 .given .1)
 
 pub aaru-locate-spec : {M : Type 1} → statement M
-aaru-locate-spec = tie.close (tie.spec (λ c κs. search needs) (λ c. search needs) (λ c. search needs) returns returns-2)
+aaru-locate-spec = tie.close (tie.spec (λ c κs. search needs) (λ c. search needs) (λ c. search needs) (λ c κs. search needs) returns returns-2)

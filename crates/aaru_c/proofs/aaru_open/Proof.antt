@@ -11,7 +11,9 @@ returns c = rw (← c .before .before .before .sector-count .ensures, c .before 
 
 returns-2 : tie.Need-returns-2
 unfolding returned counted
-returns-2 c = rw (← c .before .before .before .sector-count .ensures, c .before .answer2 .given .1)
+returns-2 c =
+    let a = c .before .before .before in
+    rw (c .refused .ensures .0, c .refused .ensures .1, ← a .before .before .sector-count .ensures, a .answer2 .given .1)
 
 pub aaru-open-spec : {M : Type 1} → statement M
-aaru-open-spec = tie.close (tie.spec (λ c κs. search needs) (λ c. search needs) (λ c. search needs) returns returns-2)
+aaru-open-spec = tie.close (tie.spec (λ c κs. search needs) (λ c. search needs) (λ c. search needs) (λ c κs. search needs) returns returns-2)

@@ -11,7 +11,7 @@ returns c = rw (c .before .answer .given .1)
 
 returns-2 : tie.Need-returns-2
 unfolding returned updated
-returns-2 c = rw (c .before .answer2 .given .1)
+returns-2 c = rw (c .refused .ensures .0, c .refused .ensures .1, c .before .before .before .answer2 .given .1)
 
 pub numbers-spec : {M : Type 1} → statement M
-numbers-spec = tie.close (tie.spec (λ c. search needs) (λ c. search needs) returns returns-2)
+numbers-spec = tie.close (tie.spec (λ c. search needs) (λ c. search needs) (λ c κs. search needs) returns returns-2)

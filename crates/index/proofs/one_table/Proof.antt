@@ -13,13 +13,13 @@ use Rattle.index.proofs.one_table.Statement.{statement}
 use Rattle.index.proofs.one_table.Tie as tie
 
 abbrev Inv-loop : tie.InvT-loop
-Inv-loop s index left₀ p₀ seen₀ left p seen =
+Inv-loop s o index left₀ p₀ seen₀ left p seen =
     (p + entryLength * left ≤ length s)
-    × (entriesVerdict s left p ≡ entriesVerdict s (entryCount s index) (index + indexHeaderLength))
-    × (oneAnswer (before seen (offsetsOf DDT* (entriesFrom s left p))) ≡ oneAnswer (offsetsOf DDT* (entries s index)))
+    × (entriesVerdict s left p ≡ entriesVerdict s (entryCount s (o .0)) (o .0 + indexHeaderLength))
+    × (oneAnswer (o .0) (before seen (offsetsOf DDT* (entriesFrom s left p))) ≡ oneAnswer (o .0) (offsetsOf DDT* (entries s (o .0))))
 
 abbrev μ-loop : tie.MeasureT-loop
-μ-loop s index left₀ p₀ seen₀ left p seen = left
+μ-loop s o index left₀ p₀ seen₀ left p seen = left
 
 loop-holds : tie.Need-loop-holds Inv-loop μ-loop
 unfolding before entries entryCount
@@ -31,15 +31,15 @@ returns c =
     refuses _
     (stops _
     (verdict-stops _ _ _ (c .before .before .before .before .before .before .loop .inv .1) (omega arith)
-    (by (c .before .v .given .1) (c .before .before .before .entry-verdict .ensures _ (c .before .before .before .before .entry .ensures)))))
+    (by (c .before .v .given .1) (c .before .before .before .entry-verdict .ensures))))
 
 loop-again : tie.Need-loop-again Inv-loop μ-loop
 loop-again c =
     let l = c .before .before .before .before .before .before .loop .inv in
     let e = c .before .before .before .before .entry .ensures in (
       omega arith,
-      verdict-goes _ _ _ (l .1) (omega arith) (by (c .before .enum-told .given .1) (c .before .before .before .entry-verdict .ensures _ e)),
-      one-goes _ _ _ _ _ (l .2) _ (omega arith) (λ z. rw (← e) (c .with-entry .ensures z)),
+      verdict-goes _ _ _ (l .1) (omega arith) (by (c .before .enum-told .given .1) (c .before .before .before .entry-verdict .ensures)),
+      one-goes _ _ _ _ _ (l .2) _ (omega arith) (λ z. rw (← e) (c .with-entry .ensures _ z)),
     )
 
 returns-2 : tie.Need-returns-2 Inv-loop μ-loop

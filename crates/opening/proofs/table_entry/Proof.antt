@@ -13,21 +13,15 @@ use Rattle.opening.proofs.table_entry.Tie as tie
 inside : (c : tie.Start) → contents (c .args .t) .table + tableHeaderLength + tableEntryLength * contents (c .args .t) .count ≤ length (now (c .args .s))
 inside c = table-inside _ _ (c .pre .0)
 
-add-get : tie.Need-add-get
-add-get c = let k = inside (c .before .before .before) in omega arith
-
-mul-get : tie.Need-mul-get
-mul-get c = let k = inside (c .before .before .before .before) in omega arith
-
-add-get-2 : tie.Need-add-get-2
-add-get-2 c = let k = inside (c .before .before .before .before) in omega arith
+entry-place-requires : tie.Need-entry-place-requires
+entry-place-requires c κs = let k = inside (c .before) in omega arith
 
 get-requires : tie.Need-get-requires
-get-requires c κs = let k = inside (c .before .before .before .before) in omega arith
+get-requires c κs = let k = inside (c .before .before) in omega arith
 
 returns : tie.Need-returns
 unfolding tableEntry
-returns c = c .get .ensures
+returns c = rw (← c .before .entry-place .ensures) (c .get .ensures)
 
 pub table-entry-spec : {M : Type 1} → statement M
-table-entry-spec = tie.close (tie.spec add-get mul-get add-get-2 get-requires returns)
+table-entry-spec = tie.close (tie.spec entry-place-requires get-requires returns)

@@ -24,7 +24,7 @@ number-verdict-requires : tie.Need-number-verdict-requires
 number-verdict-requires c κs = known c .block
 
 returns : tie.Need-returns
-returns c = c .number-verdict .ensures ∙ known-verdict _ _ (known (c .before))
+returns c = c .number-verdict .ensures ∙ known-verdict _ _ _ (known (c .before))
 
 get-requires : tie.Need-get-requires
 get-requires c κs = let k = opens (c .before .before .before .before) .header in omega arith
