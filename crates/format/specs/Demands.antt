@@ -127,7 +127,8 @@ ReadIsLocated =
 abbrev pub LocatedInside : Type 0
 LocatedInside = (img : List ℕ) (a : ℕ) (p : Place) → locate img a ≡ accepted p → p .start .0 + p .size ≤ length img
 
--- ---- Demand 2, committing: an accepted commit makes the named sectors read as handed in and every other sector read as before.
+-- ---- Demand 2, committing: an accepted commit makes the named sectors read as handed in and every other sector read as before: the same bytes, or the
+-- same refusal, number and place.
 -- A disc that read as `before`, after such a commit reads as `later`
 pub record ReadsCommitted (before later : ℕ → Answer (List ℕ)) (addresses : List ℕ) (size : ℕ) (sectors : List ℕ) : Type 0 where
   pub named : (i : ℕ) → i < length addresses → later (getD addresses i 0) ≡ accepted (part sectors (i * size) size)
