@@ -5,7 +5,7 @@ use mathlib.Core.Bool.{Bool}
 use mathlib.Core.List.{List, [], _∷_}
 use mathlib.Core.Logic.{_≢_, _⊎_, inl, inr, ⊎-map, ⊎-elim}
 use mathlib.Core.Path.{_≡_, refl, sym, subst}
-use Prim.Native.Nat.{ℕ, zero, suc, _+_, _*_, _<_}
+use Prim.Native.Nat.{ℕ, zero, suc, _+_, _*_, _≤_, _<_}
 use native.Mathlib.Nat.{eq-or-lt-of-le}
 use native.Mathlib.Omega.{arith}
 use lib.ListN.{take}
@@ -34,30 +34,30 @@ module _ (img : List ℕ) (o : ℕ) (LookedAt : ℕ → Type 0) where
   abbrev Low : ℕ → ℕ → Type 0
   Low = Listed img o LookedAt openingNumber
 
+  -- a row of a group whose numbers have one place
+  low : (least most p : ℕ) → 1 ≤ least → most ≤ 14 → ((n : ℕ) → FromTo least most n → PlaceFor img o LookedAt n p)
+      → (b : Bool) (n : ℕ) → FromTo least most n → Says Low (row b (refusal n p))
+  low least most p l m at b n f = row-says Low b (refusal n p) (omega arith, at n f)
+
   header-says : Says Low (headerVerdict img)
   unfolding headerVerdict
-  header-says = then-says Low _ _ (says _ 1 (omega arith)) (then-says Low _ _ (says _ 2 (omega arith)) (says _ 3 (omega arith)))
-    where
-      says : (b : Bool) (n : ℕ) → FromTo 1 3 n → Says Low (row b (refusal n 0))
-      says b n f = row-says Low b (refusal n 0) (omega arith, atHeader f)
+  header-says =
+      let says = low 1 3 0 (omega arith) (omega arith) (λ n f. atHeader f) in
+      then-says Low _ _ (says _ 1 (omega arith)) (then-says Low _ _ (says _ 2 (omega arith)) (says _ 3 (omega arith)))
 
   index-says : Says Low (indexVerdict img o)
   unfolding indexVerdict
   index-says =
+      let says = low 4 6 o (omega arith) (omega arith) (λ n f. atIndex (inl f)) in
       then-says Low _ _ (says _ 4 (omega arith)) (then-says Low _ _ (says _ 5 (omega arith)) (then-says Low _ _ (says _ 4 (omega arith)) (says _ 6 (omega arith))))
-    where
-      says : (b : Bool) (n : ℕ) → FromTo 4 6 n → Says Low (row b (refusal n o))
-      says b n f = row-says Low b (refusal n o) (omega arith, atIndex (inl f))
 
   -- the k entries from number i on, which stands at place p
   entries-say : (k i p : ℕ) → i + k ≡ entryCount img o → p ≡ o + indexHeaderLength + entryLength * i → Says Low (entriesVerdict img k p)
   unfolding entriesVerdict entryVerdict Says
   entries-say zero i p l e = tt
   entries-say (suc k) i p l e =
+      let says = low 7 8 p (omega arith) (omega arith) (λ n f. subst (PlaceFor img o LookedAt n) (sym e) (atEntry i f (omega arith))) in
       then-says Low _ _ (then-says Low _ _ (says _ 7 (omega arith)) (says _ 8 (omega arith))) (entries-say k (suc i) (p + entryLength) (omega arith) (omega arith))
-    where
-      says : (b : Bool) (n : ℕ) → FromTo 7 8 n → Says Low (row b (refusal n p))
-      says b n f = row-says Low b (refusal n p) (omega arith, subst (PlaceFor img o LookedAt n) (sym e) (atEntry i f (omega arith)))
 
   one-says : (l : List ℕ) → Says Low (oneOf o l)
   unfolding oneOf Says
@@ -68,12 +68,10 @@ module _ (img : List ℕ) (o : ℕ) (LookedAt : ℕ → Type 0) where
   table-says : Says Low (tableVerdict img (tableAt img o))
   unfolding tableVerdict
   table-says =
+      let says = low 11 14 (tableAt img o) (omega arith) (omega arith) (λ n f. atTable f) in
       then-says Low _ _ (says _ 11 (omega arith))
       (then-says Low _ _ (says _ 13 (omega arith))
       (then-says Low _ _ (says _ 12 (omega arith)) (then-says Low _ _ (says _ 11 (omega arith)) (says _ 14 (omega arith)))))
-    where
-      says : (b : Bool) (n : ℕ) → FromTo 11 14 n → Says Low (row b (refusal n (tableAt img o)))
-      says b n f = row-says Low b (refusal n (tableAt img o)) (omega arith, atTable f)
 
   open-says : Says Low (openVerdict img o)
   unfolding openVerdict oneVerdict
@@ -81,6 +79,10 @@ module _ (img : List ℕ) (o : ℕ) (LookedAt : ℕ → Type 0) where
       then-says Low _ _ header-says
       (then-says Low _ _ index-says
       (then-says Low _ _ (entries-say (entryCount img o) 0 (o + indexHeaderLength) (omega arith) (omega arith)) (then-says Low _ _ (one-says _) table-says)))
+
+  -- the same of a call that gives other numbers too
+  open-also : (N : ℕ → Type 0) → Says (Listed img o LookedAt (λ n. openingNumber n ⊎ N n)) (openVerdict img o)
+  open-also N = says-also _ (λ n p s. (inl (s .0), s .1)) open-says
 
   -- ---- a sector: 20 to 27
   abbrev High : ℕ → ℕ → Type 0
@@ -111,7 +113,7 @@ other-says P (Refuses r) k = choose-cases (Says P) _ _ _ (λ e. tt) (λ e. k (sa
 read-says : (img : List ℕ) (o a : ℕ) → Says (Listed img o (λ b. b ≡ a) readingNumber) (readVerdict img o a)
 unfolding readVerdict
 read-says img o a =
-    then-says _ _ _ (says-also _ (λ n p s. (inl (s .0), s .1)) (open-says img o _)) (says-also _ (λ n p s. (inr (s .0), s .1)) (sector-says img o _ a refl))
+    then-says _ _ _ (open-also img o _ _) (says-also _ (λ n p s. (inr (s .0), s .1)) (sector-says img o _ a refl))
 
 create-says : (buffer : List ℕ) (count : ℕ) (application : List ℕ) → Says (λ n p. creatingNumber n × (p ≡ 0)) (createVerdict buffer count application)
 unfolding createVerdict
@@ -135,7 +137,7 @@ module _ (img : List ℕ) (o : ℕ) where
   disc-says : (addresses : List ℕ) → Says Committing (discVerdict img o addresses)
   unfolding discVerdict sectorsVerdict
   disc-says addresses =
-      then-says Committing _ _ (says-also _ (λ n p s. (inl (s .0), s .1)) (open-says img o OnDisc))
+      then-says Committing _ _ (open-also img o OnDisc _)
       (then-says Committing _ _ (row-says Committing _ (refusal 20 0) (inr (inl refl), atNone (inl (omega arith))))
       (first-says Committing _ _ _ 0 (omega arith) (λ a h. other-says Committing _ (says-also _ (λ n p s d. (inr (⊎-map (λ e. e) inl (not-21 n (s .0) d)), s .1)) (sector-says img o OnDisc a h)))))
 
@@ -156,7 +158,7 @@ rollback-says : (buffer : List ℕ) (used offset : ℕ)
     → Says (Listed (take used buffer) offset NoSector rollingBackNumber) (rollbackVerdict buffer used offset)
 unfolding rollbackVerdict
 rollback-says buffer used offset =
-    then-says _ _ _ (buffer-says _ _ _ _ (inr (omega arith)) (inr (omega arith)) buffer used) (says-also _ (λ n p s. (inl (s .0), s .1)) (open-says _ offset _))
+    then-says _ _ _ (buffer-says _ _ _ _ (inr (omega arith)) (inr (omega arith)) buffer used) (open-also _ offset _ _)
 
 pub demand-1-refusals : Demand1Refusals
 unfolding sectorCount locate create commit append rollback
