@@ -30,7 +30,7 @@ static void show(const char *when, uint64_t used)
 
 int main(void)
 {
-    const uint8_t application[32] = "takes";
+    const uint8_t application[64] = "t\0a\0k\0e\0s"; /* in UTF-16 */
     const uint64_t first[] = {0, 2}, second[] = {1}, falling[] = {2, 1};
     const uint8_t a_and_b[] = {'A', 'A', 'A', 'A', 'B', 'B', 'B', 'B'};
     uint64_t used, empty, take1, take2, index, start, size, place;
@@ -66,8 +66,8 @@ int main(void)
     printf("an offset that is no index: refused with %" PRIu32 " at byte %" PRIu64 "\n", number, place);
     show("as before", used);
 
-    /* a byte of the block at 181, in which all three sectors lie, is damaged */
-    buffer[217] = 'X';
+    /* a byte of the block at 213, in which all three sectors lie, is damaged */
+    buffer[249] = 'X';
     number = aaru_locate(buffer, used, 1, &start, &size, &place);
     printf("a damaged block: refused with %" PRIu32 " at byte %" PRIu64 "\n", number, place);
     return 0;

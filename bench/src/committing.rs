@@ -6,7 +6,7 @@ use aaru::Creation;
 use std::hint::black_box;
 use std::time::Instant;
 
-const APPLICATION: &[u8; 32] = b"measured beside programs in Rust";
+const APPLICATION: &[u8; 64] = &[7; 64];
 const TIME: u64 = 1;
 const SIZE: usize = 2048;
 const SECTORS: usize = 8192;

@@ -3,6 +3,15 @@ use crate::rust;
 
 pub type Refused = u32;
 
+// The header's length, that of the application's name in it, and where its fields stand.
+const HEADER: u64 = 104;
+const APPLICATION_LENGTH: usize = 64;
+const IMAGE_MAJOR: usize = 72;
+const MEDIA_TYPE: usize = 76;
+const INDEX_OFFSET: usize = 80;
+const CREATION_TIME: usize = 88;
+const LAST_WRITTEN_TIME: usize = 96;
+
 /// Of the forms in `rust`, the faster one for so many bytes.
 fn checksum(s: &[u8]) -> u64 {
     if s.len() < 4096 {
@@ -61,7 +70,7 @@ fn is_user_data(entry: &[u8], kind: &[u8; 4]) -> bool {
 
 /// Checks 4 to 6: the index's entries.
 fn index_entries(image: &[u8], index: u64) -> Result<&[u8], Refused> {
-    refuse_if(index < 72, 4)?;
+    refuse_if(index < HEADER, 4)?;
     let header = part(image, index, 20).ok_or(4u32)?;
     refuse_if(header[..4] != b"IDX2"[..], 5)?;
     let length = get::<8>(header, 4).checked_mul(16).ok_or(4u32)?;
@@ -76,7 +85,7 @@ fn one_table(image: &[u8], entries: &[u8]) -> Result<u64, Refused> {
     let mut table = 0;
     for entry in entries.chunks_exact(16) {
         let offset = get::<8>(entry, 8);
-        refuse_if(offset < 72, 7)?;
+        refuse_if(offset < HEADER, 7)?;
         let kind = part(image, offset, 4).ok_or(7u32)?;
         refuse_if(kind != &entry[..4], 8)?;
         if is_user_data(entry, b"DDT*") {
@@ -134,10 +143,10 @@ fn is_damaged(image: &[u8], block: u64) -> bool {
 impl<'a> Disc<'a> {
     /// Checks 1 to 14.
     pub fn open(image: &'a [u8]) -> Result<Self, Refused> {
-        refuse_if(image.len() < 72, 1)?;
+        refuse_if((image.len() as u64) < HEADER, 1)?;
         refuse_if(!matches!(&image[..8], b"AARUFRMT" | b"DICMFRMT"), 2)?;
-        refuse_if(image[40] != 2, 3)?;
-        let entries = index_entries(image, get::<8>(image, 48))?;
+        refuse_if(image[IMAGE_MAJOR] != 2, 3)?;
+        let entries = index_entries(image, get::<8>(image, INDEX_OFFSET))?;
         let (table, shift) = table_entries(image, one_table(image, entries)?)?;
         Ok(Self {
             image,
@@ -297,8 +306,8 @@ fn seal_index(index: &mut [u8]) {
 }
 
 pub fn set_header(image: &mut [u8], index: u64, time: u64) {
-    put::<8>(image, 48, index);
-    put::<8>(image, 64, time);
+    put::<8>(image, INDEX_OFFSET, index);
+    put::<8>(image, LAST_WRITTEN_TIME, time);
 }
 
 /// Creates an image with application version 1.0 and media type 1.
@@ -310,20 +319,21 @@ pub fn create(
 ) -> Result<u64, Refused> {
     refuse_if(buffer.len() > 1 << 32, 31)?;
     refuse_if(count == 0 || count > 1 << 20, 30)?;
-    refuse_if(application.len() != 32, 33)?;
-    let used = 157 + 8 * count;
+    refuse_if(application.len() != APPLICATION_LENGTH, 33)?;
+    let index_offset = HEADER + 49 + 8 * count;
+    let used = index_offset + 36;
     refuse_if((buffer.len() as u64) < used, 35)?;
-    let (header, rest) = buffer[..used as usize].split_at_mut(72);
+    let (header, rest) = buffer[..used as usize].split_at_mut(HEADER as usize);
     let (table, index) = rest.split_at_mut(49 + 8 * count as usize);
     header[..8].copy_from_slice(b"AARUFRMT");
-    header[8..40].copy_from_slice(application);
-    header[40..44].copy_from_slice(&[2, 0, 1, 0]);
-    put::<4>(header, 44, 1);
-    put::<8>(header, 56, time);
-    set_header(header, 121 + 8 * count, time);
+    header[8..IMAGE_MAJOR].copy_from_slice(application);
+    header[IMAGE_MAJOR..IMAGE_MAJOR + 4].copy_from_slice(&[2, 0, 1, 0]);
+    put::<4>(header, MEDIA_TYPE, 1);
+    put::<8>(header, CREATION_TIME, time);
+    set_header(header, index_offset, time);
     table.fill(0);
     seal_table(table, 0);
-    put_entry(index, 20, b"DDT*", 72);
+    put_entry(index, 20, b"DDT*", HEADER);
     seal_index(index);
     Ok(used)
 }

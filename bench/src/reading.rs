@@ -11,7 +11,7 @@ const REPETITIONS: usize = 201;
 fn image(random: &mut Random, sectors: u64, written: usize, size: usize) -> Vec<u8> {
     let about = aaru::Creation {
         sectors,
-        application: &[0; 32],
+        application: &[0; 64],
         major: 1,
         minor: 0,
         media_type: 1,

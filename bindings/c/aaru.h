@@ -21,14 +21,14 @@
  *
  * Checks of the image, made by each call that opens one, in this order. The place is 0 for 1, 2 and 3; for 4, 5, 6, 9 and 10 the index's offset as
  * it was read, or handed to aaru_rollback, even past the end; for 7 and 8 that of the index entry; for 11 to 14 the table's offset.
- *    1  `used` is below 72
+ *    1  `used` is below 104
  *    2  the header's identifier is neither 'AARUFRMT' nor 'DICMFRMT'
  *    3  the image's major version is not 2
- *    4  the index's offset is below 72, or its header (20 bytes) runs past the end
+ *    4  the index's offset is below 104, or its header (20 bytes) runs past the end
  *    5  there is no 'IDX2' at the index's offset
  *    4  the index's entries (16 bytes each) run past the end
  *    6  the checksum of the index's entries is wrong
- *    7  an entry's offset is below 72, or offset + 4 lies past the end  } for each entry
+ *    7  an entry's offset is below 104, or offset + 4 lies past the end } for each entry
  *    8  the four bytes there differ from the entry's blockType          } in turn
  *    9  no entry is for a 'DDT*' table of data type 1
  *   10  more than one is
@@ -75,13 +75,13 @@ uint32_t aaru_open(const uint8_t *image, size_t used, uint64_t *sectors, uint64_
 uint32_t aaru_locate(const uint8_t *image, size_t used, uint64_t address, uint64_t *start, uint64_t *size, uint64_t *place);
 
 /*
- * Makes a new image at the start of the buffer, of `sectors` sectors that are not written: 157 + 8 x sectors bytes. Later bytes of the buffer stay
- * as they are. `application` is a name of 32 bytes, major and minor its version; the two times, `created` and `written`, are stored as they are.
+ * Makes a new image at the start of the buffer, of `sectors` sectors that are not written: 189 + 8 x sectors bytes. Later bytes of the buffer stay
+ * as they are. `application` is a name of 64 bytes (AaruFormat: 32 units of UTF-16, not looked at here), major and minor its version; the two times, `created` and `written`, are stored as they are.
  * `*used` is the image's length, `*index` the offset of its index.
  * Refused with, in this order:
  *   31  the buffer is longer than 4,294,967,296 bytes
  *   30  `sectors` is 0 or over 1,048,576
- *   33  `application_length` is not 32
+ *   33  `application_length` is not 64
  *   35  the image would not fit into the buffer
  */
 uint32_t aaru_create(uint8_t *buffer, size_t length, uint64_t sectors, const uint8_t *application, size_t application_length,

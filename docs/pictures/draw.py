@@ -68,7 +68,7 @@ def image_layout():
 
     p.text(MARGIN, 36, 'The header names the index, the index names the table and the data blocks, a table entry names an item: '
            'that is the sector.', 14.5, TEXT, font_weight='bold')
-    record('header', 'header', ['identifier, application,', 'versions, media type', '72 bytes'], 156)
+    record('header', 'header', ['identifier, application,', 'versions, media type', '104 bytes'], 156)
     index_offset = cell('header', ['indexOffset'], 88, font_weight='bold')
     cell('header', ['two', 'times'], 52)
     x += 14
@@ -95,16 +95,16 @@ def image_layout():
 
 
 # kind, start, end, and for a table what its entries point to
-RECORDS = [('header', 0, 72, ''), ('table', 72, 145, '– – –'), ('index', 145, 181, ''), ('block', 181, 225, ''),
-           ('table', 225, 298, 'A – B'), ('index', 298, 350, ''), ('table', 350, 423, 'A A B'), ('index', 423, 475, '')]
+RECORDS = [('header', 0, 104, ''), ('table', 104, 177, '– – –'), ('index', 177, 213, ''), ('block', 213, 257, ''),
+           ('table', 257, 330, 'A – B'), ('index', 330, 382, ''), ('table', 382, 455, 'A A B'), ('index', 455, 507, '')]
 # call, what it does, `used` after it, the index, table and block in force
 CALLS = [
-    ('create, 3 sectors', 'the header, a table of three entries that are 0, an index of one entry', 181, 145, 72, None),
-    ('commit, addresses 0 and 2: AAAA, BBBB', 'appends a block with both sectors, a new table, a new index; then sets the header', 350, 298, 225, 181),
-    ('commit, address 1: AAAA', 'AAAA is on the disc already: no block; a new table and a new index', 475, 423, 350, 181),
-    ('rollback to 298', 'sets the header and nothing else: address 1 is not written again, and 423 can be had back', 475, 298, 225, 181),
+    ('create, 3 sectors', 'the header, a table of three entries that are 0, an index of one entry', 213, 177, 104, None),
+    ('commit, addresses 0 and 2: AAAA, BBBB', 'appends a block with both sectors, a new table, a new index; then sets the header', 382, 330, 257, 213),
+    ('commit, address 1: AAAA', 'AAAA is on the disc already: no block; a new table and a new index', 507, 455, 382, 213),
+    ('rollback to 330', 'sets the header and nothing else: address 1 is not written again, and 455 can be had back', 507, 330, 257, 213),
 ]
-ROW, SCALE = 152, 2.1
+ROW, SCALE = 152, 1.98
 
 
 def at(offset):
@@ -121,16 +121,16 @@ def commit_and_rollback():
         top, height = 140 + row * ROW, 40
         p.text(MARGIN, top - 48, call, 13.5, TEXT, font_weight='bold')
         p.text(MARGIN + 8.5 * len(call) + 18, top - 48, effect)
-        p.box(MARGIN, top, 521 * SCALE, height, 'url(#free)', '#c3c8cf', 1)
+        p.box(MARGIN, top, 553 * SCALE, height, 'url(#free)', '#c3c8cf', 1)
         for kind, start, end, entries in RECORDS:
             if end <= used:
                 draw_record(p, top, height, kind, start, end, entries, index, start in (0, index, table, block))
         p.text(at(used) - 11, top + height + 15, f'{used} = used', 10.5, TEXT, font_weight='bold')
-        middle = at(index + (18 if index == 145 else 26))
-        p.arrow(at(44), middle - 5, top - 3, -44, 'header', 2.5)
+        middle = at(index + (18 if index == 177 else 26))
+        p.arrow(at(84), middle - 5, top - 3, -44, 'header', 2.5)
         p.arrow(middle, at(table + 36), top + height + 3, 34, 'index', 1.8)
         if block:
-            p.arrow(middle + 10, at(block + 22), top + height + 3, 58 if index == 423 else 46, 'index', 1.8)
+            p.arrow(middle + 10, at(block + 22), top + height + 3, 58 if index == 455 else 46, 'index', 1.8)
     p.text(MARGIN, 88 + ROW * len(CALLS), 'A table is shown by what its entries point to: A is the item AAAA, B is BBBB, – is an entry of 0, not written.')
     p.write('commit-and-rollback.svg')
 

@@ -6,15 +6,15 @@
 //!
 //! ```
 //! let mut buffer = [0; 4096];
-//! let about = aaru::Creation { sectors: 16, application: &[0; 32], major: 1, minor: 0, media_type: 3, created: 0, written: 0 };
+//! let about = aaru::Creation { sectors: 16, application: &[0; 64], major: 1, minor: 0, media_type: 3, created: 0, written: 0 };
 //! let made = aaru::create(&mut buffer, &about)?;
 //! let take = aaru::commit(&mut buffer, made.used, &[0, 5], 4, b"AAAABBBB", 1)?;
 //! let image = &buffer[..take.used as usize];
 //! assert_eq!(aaru::open(image)?, 16);
 //! assert_eq!(aaru::read(image, 5)?.bytes, b"BBBB");
 //! assert_eq!(aaru::read(image, 1).unwrap_err().number, 21); // not written
-//! let refusal = aaru::rollback(&mut buffer, take.used, 100, 2).unwrap_err();
-//! assert_eq!((refusal.number, refusal.place), (5, 100)); // no index there
+//! let refusal = aaru::rollback(&mut buffer, take.used, 104, 2).unwrap_err();
+//! assert_eq!((refusal.number, refusal.place), (5, 104)); // a table there, no index
 //! # Ok::<(), aaru::Refusal>(())
 //! ```
 use std::{error, fmt};
@@ -52,7 +52,7 @@ pub struct Placed {
     pub index: u64,
 }
 
-/// What a new image is made of. The application's name has 32 bytes; times are stored as they are.
+/// What a new image is made of. The application's name has 64 bytes; times are stored as they are.
 #[derive(Clone, Copy, Debug)]
 pub struct Creation<'a> {
     pub sectors: u64,

@@ -8,6 +8,8 @@ ghost use Rattle.format.specs.Committing.{commit};
 ghost use Rattle.format.specs.RollingBack.{rollback};
 ghost use Rattle.format.specs.Answers.{counted, located, bytesRead, answered};
 pub use format::ByteOffset;
+use format::CREATED_ENTRIES;
+use format::CREATED_LENGTH;
 pub use format::Counted;
 pub use format::Located;
 pub use format::Place;
@@ -53,7 +55,7 @@ pub fn read<'a>(image: &'a [u8], a: SectorAddress) -> &'a [u8]
 }
 
 // Makes a new image at the start of the buffer, of `count` sectors that are not written, or says why it can't: 31, 30, 33, 35. The
-// application's name has 32 bytes; times are stored as they are handed in. Later bytes of the buffer stay as they are. The answer is
+// application's name has 64 bytes; times are stored as they are handed in. Later bytes of the buffer stay as they are. The answer is
 // how many bytes the image has, and where its index stands. Linear in the image's bytes.
 pub fn create(
     buffer: &mut [u8],
@@ -82,8 +84,8 @@ pub fn create(
         written,
     );
     Updated::To(Placed {
-        used: 157 + 8 * count,
-        index: ByteOffset(121 + 8 * count),
+        used: CREATED_LENGTH + 8 * count,
+        index: ByteOffset(CREATED_ENTRIES + 8 * count),
     })
 }
 

@@ -22,6 +22,7 @@ ghost use Rattle.appending.specs.Appends.{Passed, blockLengthFor, header
 use fields::get;
 use fields::part;
 use format::ByteOffset;
+use format::INDEX_OFFSET;
 use format::Placed;
 use format::Refusal;
 use format::Updated;
@@ -63,7 +64,7 @@ fn lay_out(s: &[u8], t: Opened, size: u64, stored: u64) -> Layout
     requires { ⌜ (opening (now s) ≡ accepted (contents t)) × (length (now s) ≤ longestBuffer) × (stored ≤ mostAddresses) × (size ≤ largestSize) ⌝ }
     ensures { λ r. ⌜ r ≡ layoutFor (now (s .entry)) (contents t) size stored ⌝ }
 {
-    let kept = indexing::count_kept(s, ByteOffset(get(s, 48, 8)));
+    let kept = indexing::count_kept(s, ByteOffset(get(s, INDEX_OFFSET, 8)));
     let table = s.len() as u64 + block_length(stored, size);
     let index = table + (49 + 8 * opening::count(t));
     let end = index + (20 + 16 * (kept + block_entries(stored)));
@@ -132,7 +133,7 @@ fn put_all(
     ensures { λ _. ⌜ now (buf .exit) ≡ setHeader (overwrite (now (buf .entry)) used (appendedBytes (appended (take used (now (buf .entry))) (indexOffset (take used (now (buf .entry)))) (now (addresses .entry)) size (now (sectors .entry)))))
         (indexStart used (appended (take used (now (buf .entry))) (indexOffset (take used (now (buf .entry)))) (now (addresses .entry)) size (now (sectors .entry)))) time ⌝ }
 {
-    let o = ByteOffset(get(part(buf, 0, used), 48, 8));
+    let o = ByteOffset(get(part(buf, 0, used), INDEX_OFFSET, 8));
     let table = at.table;
     let index = at.index;
     let stored = plan.stored;

@@ -6,7 +6,9 @@ ghost use Rattle.format.specs.Tests.{same, below, _or_};
 ghost use Rattle.format.specs.Writing.{mostSectors, largestSize, mostAddresses, bufferVerdict};
 ghost use Rattle.format.specs.Creating.{createVerdict};
 ghost use Rattle.format.specs.Committing.{rising, argumentsVerdict};
+use format::APPLICATION_LENGTH;
 use format::ByteOffset;
+use format::CREATED_LENGTH;
 use format::Refusal;
 use format::Verdict;
 
@@ -22,7 +24,7 @@ fn count_refused(count: u64) -> bool
     1048576 < count
 }
 
-// A creation: 31, 30, 33, 35. The image has 157 + 8 x count bytes.
+// A creation: 31, 30, 33, 35.
 pub fn create_verdict(buffer: &[u8], count: u64, application: &[u8]) -> Verdict
     ensures { λ r. ⌜ r ≡ createVerdict (now (buffer .entry)) count (now (application .entry)) ⌝ }
 {
@@ -34,10 +36,10 @@ pub fn create_verdict(buffer: &[u8], count: u64, application: &[u8]) -> Verdict
     if count_refused(count) {
         return Verdict::Refuses(Refusal { number: 30, place });
     }
-    if application.len() != 32 {
+    if application.len() as u64 != APPLICATION_LENGTH {
         return Verdict::Refuses(Refusal { number: 33, place });
     }
-    if length < 157 + 8 * count {
+    if length < CREATED_LENGTH + 8 * count {
         return Verdict::Refuses(Refusal { number: 35, place });
     }
     Verdict::Passes

@@ -27,10 +27,10 @@ fn longest(image: &[u8; 512]) {
 pub fn all(image: &mut [u8; 512]) {
     listing_lines(b"no bytes", b"");
     p3(image);
-    listing_lines(b"P3", fields::part(image, 0, 475));
+    listing_lines(b"P3", fields::part(image, 0, 507));
     longest(image);
-    set(image, HEADER, 48, 8, 298); // indexOffset
-    listing_lines(b"P4", fields::part(image, 0, 475));
-    set(image, HEADER, 40, 1, 3); // image major
-    listing_lines(b"P4, major version 3", fields::part(image, 0, 475));
+    set(image, HEADER, 80, 8, 330); // indexOffset
+    listing_lines(b"P4", fields::part(image, 0, 507));
+    set(image, HEADER, 72, 1, 3); // image major
+    listing_lines(b"P4, major version 3", fields::part(image, 0, 507));
 }

@@ -12,17 +12,17 @@ use super::script::PLACE;
 use super::script::run;
 
 // Where its records are, and how many bytes it has.
-const INDEX: u64 = 72;
+const INDEX: u64 = 104;
 
-const TABLE_ENTRY: u64 = 92;
+const TABLE_ENTRY: u64 = 124;
 
-const BLOCK_ENTRY: u64 = 108;
+const BLOCK_ENTRY: u64 = 140;
 
-const BLOCK: u64 = 124;
+const BLOCK: u64 = 156;
 
-const TABLE: u64 = 168;
+const TABLE: u64 = 200;
 
-const WHOLE: u64 = 241;
+const WHOLE: u64 = 273;
 
 // Other letters, as numbers.
 const DICM: u64 = 0x544d_5246_4d43_4944; // DICMFRMT
@@ -37,7 +37,7 @@ const DBLX: u64 = 0x584c_4244;
 
 const ACCEPTED_ROWS: [[u64; 3]; 7] = [
     [WHOLE, COUNT, 0],
-    [41, 1, 7], // image minor
+    [73, 1, 7], // image minor
     [WHOLE, COUNT, 0],
     [0, 8, DICM], // identifier
     [WHOLE, COUNT, 0],
@@ -56,22 +56,23 @@ fn accepted(disc: &[u8; 512]) {
     );
 }
 
-const HEADER_ROWS: [[u64; 3]; 16] = [
+const HEADER_ROWS: [[u64; 3]; 17] = [
     [0, COUNT, 0],
     [0, 8, AARX], // identifier
-    [71, COUNT, 0],
-    [40, 1, 3], // image major
+    [103, COUNT, 0],
+    [104, COUNT, 0],
+    [72, 1, 3], // image major
     [WHOLE, COUNT, 0],
     [0, 8, AARU], // identifier
-    [48, 8, 71], // indexOffset
+    [80, 8, 103], // indexOffset
     [WHOLE, COUNT, 0],
-    [40, 1, 2], // image major
+    [72, 1, 2], // image major
     [WHOLE, COUNT, 0],
-    [48, 8, 222], // indexOffset
+    [80, 8, 254], // indexOffset
     [WHOLE, COUNT, 0],
-    [48, 8, ONES], // indexOffset
+    [80, 8, ONES], // indexOffset
     [WHOLE, COUNT, 0],
-    [48, 8, 0x1_0000_0048], // indexOffset
+    [80, 8, 0x1_0000_0068], // indexOffset
     [WHOLE, COUNT, 0],
 ];
 
@@ -79,13 +80,14 @@ fn header_cases(disc: &[u8; 512]) {
     run(
         disc,
         b"1, no bytes\n\
-          1 before 2, 71 bytes of AARUFRMX\n\
+          1 before 2, 103 bytes of AARUFRMX\n\
+          2, 104 bytes of AARUFRMX\n\
           2 before 3, AARUFRMX, major version 3\n\
-          3 before 4, indexOffset 71\n\
-          4 before 5, indexOffset 71\n\
+          3 before 4, indexOffset 103\n\
+          4 before 5, indexOffset 103\n\
           4 before 5, index header past the end\n\
           4, indexOffset 2^64 - 1, wraps to 19\n\
-          4, indexOffset 2^32 + 72\n",
+          4, indexOffset 2^32 + 104\n",
         &HEADER_ROWS,
     );
 }
@@ -99,7 +101,7 @@ const INDEX_ROWS: [[u64; 3]; 10] = [
     [INDEX + 4, 8, 0x1000_0000_0000_0002], // entries
     [WHOLE, COUNT, 0],
     FRESH,
-    [BLOCK_ENTRY + 8, 8, 71], // offset
+    [BLOCK_ENTRY + 8, 8, 103], // offset
     [WHOLE, COUNT, 0],
 ];
 
@@ -109,26 +111,26 @@ fn index_cases(disc: &[u8; 512]) {
         b"5 before 4, INDX, entries past the end\n\
           4 before 6, entries past the end\n\
           4, 2^60 + 2 entries, wrap to 2\n\
-          6 before 7, block's offset 71\n",
+          6 before 7, block's offset 103\n",
         &INDEX_ROWS,
     );
 }
 
 const ENTRY_ROWS: [[u64; 3]; 16] = [
-    [BLOCK_ENTRY + 8, 8, 71], // offset
+    [BLOCK_ENTRY + 8, 8, 103], // offset
     [INDEX + 12, CRC, 32],
     [WHOLE, COUNT, 0],
     [TABLE, 4, DDT2], // identifier
     [WHOLE, COUNT, 0],
     FRESH,
-    [BLOCK_ENTRY + 8, 8, 238], // offset
+    [BLOCK_ENTRY + 8, 8, 270], // offset
     [INDEX + 12, CRC, 32],
     [WHOLE, COUNT, 0],
     FRESH,
     [TABLE_ENTRY + 8, 8, ONES], // offset
     [INDEX + 12, CRC, 32],
     [WHOLE, COUNT, 0],
-    [TABLE_ENTRY + 8, 8, 0x1_0000_00a8], // offset
+    [TABLE_ENTRY + 8, 8, 0x1_0000_00c8], // offset
     [INDEX + 12, CRC, 32],
     [WHOLE, COUNT, 0],
 ];
@@ -136,11 +138,11 @@ const ENTRY_ROWS: [[u64; 3]; 16] = [
 fn entry_cases(disc: &[u8; 512]) {
     run(
         disc,
-        b"7 before 8, block's offset 71\n\
+        b"7 before 8, block's offset 103\n\
           8 before 7 of the next entry\n\
           7 before 8, offset + 4 past the end\n\
           7, table's offset 2^64 - 1, wraps to 3\n\
-          7, table's offset 2^32 + 168\n",
+          7, table's offset 2^32 + 200\n",
         &ENTRY_ROWS,
     );
 }
@@ -234,7 +236,7 @@ fn table_length_cases(disc: &[u8; 512]) {
         b"12, type 2\n\
           12, cmpLength 16\n\
           12, 2^61 + 3 entries, wrap to 3\n\
-          11, length 2^64 - 8, wraps to 209\n\
+          11, length 2^64 - 8, wraps to 241\n\
           11, length 2^32 - 8\n",
         &TABLE_LENGTH_ROWS,
     );

@@ -10,15 +10,15 @@ use super::script::PLACE;
 use super::script::run;
 
 // Where the records of `block_last` are, and how many bytes it has, as `table_last` does.
-const INDEX: u64 = 72;
+const INDEX: u64 = 104;
 
-const BLOCK_ENTRY: u64 = 108;
+const BLOCK_ENTRY: u64 = 140;
 
-const TABLE: u64 = 124;
+const TABLE: u64 = 156;
 
-const BLOCK: u64 = 197;
+const BLOCK: u64 = 229;
 
-const WHOLE: u64 = 241;
+const WHOLE: u64 = 273;
 
 const ADDRESS_ROWS: [[u64; 3]; 5] = [
     [WHOLE, PLACE, 3],
@@ -45,7 +45,7 @@ fn address_cases(disc: &[u8; 512]) {
 const POINTER_ROWS: [[u64; 3]; 24] = [
     [WHOLE, PLACE, 0],
     [WHOLE, PLACE, 2],
-    [TABLE + 49, 8, 2 * 206], // entry 0
+    [TABLE + 49, 8, 2 * 238], // entry 0
     [TABLE + 33, CMP, 24],
     [TABLE + 41, CRC, 24],
     [WHOLE, PLACE, 0],
@@ -54,7 +54,7 @@ const POINTER_ROWS: [[u64; 3]; 24] = [
     [TABLE + 33, CMP, 24],
     [TABLE + 41, CRC, 24],
     [WHOLE, PLACE, 0],
-    [TABLE + 49, 8, 0x1_0000_00c5], // entry 0
+    [TABLE + 49, 8, 0x1_0000_00e5], // entry 0
     [TABLE + 33, CMP, 24],
     [TABLE + 41, CRC, 24],
     [WHOLE, PLACE, 0],
@@ -76,7 +76,7 @@ fn pointer_cases(disc: &[u8; 512]) {
           index, table, block, address 2\n\
           22 before 23, header past the end\n\
           22, block 2^64 - 1, wraps to 35\n\
-          22, block 2^32 + 197\n\
+          22, block 2^32 + 229\n\
           22, a table there\n\
           22, block's dataType 2\n\
           22, the same, address 2\n",

@@ -19,6 +19,7 @@ ghost use Rattle.checking.specs.Checked.{indexed, formVerdict, Formed, d
 use fields::get;
 use fields::part;
 use format::ByteOffset;
+use format::INDEX_OFFSET;
 use format::Pointer;
 use format::Refusal;
 use format::SectorAddress;
@@ -60,7 +61,7 @@ fn form_verdict(s: &[u8], t: Opened, place: ByteOffset, p: Pointer, known: ByteO
     if sectors::is_known(b, known) {
         return sectors::number_verdict(s, p);
     }
-    if sectors::is_indexed(s, ByteOffset(get(s, 48, 8)), b) {
+    if sectors::is_indexed(s, ByteOffset(get(s, INDEX_OFFSET, 8)), b) {
         let v = sectors::block_verdict(s, b);
         if let Verdict::Refuses(r) = v {
             return Verdict::Refuses(r);
@@ -170,7 +171,7 @@ fn sectors_verdict(s: &[u8], t: Opened) -> Verdict
     ensures { λ r. ⌜ r ≡ sectorsVerdict (now (s .entry)) (entries (now (s .entry)) (indexOffset (now (s .entry)))) (contents t) ⌝ }
 {
     let mut first = first_form(s, t);
-    let index = get(s, 48, 8);
+    let index = get(s, INDEX_OFFSET, 8);
     let mut left = get(s, index + 4, 8);
     let mut p = index + 20;
     // an iteration for each index entry

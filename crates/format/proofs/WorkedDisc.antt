@@ -14,8 +14,8 @@ use Rattle.format.specs.Writing.{bufferVerdict, outcome, setHeader}
 use Rattle.format.specs.Creating.{createdIndexAt, createdUsed, createdBytes, createVerdict, create}
 use Rattle.format.specs.Committing.{pieces, firstWith, given, holdsSector, onDisc, amongStored, stepFor, storeOne, storeAll, oldPointer, newPointer, newPointers, itemOrZero, largestItem, shiftFrom, shiftFor, tableEntryBytes, newTable, keptEntry, keptEntries, newBlock, newBlockEntry, appendedFor, storedFor, pointersFor, appended, tableStart, indexStart, usedAfter, appendedBytes, rising, argumentsVerdict, anyOutside, otherThan21, sectorsVerdict, discVerdict, append, commitVerdict, commit}
 use Rattle.format.specs.RollingBack.{rollbackVerdict, rollback}
-use Rattle.format.specs.WorkedDisc.{allHold, leaves, refusedWith, gives, liesAt, hasTable, workedDisc}
+use Rattle.format.specs.WorkedDisc.{allHold, leaves, refusedWith, gives, liesAt, hasTable, shortP3, workedDisc}
 
 pub worked-disc : T (allHold workedDisc)
-unfolding allHold leaves refusedWith gives liesAt hasTable bufferVerdict workedDisc crcOf part fromLe toLe field overwrite equal layout same differs below atLeast _or_ _and_ choose flatten pieces firstWith given row _then_ firstRefusal answer tag lacks indexOffset headerBytes entryCount entryAt entriesFrom entries isType isUserData entryBytes indexHeader indexBytes blockHeader blockBytes tableHeader tableBytes decode encode headerVerdict indexVerdict entryVerdict entriesVerdict offsetsOf oneOf oneVerdict tableAt tableMalformed sumsDiffer tableVerdict openVerdict openedAt opened opening tableEntry notWritten pointerAt has blockMalformed blockVerdict itemVerdict pointerVerdict sectorVerdict placeOf itemBytes readVerdict readAt read locate outcome setHeader createdIndexAt createdUsed createdBytes createVerdict create holdsSector onDisc amongStored stepFor storeOne storeAll oldPointer orElse newPointer newPointers itemOrZero largestItem shiftFrom shiftFor tableEntryBytes newTable keptEntry keptEntries newBlock newBlockEntry appendedFor storedFor pointersFor appended tableStart indexStart usedAfter appendedBytes rising argumentsVerdict anyOutside otherThan21 sectorsVerdict discVerdict append commitVerdict commit rollbackVerdict rollback
+unfolding allHold leaves refusedWith gives liesAt hasTable bufferVerdict shortP3 workedDisc crcOf part fromLe toLe field overwrite equal layout same differs below atLeast _or_ _and_ choose flatten pieces firstWith given row _then_ firstRefusal answer tag lacks indexOffset headerBytes entryCount entryAt entriesFrom entries isType isUserData entryBytes indexHeader indexBytes blockHeader blockBytes tableHeader tableBytes decode encode headerVerdict indexVerdict entryVerdict entriesVerdict offsetsOf oneOf oneVerdict tableAt tableMalformed sumsDiffer tableVerdict openVerdict openedAt opened opening tableEntry notWritten pointerAt has blockMalformed blockVerdict itemVerdict pointerVerdict sectorVerdict placeOf itemBytes readVerdict readAt read locate outcome setHeader createdIndexAt createdUsed createdBytes createVerdict create holdsSector onDisc amongStored stepFor storeOne storeAll oldPointer orElse newPointer newPointers itemOrZero largestItem shiftFrom shiftFor tableEntryBytes newTable keptEntry keptEntries newBlock newBlockEntry appendedFor storedFor pointersFor appended tableStart indexStart usedAfter appendedBytes rising argumentsVerdict anyOutside otherThan21 sectorsVerdict discVerdict append commitVerdict commit rollbackVerdict rollback
 worked-disc = tt

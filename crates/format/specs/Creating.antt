@@ -1,4 +1,4 @@
--- "*Create* takes a buffer, a sector count E, 32 application bytes, two application version bytes, mediaType and two times."
+-- "*Create* takes a buffer, a sector count E, 64 application bytes, two application version bytes, mediaType and two times."
 use mathlib.Core.List.{List, [], _∷_, _++_}
 use Prim.Native.Nat.{ℕ, _+_, _*_}
 use lib.ListN.{length, replicate}
@@ -10,7 +10,7 @@ use Rattle.format.specs.Refusals.{refusal, row, _then_}
 use Rattle.format.specs.Layouts.{DDT*, tag, headerLength, applicationLength, headerBytes, indexHeaderLength, entryLength, indexBytes, tableHeaderLength, tableEntryLength, tableBytes}
 use Rattle.format.specs.Writing.{mostSectors, longestBuffer, Outcome, outcome, placed}
 
--- "a table of E zero entries with shift 0 at 72 .., then an index with that one entry (dataType 1): 157 + 8E bytes"
+-- "a table of E zero entries with shift 0 at 104 .., then an index with that one entry (dataType 1): 189 + 8E bytes"
 unfoldable pub createdIndexAt : ℕ → ℕ
 createdIndexAt count = headerLength + tableHeaderLength + tableEntryLength * count
 

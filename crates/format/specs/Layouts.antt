@@ -33,22 +33,23 @@ CKSM = 67 ∷ 75 ∷ 83 ∷ 77 ∷ []
 unfoldable pub tag : List ℕ → ℕ
 tag letters = fromLe letters
 
--- ---- Header, 72: identifier at 0 (8); application at 8 (32); image major 40, minor 41; application major 42, minor 43;
--- mediaType 44 (4); indexOffset 48 (8); creationTime 56 (8); lastWrittenTime 64 (8)
+-- ---- Header, 104, as 2/13 has it: identifier at 0 (8); application at 8 (64); image major 72, minor 73; application major 74,
+-- minor 75; mediaType 76 (4); indexOffset 80 (8); creationTime 88 (8); lastWrittenTime 96 (8)
 abbrev pub headerLength : ℕ
-headerLength = 72
+headerLength = 104
 
+-- "The application name is 32 UTF-16 units, so 64 bytes"
 abbrev pub applicationLength : ℕ
-applicationLength = 32
+applicationLength = 64
 
 abbrev pub imageMajorAt : ℕ
-imageMajorAt = 40
+imageMajorAt = 72
 
 abbrev pub indexOffsetAt : ℕ
-indexOffsetAt = 48
+indexOffsetAt = 80
 
 abbrev pub lastWrittenAt : ℕ
-lastWrittenAt = 64
+lastWrittenAt = 96
 
 unfoldable pub indexOffset : List ℕ → ℕ
 indexOffset img = field img indexOffsetAt 8

@@ -17,14 +17,14 @@ use Rattle.format.specs.Layouts.{AARUFRMT, DICMFRMT, IDX2, DDT*, tag, he
 unfoldable pub lacks : List ℕ → ℕ → List ℕ → Bool
 lacks img at letters = differs (field img at (length letters)) (tag letters)
 
--- 1. "`used` below 72: 1. Identifier neither 'AARUFRMT' nor 'DICMFRMT': 2. Image major not 2: 3 (minor is not looked at)."
+-- 1. "`used` below 104: 1. Identifier neither 'AARUFRMT' nor 'DICMFRMT': 2. Image major not 2: 3 (minor is not looked at)."
 unfoldable pub headerVerdict : List ℕ → Verdict
 headerVerdict img =
     row (below (length img) headerLength) (refusal 1 0)
     then row (lacks img 0 AARUFRMT and lacks img 0 DICMFRMT) (refusal 2 0)
     then row (differs (field img imageMajorAt 1) 2) (refusal 3 0)
 
--- 2. "indexOffset below 72, or its header past the end: 4. Not 'IDX2': 5. Entries past the end: 4. Checksum: 6."
+-- 2. "indexOffset below 104, or its header past the end: 4. Not 'IDX2': 5. Entries past the end: 4. Checksum: 6."
 unfoldable pub indexVerdict : List ℕ → ℕ → Verdict
 indexVerdict img o =
     row (below o headerLength or below (length img) (o + indexHeaderLength)) (refusal 4 o)
@@ -32,7 +32,7 @@ indexVerdict img o =
     then row (below (length img) (o + indexHeaderLength + entryLength * entryCount img o)) (refusal 4 o)
     then row (differs (crcOf (entriesPart img o)) (indexCrc64 img o)) (refusal 6 o)
 
--- 3. "For each index entry in turn: offset below 72 or offset + 4 past the end: 7; the four bytes there differ from blockType: 8."
+-- 3. "For each index entry in turn: offset below 104 or offset + 4 past the end: 7; the four bytes there differ from blockType: 8."
 -- The entry stands at place p.
 unfoldable pub entryVerdict : List ℕ → ℕ → Verdict
 entryVerdict img p =

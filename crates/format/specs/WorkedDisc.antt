@@ -1,15 +1,16 @@
--- "A small disc, worked out": P1 to P12 as one table of tests. proofs/WorkedDisc proves that all hold.
+-- "A small disc, worked out": P1 to P12, with the numbers of 2/13, as one table of tests. proofs/WorkedDisc proves that all hold.
 use mathlib.Core.Bool.{Bool, true, false}
 use mathlib.Core.List.{List, [], _∷_, _++_, map}
 use Prim.Native.Nat.{ℕ}
-use lib.ListN.{take, replicate}
+use lib.ListN.{length, take, replicate}
 use Rattle.crc64.specs.Crc.{crcOf}
 use Rattle.fields.specs.Bytes.{part, field, toLe, overwrite, equal}
+use Rattle.format.specs.declared.Entry.{Entry}
 use Rattle.format.specs.declared.Place.{Place}
 use Rattle.format.specs.declared.Placed.{Placed}
 use Rattle.format.specs.Tests.{same, _and_}
 use Rattle.format.specs.Refusals.{Answer, refused, accepted}
-use Rattle.format.specs.Layouts.{AARUFRMT, DICMFRMT, IDX2, DBLK, DDT*, CKSM, tag, indexOffsetAt, indexOffset, decode}
+use Rattle.format.specs.Layouts.{AARUFRMT, DICMFRMT, IDX2, DBLK, DDT*, CKSM, tag, indexOffset, headerBytes, indexBytes, blockBytes, tableBytes, decode}
 use Rattle.format.specs.Opening.{opening, opened}
 use Rattle.format.specs.Reading.{tableEntry, read, locate}
 use Rattle.format.specs.Creating.{create}
@@ -53,52 +54,73 @@ AAAA = 65 ∷ 65 ∷ 65 ∷ 65 ∷ []
 abbrev BBBB : List ℕ
 BBBB = 66 ∷ 66 ∷ 66 ∷ 66 ∷ []
 
+-- an index entry for user data
+abbrev userData : List ℕ → ℕ → Entry
+userData letters o = record { blockType = tag letters; dataType = 1; offset = record { 0 = o } }
+
+abbrev threeEntries : ℕ → ℕ → ℕ → List ℕ
+threeEntries a b c = toLe 8 a ++ (toLe 8 b ++ toLe 8 c)
+
+-- P3's bytes by 01's own table, which 2/13 does not keep: the header has 72 bytes, the name in it 32
+unfoldable pub shortP3 : List ℕ
+shortP3 =
+    headerBytes (replicate 32 7) 1 2 3 423 4 7
+    ++ (tableBytes 0 3 (threeEntries 0 0 0) ++ (indexBytes (userData DDT* 72 ∷ [])
+    ++ (blockBytes 4 (AAAA ++ BBBB)
+    ++ (tableBytes 1 3 (threeEntries 362 0 363) ++ (indexBytes (userData DDT* 225 ∷ userData DBLK 181 ∷ [])
+    ++ (tableBytes 1 3 (threeEntries 362 362 363) ++ indexBytes (userData DDT* 350 ∷ userData DBLK 181 ∷ [])))))))
+
 unfoldable pub workedDisc : List Bool
 workedDisc =
-    let p1 = create (replicate 700 238) 3 (replicate 32 7) 1 2 3 4 5 in
+    let p1 = create (replicate 700 238) 3 (replicate 64 7) 1 2 3 4 5 in
     let b1 = p1 .buffer in
-    let i1 = take 181 b1 in
-    let p2 = commit b1 181 (0 ∷ 2 ∷ []) 4 (AAAA ++ BBBB) 6 in
+    let i1 = take 213 b1 in
+    let p2 = commit b1 213 (0 ∷ 2 ∷ []) 4 (AAAA ++ BBBB) 6 in
     let b2 = p2 .buffer in
-    let i2 = take 350 b2 in
-    let p3 = commit b2 350 (1 ∷ []) 4 AAAA 7 in
+    let i2 = take 382 b2 in
+    let p3 = commit b2 382 (1 ∷ []) 4 AAAA 7 in
     let b3 = p3 .buffer in
-    let i3 = take 475 b3 in
-    let p4 = rollback b3 475 298 8 in
+    let i3 = take 507 b3 in
+    let p4 = rollback b3 507 330 8 in
     let b4 = p4 .buffer in
-    let i4 = take 475 b4 in
-    let p5 = rollback b4 475 423 9 in
-    let i5 = take 475 (p5 .buffer) in
-    let p6 = commit b4 475 (1 ∷ []) 4 BBBB 10 in
-    let i6 = take 600 (p6 .buffer) in
-    let p7 = commit b1 181 [] 4 [] 11 in
-    let i7 = take 290 (p7 .buffer) in
-    -- P1: "Create, E = 3: table 72, index 145, used 181."
-    leaves 181 145 (p1 .result) ∷ hasTable i1 72 0 (0 ∷ 0 ∷ 0 ∷ [])
-    -- P2: "Commit addresses 0, 2, size 4, "AAAABBBB": block 181, table 225, index 298, used 350, shift 1, entries 362, 0, 363."
-    ∷ leaves 350 298 (p2 .result) ∷ hasTable i2 225 1 (362 ∷ 0 ∷ 363 ∷ []) ∷ same (field i2 181 4) (tag DBLK)
-    -- P3: "Then commit address 1 "AAAA": no block, table 350, index 423, used 475, entries 362, 362, 363." And the listing's lines
-    ∷ leaves 475 423 (p3 .result) ∷ hasTable i3 350 1 (362 ∷ 362 ∷ 363 ∷ [])
-    ∷ liesAt 217 4 (locate i3 0) ∷ liesAt 217 4 (locate i3 1) ∷ liesAt 221 4 (locate i3 2)
-    -- P4: "Roll back to 298: address 1 is 21; used stays 475." 21 has no place. P5: "Back to 423: address 1 reads "AAAA"."
-    ∷ leaves 475 298 (p4 .result) ∷ refusedWith 21 0 (read i4 1) ∷ leaves 475 423 (p5 .result) ∷ gives AAAA (read i5 1)
-    -- P6: "After P4, commit 1 "BBBB": entry 363, used 600."
-    ∷ leaves 600 548 (p6 .result) ∷ hasTable i6 475 1 (362 ∷ 363 ∷ 363 ∷ [])
-    -- P7: "Empty commit after P1: table 181, index 254, used 290."
-    ∷ leaves 290 254 (p7 .result) ∷ hasTable i7 181 0 (0 ∷ 0 ∷ 0 ∷ [])
+    let i4 = take 507 b4 in
+    let p5 = rollback b4 507 455 9 in
+    let i5 = take 507 (p5 .buffer) in
+    let p6 = commit b4 507 (1 ∷ []) 4 BBBB 10 in
+    let i6 = take 632 (p6 .buffer) in
+    let p7 = commit b1 213 [] 4 [] 11 in
+    let i7 = take 322 (p7 .buffer) in
+    -- P1: "Create, E = 3": table 104, index 177, used 213
+    leaves 213 177 (p1 .result) ∷ hasTable i1 104 0 (0 ∷ 0 ∷ 0 ∷ [])
+    -- P2: "Commit addresses 0, 2, size 4, "AAAABBBB"": block 213, table 257, index 330, used 382, shift 1, entries 426, 0, 427
+    ∷ leaves 382 330 (p2 .result) ∷ hasTable i2 257 1 (426 ∷ 0 ∷ 427 ∷ []) ∷ same (field i2 213 4) (tag DBLK)
+    -- P3: "Then commit address 1 "AAAA": no block", table 382, index 455, used 507, entries 426, 426, 427. And the listing's lines
+    ∷ leaves 507 455 (p3 .result) ∷ hasTable i3 382 1 (426 ∷ 426 ∷ 427 ∷ [])
+    ∷ liesAt 249 4 (locate i3 0) ∷ liesAt 249 4 (locate i3 1) ∷ liesAt 253 4 (locate i3 2)
+    -- P4: roll back to 330: "address 1 is 21", which has no place; used stays 507. P5: back to 455: "address 1 reads "AAAA"", at 249
+    ∷ leaves 507 330 (p4 .result) ∷ refusedWith 21 0 (read i4 1)
+    ∷ leaves 507 455 (p5 .result) ∷ gives AAAA (read i5 1) ∷ liesAt 249 4 (locate i5 1)
+    -- P6: "After P4, commit 1 "BBBB"": table 507, index 580, used 632, entries 426, 427, 427
+    ∷ leaves 632 580 (p6 .result) ∷ hasTable i6 507 1 (426 ∷ 427 ∷ 427 ∷ [])
+    -- P7: "Empty commit after P1": table 213, index 286, used 322
+    ∷ leaves 322 286 (p7 .result) ∷ hasTable i7 213 0 (0 ∷ 0 ∷ 0 ∷ [])
     -- P8: "Largest item 0, 1, 2, 3, 4: shift 0, 1, 2, 2, 3."
     ∷ equal (map shiftFor (0 ∷ 1 ∷ 2 ∷ 3 ∷ 4 ∷ [])) (0 ∷ 1 ∷ 2 ∷ 2 ∷ 3 ∷ [])
-    -- P9: "In P1's bytes indexOffset 4,294,967,295 gives 4 (a 32-bit sum gives 19); 162 and 71 give 4; 161 gives 5." Each at that offset
-    ∷ refusedWith 4 4294967295 (opening (overwrite i1 indexOffsetAt (toLe 8 4294967295)))
-    ∷ refusedWith 4 162 (opening (overwrite i1 indexOffsetAt (toLe 8 162))) ∷ refusedWith 4 71 (opening (overwrite i1 indexOffsetAt (toLe 8 71)))
-    ∷ refusedWith 5 161 (opening (overwrite i1 indexOffsetAt (toLe 8 161)))
-    -- P10: "In P2's block both lengths 4,294,967,292: 23 for address 0 (a 32-bit sum gives 213)." At the block
-    ∷ refusedWith 23 181 (read (overwrite i2 193 (toLe 4 4294967292 ++ toLe 4 4294967292)) 0)
+    -- P9: in P1's bytes indexOffset, the field at 80, 4,294,967,295 "gives 4 (a 32-bit sum gives 19)"; 194 and 103 give 4; 193 gives 5.
+    -- Each at that offset
+    ∷ refusedWith 4 4294967295 (opening (overwrite i1 80 (toLe 8 4294967295)))
+    ∷ refusedWith 4 194 (opening (overwrite i1 80 (toLe 8 194))) ∷ refusedWith 4 103 (opening (overwrite i1 80 (toLe 8 103)))
+    ∷ refusedWith 5 193 (opening (overwrite i1 80 (toLe 8 193)))
+    -- P10: "In P2's block both lengths", the fields at 225 and 229, "4,294,967,292: 23 for address 0 (a 32-bit sum gives" 245). At the block
+    ∷ refusedWith 23 213 (read (overwrite i2 225 (toLe 4 4294967292 ++ toLe 4 4294967292)) 0)
     -- P11: "Checksum of no bytes is 0." P12: "0x8003 with shift 5 is offset 1024, item 3."
     ∷ same (crcOf []) 0 ∷ same (decode 5 0x8003 .block .0) 1024 ∷ same (decode 5 0x8003 .item .0) 3
-    -- beyond the P cases: the header as creating (versions 2.0 and 1.2, mediaType 3, times 4 and 5), a commit (6) and a rollback (8) leave it
-    ∷ equal (part i1 40 4) (2 ∷ 0 ∷ 1 ∷ 2 ∷ []) ∷ same (field i1 44 4) 3 ∷ same (field i1 48 8) 145 ∷ same (field i1 56 8) 4 ∷ same (field i1 64 8) 5
-    ∷ same (field i2 56 8) 4 ∷ same (field i2 64 8) 6 ∷ same (field i4 56 8) 4 ∷ same (field i4 64 8) 8
+    -- beyond the P cases: the short header is not kept
+    ∷ same (length shortP3) 475 ∷ refusedWith 3 0 (opening shortP3)
+    -- and the header as creating (versions 2.0 and 1.2, mediaType 3, times 4 and 5), a commit (6) and a rollback (8) leave it
+    ∷ equal (part i1 8 64) (replicate 64 7)
+    ∷ equal (part i1 72 4) (2 ∷ 0 ∷ 1 ∷ 2 ∷ []) ∷ same (field i1 76 4) 3 ∷ same (field i1 80 8) 177 ∷ same (field i1 88 8) 4 ∷ same (field i1 96 8) 5
+    ∷ same (field i2 88 8) 4 ∷ same (field i2 96 8) 6 ∷ same (field i4 88 8) 4 ∷ same (field i4 96 8) 8
     -- and the identifiers as numbers, of which `cases` makes the same from their letters
     ∷ same (tag AARUFRMT) 0x544D524655524141 ∷ same (tag DICMFRMT) 0x544D52464D434944 ∷ same (tag IDX2) 0x32584449
     ∷ same (tag DDT*) 0x2A544444 ∷ same (tag DBLK) 0x4B4C4244 ∷ same (tag CKSM) 0x4D534B43

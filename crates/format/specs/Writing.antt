@@ -14,7 +14,7 @@ use Rattle.format.specs.Layouts.{indexOffsetAt, lastWrittenAt}
 --   30  E is 0 or over 1,048,576; sector size 0 or over 65,536; over 65,536 addresses
 --   31  buffer longer than 4,294,967,296 bytes (creating, committing, rolling back only)
 --   32  `used` exceeds the buffer
---   33  application is not 32 bytes; sectors' bytes are not count x size
+--   33  application is not 64 bytes; sectors' bytes are not count x size
 --   34  addresses not strictly rising
 --   35  the new `used` would exceed the buffer
 abbrev pub mostSectors : ℕ

@@ -45,7 +45,7 @@ fn disc(image: &[u8]) {
 }
 
 fn table(buffer: &[u8; 1200], place: u64) {
-    if 1000 < place {
+    if 1050 < place {
         return;
     }
     number(b"shift ", get(buffer, place + 8, 1));

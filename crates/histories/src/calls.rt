@@ -87,8 +87,8 @@ fn no_call() -> Updated {
 // Creates. The application is bytes of 7, its version 1.2, mediaType 3.
 fn create(buffer: &mut [u8], row: &[u64; 5]) -> Updated {
     let n = row[2] as usize;
-    let application = [7u8; 33];
-    if 33 < n {
+    let application = [7u8; 65];
+    if 65 < n {
         return no_call();
     }
     aaru::create(buffer, row[1], &application[0..n], 1, 2, 3, row[3], row[4])
@@ -168,8 +168,8 @@ fn report(before: &mut [u8; 1200], buffer: &[u8; 1200], row: &[u64; 5], answer: 
             let index = p.index;
             number(b"used ", p.used);
             number(b", index ", index.0);
-            take(before, buffer, 48, 56);
-            take(before, buffer, 64, 72);
+            take(before, buffer, 80, 88);
+            take(before, buffer, 96, 104);
             take(before, buffer, appended_at(row), p.used);
         }
     }

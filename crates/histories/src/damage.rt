@@ -13,12 +13,12 @@ use super::script::SET;
 use super::script::run;
 
 // Where the records of the second commit are; address 1 lies in its block, 0 and 2 in the first one's.
-const BLOCK: u64 = 350;
+const BLOCK: u64 = 382;
 
-const TABLE: u64 = 390;
+const TABLE: u64 = 422;
 
 // An index made by hand, behind the image, and the first halves of its entries.
-const INDEX: u64 = 531;
+const INDEX: u64 = 563;
 
 const DDT: u64 = 0x1_2a54_4444; // 'DDT*', dataType 1
 
@@ -26,39 +26,39 @@ const DBLK: u64 = 0x1_4b4c_4244; // 'DBLK', dataType 1
 
 const ROWS: [[u64; 5]; 52] = [
     [FRESH, 900, 0, 0, 0],
-    [CREATE, 3, 32, 4, 5],
-    [COMMIT, 181, AT_0_2, 4, 6],
-    [COMMIT, 350, AT_1, 4, 7],
+    [CREATE, 3, 64, 4, 5],
+    [COMMIT, 213, AT_0_2, 4, 6],
+    [COMMIT, 382, AT_1, 4, 7],
     [SET, BLOCK + 28, 8, 0, 0], // crc64
-    [COMMIT, 531, NONE, 4, 8],
+    [COMMIT, 563, NONE, 4, 8],
     [CRC, BLOCK + 28, BLOCK + 36, 4, 0],
-    [SET, TABLE + 65, 8, 2 * 145, 0], // entry 2: no block there
+    [SET, TABLE + 65, 8, 2 * 177, 0], // entry 2: no block there
     [CRC, TABLE + 33, TABLE + 49, 24, 0],
     [CRC, TABLE + 41, TABLE + 49, 24, 0],
-    [COMMIT, 531, NONE, 4, 8],
+    [COMMIT, 563, NONE, 4, 8],
     [SET, BLOCK + 28, 8, 0, 0], // crc64
-    [DISC, 531, 0, 0, 0],
-    [COMMIT, 531, NONE, 4, 8],
+    [DISC, 563, 0, 0, 0],
+    [COMMIT, 563, NONE, 4, 8],
     [SET, TABLE + 49, 8, 2 * BLOCK + 1, 0], // entry 0: an item too many, of the damaged block
     [CRC, TABLE + 33, TABLE + 49, 24, 0],
     [CRC, TABLE + 41, TABLE + 49, 24, 0],
-    [DISC, 531, 0, 0, 0],
-    [COMMIT, 531, NONE, 4, 8],
+    [DISC, 563, 0, 0, 0],
+    [COMMIT, 563, NONE, 4, 8],
     [SET, TABLE + 49, 8, 2 * BLOCK, 0], // entry 0: an item of the damaged block
     [CRC, TABLE + 33, TABLE + 49, 24, 0],
     [CRC, TABLE + 41, TABLE + 49, 24, 0],
-    [COMMIT, 531, NONE, 4, 8],
-    [SET, TABLE + 49, 8, 362, 0], // entry 0
-    [SET, TABLE + 65, 8, 363, 0], // entry 2
+    [COMMIT, 563, NONE, 4, 8],
+    [SET, TABLE + 49, 8, 426, 0], // entry 0
+    [SET, TABLE + 65, 8, 427, 0], // entry 2
     [CRC, TABLE + 33, TABLE + 49, 24, 0],
     [CRC, TABLE + 41, TABLE + 49, 24, 0],
     [SET, BLOCK + 6, 2, 1, 0], // compression
-    [COMMIT, 531, NONE, 4, 8],
+    [COMMIT, 563, NONE, 4, 8],
     [SET, BLOCK + 6, 2, 0, 0], // compression
     [SET, BLOCK + 12, 8, 0x3e8_0000_03e8, 0], // cmpLength and length
-    [COMMIT, 531, NONE, 4, 8],
+    [COMMIT, 563, NONE, 4, 8],
     [SET, BLOCK + 16, 4, 4, 0], // length
-    [COMMIT, 531, NONE, 4, 8],
+    [COMMIT, 563, NONE, 4, 8],
     [SET, BLOCK + 12, 4, 4, 0], // cmpLength
     [CRC, BLOCK + 28, BLOCK + 36, 4, 0],
     [SET, INDEX, 4, 0x3258_4449, 0], // IDX2
@@ -70,13 +70,13 @@ const ROWS: [[u64; 5]; 52] = [
     [SET, INDEX + 52, 8, DBLK, 0],
     [SET, INDEX + 60, 8, BLOCK, 0],
     [SET, INDEX + 68, 8, DBLK, 0],
-    [SET, INDEX + 76, 8, 181, 0],
+    [SET, INDEX + 76, 8, 213, 0],
     [CRC, INDEX + 12, INDEX + 20, 64, 0],
-    [ROLLBACK, 615, INDEX, 9, 0],
+    [ROLLBACK, 647, INDEX, 9, 0],
     [SET, BLOCK + 20, 8, 0, 0], // cmpCrc64
-    [COMMIT, 615, AT_1, 4, 10],
+    [COMMIT, 647, AT_1, 4, 10],
     [CRC, BLOCK + 20, BLOCK + 36, 4, 0],
-    [COMMIT, 615, AT_1, 4, 10],
+    [COMMIT, 647, AT_1, 4, 10],
 ];
 
 pub fn all() {

@@ -1,5 +1,5 @@
 // For every two neighbours in the order of a call's checks an input to which both apply, and the number that it gives; beside them
-// what one check finds alone. In a buffer of 350 bytes P2 leaves no room, so that 35 always applies to a commit.
+// what one check finds alone. In a buffer of 382 bytes P2 leaves no room, so that 35 always applies to a commit.
 use super::ONES;
 use super::asks::DISC;
 use super::calls::AT_0;
@@ -22,66 +22,68 @@ use super::script::SET;
 use super::script::run;
 
 // Where the records of P2 are.
-const BLOCK: u64 = 181;
+const BLOCK: u64 = 213;
 
-const TABLE: u64 = 225;
+const TABLE: u64 = 257;
 
-const INDEX: u64 = 298;
+const INDEX: u64 = 330;
 
 // Letters, as numbers.
 const AARU: u64 = 0x544d_5246_5552_4141; // AARUFRMT
 
 const AARX: u64 = 0x584d_5246_5552_4141; // AARUFRMX
 
-const ARGUMENT_ROWS: [[u64; 5]; 31] = [
+const ARGUMENT_ROWS: [[u64; 5]; 32] = [
     // creating
-    [FRESH, 350, 0, 0, 0],
-    [CREATE, 0, 31, 4, 5],
-    [CREATE, 1048577, 33, 4, 5],
-    [CREATE, 1048577, 32, 4, 5],
-    [CREATE, ONES, 32, 4, 5],
-    [CREATE, 1048576, 31, 4, 5],
+    [FRESH, 382, 0, 0, 0],
+    [CREATE, 0, 63, 4, 5],
+    [CREATE, 1048577, 65, 4, 5],
+    [CREATE, 1048577, 64, 4, 5],
+    [CREATE, ONES, 64, 4, 5],
+    [CREATE, 1048576, 63, 4, 5],
     [CREATE, 1048576, 0, 4, 5],
-    [CREATE, 1048576, 32, 4, 5],
-    [CREATE, 25, 32, 4, 5],
     [CREATE, 24, 32, 4, 5],
+    [CREATE, 1048576, 64, 4, 5],
+    [CREATE, 25, 64, 4, 5],
+    [CREATE, 24, 64, 4, 5],
     // committing
-    [FRESH, 350, 0, 0, 0],
-    [CREATE, 3, 32, 4, 5],
-    [COMMIT, 181, AT_0_2, 4, 6],
-    [COMMIT, 351, AT_0, 0, 7],
+    [FRESH, 382, 0, 0, 0],
+    [CREATE, 3, 64, 4, 5],
+    [COMMIT, 213, AT_0_2, 4, 6],
+    [COMMIT, 383, AT_0, 0, 7],
     [COMMIT, ONES, AT_0, 0, 7],
-    [COMMIT, 350, AT_0, 0, 7],
-    [COMMIT, 350, AT_0, 65537, 7],
-    [COMMIT, 350, NONE, 0, 7],
-    [COMMIT, 350, NONE, 65537, 7],
-    [MANY, 350, 65537, 1, 7],
-    [MANY, 350, 65536, 1, 7],
-    [MANY, 350, 65536, 65536, 7],
-    [COMMIT, 350, AT_0, 65536, 7],
-    [COMMIT, 350, AT_1_1, 4, 7],
-    [COMMIT, 350, AT_0, 4, 7],
-    [COMMIT, 350, NONE, 4, 7],
-    [COMMIT, 71, AT_1_1, 4, 7],
-    [COMMIT, 350, AT_3_3, 4, 7],
-    [COMMIT, 350, AT_0_2_1, 4, 7],
-    [COMMIT, 71, AT_3, 4, 7],
-    [COMMIT, 349, AT_3, 4, 7],
+    [COMMIT, 382, AT_0, 0, 7],
+    [COMMIT, 382, AT_0, 65537, 7],
+    [COMMIT, 382, NONE, 0, 7],
+    [COMMIT, 382, NONE, 65537, 7],
+    [MANY, 382, 65537, 1, 7],
+    [MANY, 382, 65536, 1, 7],
+    [MANY, 382, 65536, 65536, 7],
+    [COMMIT, 382, AT_0, 65536, 7],
+    [COMMIT, 382, AT_1_1, 4, 7],
+    [COMMIT, 382, AT_0, 4, 7],
+    [COMMIT, 382, NONE, 4, 7],
+    [COMMIT, 103, AT_1_1, 4, 7],
+    [COMMIT, 382, AT_3_3, 4, 7],
+    [COMMIT, 382, AT_0_2_1, 4, 7],
+    [COMMIT, 103, AT_3, 4, 7],
+    [COMMIT, 381, AT_3, 4, 7],
 ];
 
 fn arguments() {
     run(
-        b"create, 30 before 33, 0 sectors, 31 application bytes\n\
-          create, 30 before 33, 1,048,577 sectors, 33 application bytes\n\
+        b"create, 30 before 33, 0 sectors, 63 application bytes\n\
+          create, 30 before 33, 1,048,577 sectors, 65 application bytes\n\
           create, 30 before 35, 1,048,577 sectors\n\
           create, 30, 2^64 - 1 sectors\n\
-          create, 33 before 35, 31 application bytes\n\
+          create, 33 before 35, 63 application bytes\n\
           create, 33 before 35, 0 application bytes\n\
+          create, 33, 32 application bytes\n\
           create, 35, 1,048,576 sectors\n\
-          create, 35, 357 bytes\n\
-          create, 349 bytes\n\
+          create, 35, 389 bytes\n\
+          create, 381 bytes\n\
           P1\nP2\nAAAABBBB\n\
-          commit, 32 before 30, used 351, size 0\nAAAA\n\
+          commit, 32 before 30, used 383, size 0\nAAAA\n\
           commit, 32 before 30, used 2^64 - 1, size 0\nAAAA\n\
           commit, 30 before 33, size 0\nA\n\
           commit, 30 before 33, size 65,537\nA\n\
@@ -94,48 +96,48 @@ fn arguments() {
           commit, 33 before 34, addresses 1, 1\nAAAA\n\
           commit, 33, two sectors for one address\nAAAABBBB\n\
           commit, 33, a byte for no address\nA\n\
-          commit, 34 before 1, addresses 1, 1, used 71\nAAAABBBB\n\
+          commit, 34 before 1, addresses 1, 1, used 103\nAAAABBBB\n\
           commit, 34 before 20, addresses 3, 3\nAAAABBBB\n\
           commit, 34, addresses 0, 2, 1\nAAAABBBBCCCC\n\
-          commit, 1 before 20, used 71\nAAAA\n\
-          commit, 4 before 20, used 349\nAAAA\n",
+          commit, 1 before 20, used 103\nAAAA\n\
+          commit, 4 before 20, used 381\nAAAA\n",
         &ARGUMENT_ROWS,
     );
 }
 
 const SECTOR_ROWS: [[u64; 5]; 32] = [
-    [FRESH, 350, 0, 0, 0],
-    [CREATE, 3, 32, 4, 5],
-    [COMMIT, 181, AT_0_2, 4, 6],
+    [FRESH, 382, 0, 0, 0],
+    [CREATE, 3, 64, 4, 5],
+    [COMMIT, 213, AT_0_2, 4, 6],
     [SET, TABLE + 41, 8, 0, 0], // crc64
-    [COMMIT, 350, AT_3, 4, 7],
+    [COMMIT, 382, AT_3, 4, 7],
     [CRC, TABLE + 41, TABLE + 49, 24, 0],
     [SET, BLOCK + 28, 8, 0, 0], // crc64
-    [COMMIT, 350, AT_3, 4, 7],
-    [COMMIT, 350, AT_0_3, 4, 7],
-    [COMMIT, 350, LAST, 4, 7],
-    [COMMIT, 350, AT_1, 4, 7],
-    [COMMIT, 350, AT_0_2, 4, 7],
-    [COMMIT, 350, NONE, 4, 7],
+    [COMMIT, 382, AT_3, 4, 7],
+    [COMMIT, 382, AT_0_3, 4, 7],
+    [COMMIT, 382, LAST, 4, 7],
+    [COMMIT, 382, AT_1, 4, 7],
+    [COMMIT, 382, AT_0_2, 4, 7],
+    [COMMIT, 382, NONE, 4, 7],
     [CRC, BLOCK + 28, BLOCK + 36, 8, 0],
-    [COMMIT, 350, AT_1, 4, 7],
+    [COMMIT, 382, AT_1, 4, 7],
     [SET, TABLE + 8, 1, 2, 0], // shift
     [SET, TABLE + 49, 8, 4 * BLOCK + 2, 0], // entry 0
-    [SET, TABLE + 65, 8, 4 * 145, 0], // entry 2
+    [SET, TABLE + 65, 8, 4 * 177, 0], // entry 2
     [CRC, TABLE + 33, TABLE + 49, 24, 0],
     [CRC, TABLE + 41, TABLE + 49, 24, 0],
-    [DISC, 350, 0, 0, 0],
-    [COMMIT, 350, AT_0_2, 4, 7],
-    [SET, TABLE + 49, 8, 4 * 145, 0], // entry 0
+    [DISC, 382, 0, 0, 0],
+    [COMMIT, 382, AT_0_2, 4, 7],
+    [SET, TABLE + 49, 8, 4 * 177, 0], // entry 0
     [SET, TABLE + 65, 8, 4 * BLOCK + 2, 0], // entry 2
     [CRC, TABLE + 33, TABLE + 49, 24, 0],
     [CRC, TABLE + 41, TABLE + 49, 24, 0],
-    [COMMIT, 350, AT_0_2, 4, 7],
+    [COMMIT, 382, AT_0_2, 4, 7],
     [SET, TABLE + 49, 8, 0, 0], // entry 0
     [CRC, TABLE + 33, TABLE + 49, 24, 0],
     [CRC, TABLE + 41, TABLE + 49, 24, 0],
-    [DISC, 350, 0, 0, 0],
-    [COMMIT, 350, AT_1, 4, 7],
+    [DISC, 382, 0, 0, 0],
+    [COMMIT, 382, AT_1, 4, 7],
 ];
 
 // The sectors of the disc are checked whether or not the commit names them.
@@ -160,71 +162,71 @@ fn sectors() {
 }
 
 const ROLLBACK_ROWS: [[u64; 5]; 39] = [
-    [FRESH, 350, 0, 0, 0],
-    [CREATE, 3, 32, 4, 5],
-    [COMMIT, 181, AT_0_2, 4, 6],
-    [ROLLBACK, 351, 71, 7, 0],
-    [ROLLBACK, 350, 71, 7, 0],
-    [ROLLBACK, 350, 331, 7, 0],
-    [ROLLBACK, 350, ONES, 7, 0],
-    [ROLLBACK, 350, 0x1_0000_012a, 7, 0],
-    [ROLLBACK, 349, INDEX, 7, 0],
-    [ROLLBACK, 350, 299, 7, 0],
-    [ROLLBACK, 350, 72, 7, 0],
+    [FRESH, 382, 0, 0, 0],
+    [CREATE, 3, 64, 4, 5],
+    [COMMIT, 213, AT_0_2, 4, 6],
+    [ROLLBACK, 383, 103, 7, 0],
+    [ROLLBACK, 382, 103, 7, 0],
+    [ROLLBACK, 382, 363, 7, 0],
+    [ROLLBACK, 382, ONES, 7, 0],
+    [ROLLBACK, 382, 0x1_0000_014a, 7, 0],
+    [ROLLBACK, 381, INDEX, 7, 0],
+    [ROLLBACK, 382, 331, 7, 0],
+    [ROLLBACK, 382, 104, 7, 0],
     [SET, 0, 8, AARX, 0], // identifier
-    [ROLLBACK, 71, 71, 7, 0],
-    [SET, 40, 1, 3, 0], // image major
-    [ROLLBACK, 350, INDEX, 7, 0],
-    [SET, 40, 1, 2, 0], // image major
-    [ROLLBACK, 350, 71, 7, 0],
+    [ROLLBACK, 103, 103, 7, 0],
+    [SET, 72, 1, 3, 0], // image major
+    [ROLLBACK, 382, INDEX, 7, 0],
+    [SET, 72, 1, 2, 0], // image major
+    [ROLLBACK, 382, 103, 7, 0],
     [SET, 0, 8, AARU, 0], // identifier
-    [SET, 40, 1, 3, 0], // image major
-    [ROLLBACK, 350, 71, 7, 0],
-    [SET, 40, 1, 2, 0], // image major
-    [ROLLBACK, 350, 145, 7, 0],
-    [DISC, 350, 0, 0, 0],
+    [SET, 72, 1, 3, 0], // image major
+    [ROLLBACK, 382, 103, 7, 0],
+    [SET, 72, 1, 2, 0], // image major
+    [ROLLBACK, 382, 177, 7, 0],
+    [DISC, 382, 0, 0, 0],
     [SET, INDEX + 12, 8, 0, 0], // crc64
-    [ROLLBACK, 350, INDEX, 8, 0],
+    [ROLLBACK, 382, INDEX, 8, 0],
     [CRC, INDEX + 12, INDEX + 20, 32, 0],
     [SET, BLOCK, 1, 0x58, 0], // XBLK
-    [ROLLBACK, 350, INDEX, 8, 0],
+    [ROLLBACK, 382, INDEX, 8, 0],
     [SET, BLOCK, 1, 0x44, 0], // DBLK
     [SET, TABLE + 41, 8, 0, 0], // crc64
-    [ROLLBACK, 350, INDEX, 8, 0],
+    [ROLLBACK, 382, INDEX, 8, 0],
     [CRC, TABLE + 41, TABLE + 49, 24, 0],
     [SET, BLOCK + 28, 8, 0, 0], // crc64
-    [ROLLBACK, 350, INDEX, 8, 0],
-    [DISC, 350, 0, 0, 0],
-    [SET, 48, 8, 71, 0], // indexOffset
-    [DISC, 350, 0, 0, 0],
-    [ROLLBACK, 350, 145, ONES, 0],
-    [DISC, 350, 0, 0, 0],
+    [ROLLBACK, 382, INDEX, 8, 0],
+    [DISC, 382, 0, 0, 0],
+    [SET, 80, 8, 103, 0], // indexOffset
+    [DISC, 382, 0, 0, 0],
+    [ROLLBACK, 382, 177, ONES, 0],
+    [DISC, 382, 0, 0, 0],
 ];
 
 // It is the handed-in offset that is checked, and not the header's; and no sector is.
 fn rolling_back() {
     run(
         b"P1\nP2\nAAAABBBB\n\
-          rollback, 32 before 4, used 351, offset 71\n\
-          rollback, 4, offset 71\n\
+          rollback, 32 before 4, used 383, offset 103\n\
+          rollback, 4, offset 103\n\
           rollback, 4, index header past the end\n\
           rollback, 4, offset 2^64 - 1, wraps to 19\n\
-          rollback, 4, offset 2^32 + 298\n\
+          rollback, 4, offset 2^32 + 330\n\
           rollback, 4, entries past the end\n\
-          rollback, 5, offset 299\n\
+          rollback, 5, offset 331\n\
           rollback, 5, a table there\n\
-          rollback, 1 before 2, 71 bytes of AARUFRMX\n\
+          rollback, 1 before 2, 103 bytes of AARUFRMX\n\
           rollback, 2 before 3, AARUFRMX, major version 3\n\
-          rollback, 2 before 4, AARUFRMX, offset 71\n\
-          rollback, 3 before 4, major version 3, offset 71\n\
-          rollback to 145\n\
+          rollback, 2 before 4, AARUFRMX, offset 103\n\
+          rollback, 3 before 4, major version 3, offset 103\n\
+          rollback to 177\n\
           its disc\n\
           rollback, 6, crc64 0\n\
           rollback, 8, no DBLK there\n\
           rollback, 14, crc64 0\n\
           rollback, a sector's crc64 0\n\
           its disc\n\
-          indexOffset 71\n\
+          indexOffset 103\n\
           rollback, time 2^64 - 1\n\
           its disc\n",
         &ROLLBACK_ROWS,

@@ -19,20 +19,20 @@ use super::script::SET;
 use super::script::run;
 
 const FALLING: [[u64; 5]; 14] = [
-    [CREATE, 5, 32, 4, 5],
-    [COMMIT, 197, ALL_FIVE, 4, 6],
-    [TABLE, 253, 0, 0, 0],
-    [COMMIT, 394, AT_2_3_4, 4, 7],
-    [TABLE, 394, 0, 0, 0],
-    [DISC, 535, 0, 0, 0],
-    [COMMIT, 535, AT_1_3, 4, 8],
-    [TABLE, 535, 0, 0, 0],
-    [COMMIT, 676, AT_0, 4, 9],
-    [TABLE, 716, 0, 0, 0],
-    [DISC, 873, 0, 0, 0],
-    [ROLLBACK, 873, 342, 10, 0],
-    [COMMIT, 873, AT_0, 4, 11],
-    [TABLE, 873, 0, 0, 0],
+    [CREATE, 5, 64, 4, 5],
+    [COMMIT, 229, ALL_FIVE, 4, 6],
+    [TABLE, 285, 0, 0, 0],
+    [COMMIT, 426, AT_2_3_4, 4, 7],
+    [TABLE, 426, 0, 0, 0],
+    [DISC, 567, 0, 0, 0],
+    [COMMIT, 567, AT_1_3, 4, 8],
+    [TABLE, 567, 0, 0, 0],
+    [COMMIT, 708, AT_0, 4, 9],
+    [TABLE, 748, 0, 0, 0],
+    [DISC, 905, 0, 0, 0],
+    [ROLLBACK, 905, 374, 10, 0],
+    [COMMIT, 905, AT_0, 4, 11],
+    [TABLE, 905, 0, 0, 0],
 ];
 
 // The item with the largest number is overwritten, and the shift falls. "CCCC" is then in the image, but not on the disc.
@@ -49,43 +49,43 @@ fn shifts() {
 }
 
 const EQUAL: [[u64; 5]; 35] = [
-    [CREATE, 5, 32, 4, 5],
-    [COMMIT, 197, AT_0_1_2, 4, 6],
-    [TABLE, 241, 0, 0, 0],
-    [COMMIT, 382, AT_3, 4, 7],
-    [TABLE, 382, 0, 0, 0],
-    [DISC, 523, 0, 0, 0],
-    [COMMIT, 523, AT_0_2, 4, 8],
-    [TABLE, 523, 0, 0, 0],
-    [COMMIT, 664, AT_0_1_2, 4, 9],
-    [TABLE, 704, 0, 0, 0],
-    [DISC, 861, 0, 0, 0],
-    [COMMIT, 861, AT_0_1_2, 4, 10],
-    [TABLE, 905, 0, 0, 0],
-    [DISC, 1078, 0, 0, 0],
+    [CREATE, 5, 64, 4, 5],
+    [COMMIT, 229, AT_0_1_2, 4, 6],
+    [TABLE, 273, 0, 0, 0],
+    [COMMIT, 414, AT_3, 4, 7],
+    [TABLE, 414, 0, 0, 0],
+    [DISC, 555, 0, 0, 0],
+    [COMMIT, 555, AT_0_2, 4, 8],
+    [TABLE, 555, 0, 0, 0],
+    [COMMIT, 696, AT_0_1_2, 4, 9],
+    [TABLE, 736, 0, 0, 0],
+    [DISC, 893, 0, 0, 0],
+    [COMMIT, 893, AT_0_1_2, 4, 10],
+    [TABLE, 937, 0, 0, 0],
+    [DISC, 1110, 0, 0, 0],
     // the old disc is searched as it stood: the second commit overwrites both sectors that it looks for, the third "BBBB"
     [FRESH, 1200, 0, 0, 0],
-    [CREATE, 3, 32, 4, 5],
-    [COMMIT, 181, AT_0_2, 4, 6],
-    [COMMIT, 350, AT_0_2, 4, 7],
-    [TABLE, 350, 0, 0, 0],
-    [COMMIT, 475, AT_0_1_2, 4, 8],
-    [TABLE, 515, 0, 0, 0],
-    [DISC, 656, 0, 0, 0],
+    [CREATE, 3, 64, 4, 5],
+    [COMMIT, 213, AT_0_2, 4, 6],
+    [COMMIT, 382, AT_0_2, 4, 7],
+    [TABLE, 382, 0, 0, 0],
+    [COMMIT, 507, AT_0_1_2, 4, 8],
+    [TABLE, 547, 0, 0, 0],
+    [DISC, 688, 0, 0, 0],
     // the block holds "AAAA" twice; address 0 points to its item 1, and is found first
     [FRESH, 1200, 0, 0, 0],
-    [CREATE, 3, 32, 4, 5],
-    [COMMIT, 181, AT_0_2, 4, 6],
-    [SET, 221, 4, 0x4141_4141, 0], // item 1
-    [CRC, 201, 217, 8, 0],
-    [CRC, 209, 217, 8, 0],
-    [SET, 274, 8, 363, 0], // entry 0
-    [SET, 290, 8, 362, 0], // entry 2
-    [CRC, 258, 274, 24, 0],
-    [CRC, 266, 274, 24, 0],
-    [DISC, 350, 0, 0, 0],
-    [COMMIT, 350, AT_1, 4, 7],
-    [TABLE, 350, 0, 0, 0],
+    [CREATE, 3, 64, 4, 5],
+    [COMMIT, 213, AT_0_2, 4, 6],
+    [SET, 253, 4, 0x4141_4141, 0], // item 1
+    [CRC, 233, 249, 8, 0],
+    [CRC, 241, 249, 8, 0],
+    [SET, 306, 8, 427, 0], // entry 0
+    [SET, 322, 8, 426, 0], // entry 2
+    [CRC, 290, 306, 24, 0],
+    [CRC, 298, 306, 24, 0],
+    [DISC, 382, 0, 0, 0],
+    [COMMIT, 382, AT_1, 4, 7],
+    [TABLE, 382, 0, 0, 0],
 ];
 
 fn equal() {
@@ -105,17 +105,17 @@ fn equal() {
 }
 
 const SIZES: [[u64; 5]; 11] = [
-    [CREATE, 3, 32, 4, 5],
-    [COMMIT, 181, AT_0, 4, 6],
-    [COMMIT, 346, AT_1, 2, 7],
-    [COMMIT, 525, AT_2, 8, 8],
-    [DISC, 726, 0, 0, 0],
-    [COMMIT, 726, AT_0_2, 2, 9],
-    [TABLE, 764, 0, 0, 0],
-    [DISC, 937, 0, 0, 0],
-    [COMMIT, 937, AT_1, 1, 10],
-    [TABLE, 974, 0, 0, 0],
-    [DISC, 1163, 0, 0, 0],
+    [CREATE, 3, 64, 4, 5],
+    [COMMIT, 213, AT_0, 4, 6],
+    [COMMIT, 378, AT_1, 2, 7],
+    [COMMIT, 557, AT_2, 8, 8],
+    [DISC, 758, 0, 0, 0],
+    [COMMIT, 758, AT_0_2, 2, 9],
+    [TABLE, 796, 0, 0, 0],
+    [DISC, 969, 0, 0, 0],
+    [COMMIT, 969, AT_1, 1, 10],
+    [TABLE, 1006, 0, 0, 0],
+    [DISC, 1195, 0, 0, 0],
 ];
 
 fn sizes() {

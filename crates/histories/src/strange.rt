@@ -28,60 +28,60 @@ const NOTE: u64 = 0x4554_4f4e;
 
 const ROWS: [[u64; 5]; 52] = [
     // an index of CKSM, NOTE, the table, CKSM and a 'DDT*' of dataType 2
-    [CREATE, 3, 32, 4, 5],
-    [SET, 181, 4, CKSM, 0],
-    [SET, 185, 4, NOTE, 0],
-    [SET, 189, 4, IDX, 0],
-    [SET, 193, 8, 5, 0], // entries
-    [SET, 209, 4, CKSM, 0],
-    [SET, 213, 4, 0, 0],
-    [SET, 217, 8, 181, 0],
-    [SET, 225, 4, NOTE, 0],
-    [SET, 229, 4, 5, 0],
-    [SET, 233, 8, 185, 0],
-    [SET, 241, 4, DDT, 0],
-    [SET, 245, 4, 1, 0],
-    [SET, 249, 8, 72, 0],
-    [SET, 257, 4, CKSM, 0],
-    [SET, 261, 4, 1, 0],
-    [SET, 265, 8, 181, 0],
+    [CREATE, 3, 64, 4, 5],
+    [SET, 213, 4, CKSM, 0],
+    [SET, 217, 4, NOTE, 0],
+    [SET, 221, 4, IDX, 0],
+    [SET, 225, 8, 5, 0], // entries
+    [SET, 241, 4, CKSM, 0],
+    [SET, 245, 4, 0, 0],
+    [SET, 249, 8, 213, 0],
+    [SET, 257, 4, NOTE, 0],
+    [SET, 261, 4, 5, 0],
+    [SET, 265, 8, 217, 0],
     [SET, 273, 4, DDT, 0],
-    [SET, 277, 4, 2, 0],
-    [SET, 281, 8, 72, 0],
-    [CRC, 201, 209, 80, 0],
-    [SET, 48, 8, 189, 0], // indexOffset
-    [DISC, 289, 0, 0, 0],
-    [COMMIT, 289, AT_0, 4, 6],
-    [BYTES, 402, 84, 0, 0],
-    [DISC, 486, 0, 0, 0],
-    [ROLLBACK, 486, 189, 7, 0],
-    [DISC, 486, 0, 0, 0],
-    [COMMIT, 486, NONE, 4, 8],
-    [BYTES, 559, 68, 0, 0],
-    [DISC, 627, 0, 0, 0],
+    [SET, 277, 4, 1, 0],
+    [SET, 281, 8, 104, 0],
+    [SET, 289, 4, CKSM, 0],
+    [SET, 293, 4, 1, 0],
+    [SET, 297, 8, 213, 0],
+    [SET, 305, 4, DDT, 0],
+    [SET, 309, 4, 2, 0],
+    [SET, 313, 8, 104, 0],
+    [CRC, 233, 241, 80, 0],
+    [SET, 80, 8, 221, 0], // indexOffset
+    [DISC, 321, 0, 0, 0],
+    [COMMIT, 321, AT_0, 4, 6],
+    [BYTES, 434, 84, 0, 0],
+    [DISC, 518, 0, 0, 0],
+    [ROLLBACK, 518, 221, 7, 0],
+    [DISC, 518, 0, 0, 0],
+    [COMMIT, 518, NONE, 4, 8],
+    [BYTES, 591, 68, 0, 0],
+    [DISC, 659, 0, 0, 0],
     // shift 32; then another identifier
     [FRESH, 1200, 0, 0, 0],
-    [CREATE, 3, 32, 4, 5],
-    [COMMIT, 181, AT_0_2, 4, 6],
-    [SET, 233, 1, 32, 0], // shift
-    [SET, 274, 8, 0xb5_0000_0000, 0], // entry 0
-    [SET, 290, 8, 0xb5_0000_0001, 0], // entry 2
-    [CRC, 258, 274, 24, 0],
-    [CRC, 266, 274, 24, 0],
-    [DISC, 350, 0, 0, 0],
-    [COMMIT, 350, AT_1, 4, 7],
-    [TABLE, 350, 0, 0, 0],
+    [CREATE, 3, 64, 4, 5],
+    [COMMIT, 213, AT_0_2, 4, 6],
+    [SET, 265, 1, 32, 0], // shift
+    [SET, 306, 8, 0xd5_0000_0000, 0], // entry 0
+    [SET, 322, 8, 0xd5_0000_0001, 0], // entry 2
+    [CRC, 290, 306, 24, 0],
+    [CRC, 298, 306, 24, 0],
+    [DISC, 382, 0, 0, 0],
+    [COMMIT, 382, AT_1, 4, 7],
+    [TABLE, 382, 0, 0, 0],
     [SET, 0, 8, DICM, 0], // identifier
-    [SET, 41, 1, 7, 0], // image minor
-    [COMMIT, 475, NONE, 4, 8],
-    [BYTES, 0, 72, 0, 0],
+    [SET, 73, 1, 7, 0], // image minor
+    [COMMIT, 507, NONE, 4, 8],
+    [BYTES, 0, 104, 0, 0],
     // bytes behind the index
     [FRESH, 1200, 0, 0, 0],
-    [CREATE, 3, 32, 4, 5],
-    [COMMIT, 200, AT_0_2, 4, 6],
-    [TABLE, 244, 0, 0, 0],
-    [BYTES, 181, 19, 0, 0],
-    [DISC, 369, 0, 0, 0],
+    [CREATE, 3, 64, 4, 5],
+    [COMMIT, 232, AT_0_2, 4, 6],
+    [TABLE, 276, 0, 0, 0],
+    [BYTES, 213, 19, 0, 0],
+    [DISC, 401, 0, 0, 0],
 ];
 
 pub fn all() {

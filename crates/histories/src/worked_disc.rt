@@ -20,41 +20,41 @@ use super::script::FRESH;
 use super::script::run;
 
 const WORKED: [[u64; 5]; 34] = [
-    [CREATE, 3, 32, 4, 5],
-    [BYTES, 0, 72, 0, 0],
-    [BYTES, 72, 109, 0, 0],
-    [TABLE, 72, 0, 0, 0],
-    [DISC, 181, 0, 0, 0],
-    [COMMIT, 181, AT_1_1, 4, 6],
-    [COMMIT, 181, AT_2_1, 4, 6],
-    [COMMIT, 181, AT_3, 4, 6],
-    [COMMIT, 181, AT_0_2, 4, 6],
-    [BYTES, 0, 72, 0, 0],
-    [BYTES, 181, 169, 0, 0],
-    [TABLE, 225, 0, 0, 0],
-    [DISC, 350, 0, 0, 0],
-    [COMMIT, 350, AT_1, 4, 7],
-    [BYTES, 0, 72, 0, 0],
-    [BYTES, 350, 125, 0, 0],
-    [TABLE, 350, 0, 0, 0],
-    [DISC, 475, 0, 0, 0],
-    [ROLLBACK, 475, 298, 8, 0],
-    [BYTES, 0, 72, 0, 0],
-    [DISC, 475, 0, 0, 0],
-    [ROLLBACK, 475, 423, 9, 0],
-    [DISC, 475, 0, 0, 0],
-    [ROLLBACK, 475, 298, 10, 0],
-    [COMMIT, 475, AT_1, 4, 11],
-    [TABLE, 475, 0, 0, 0],
-    [DISC, 600, 0, 0, 0],
-    [ROLLBACK, 600, 423, 12, 0],
-    [DISC, 600, 0, 0, 0],
+    [CREATE, 3, 64, 4, 5],
+    [BYTES, 0, 104, 0, 0],
+    [BYTES, 104, 109, 0, 0],
+    [TABLE, 104, 0, 0, 0],
+    [DISC, 213, 0, 0, 0],
+    [COMMIT, 213, AT_1_1, 4, 6],
+    [COMMIT, 213, AT_2_1, 4, 6],
+    [COMMIT, 213, AT_3, 4, 6],
+    [COMMIT, 213, AT_0_2, 4, 6],
+    [BYTES, 0, 104, 0, 0],
+    [BYTES, 213, 169, 0, 0],
+    [TABLE, 257, 0, 0, 0],
+    [DISC, 382, 0, 0, 0],
+    [COMMIT, 382, AT_1, 4, 7],
+    [BYTES, 0, 104, 0, 0],
+    [BYTES, 382, 125, 0, 0],
+    [TABLE, 382, 0, 0, 0],
+    [DISC, 507, 0, 0, 0],
+    [ROLLBACK, 507, 330, 8, 0],
+    [BYTES, 0, 104, 0, 0],
+    [DISC, 507, 0, 0, 0],
+    [ROLLBACK, 507, 455, 9, 0],
+    [DISC, 507, 0, 0, 0],
+    [ROLLBACK, 507, 330, 10, 0],
+    [COMMIT, 507, AT_1, 4, 11],
+    [TABLE, 507, 0, 0, 0],
+    [DISC, 632, 0, 0, 0],
+    [ROLLBACK, 632, 455, 12, 0],
+    [DISC, 632, 0, 0, 0],
     // an empty commit after P1
     [FRESH, 1200, 0, 0, 0],
-    [CREATE, 3, 32, 4, 5],
-    [COMMIT, 181, NONE, 4, 6],
-    [BYTES, 181, 109, 0, 0],
-    [DISC, 290, 0, 0, 0],
+    [CREATE, 3, 64, 4, 5],
+    [COMMIT, 213, NONE, 4, 6],
+    [BYTES, 213, 109, 0, 0],
+    [DISC, 322, 0, 0, 0],
 ];
 
 fn worked() {
@@ -77,16 +77,16 @@ fn worked() {
           P3, table and index\n\
           P3, table\n\
           P3, disc\n\
-          P4, back to 298\n\
+          P4, back to 330\n\
           P4, header\n\
           P4, disc\n\
-          P5, back to 423\n\
+          P5, back to 455\n\
           P5, disc\n\
           P4 again\n\
           P6, address 1\nBBBB\n\
           P6, table\n\
           P6, disc\n\
-          P5 after P6, back to 423\n\
+          P5 after P6, back to 455\n\
           P5 after P6, disc\n\
           P1\nP7, no addresses\n\nP7, table and index\nP7, disc\n",
         &WORKED,
@@ -94,21 +94,21 @@ fn worked() {
 }
 
 const P8: [[u64; 5]; 15] = [
-    [CREATE, 5, 32, 4, 5],
-    [COMMIT, 197, AT_0, 1, 6],
-    [TABLE, 234, 0, 0, 0],
-    [CREATE, 5, 32, 4, 5],
-    [COMMIT, 197, AT_0_1, 1, 6],
-    [TABLE, 235, 0, 0, 0],
-    [CREATE, 5, 32, 4, 5],
-    [COMMIT, 197, AT_0_1_2, 1, 6],
-    [TABLE, 236, 0, 0, 0],
-    [CREATE, 5, 32, 4, 5],
-    [COMMIT, 197, AT_0_1_2_3, 1, 6],
-    [TABLE, 237, 0, 0, 0],
-    [CREATE, 5, 32, 4, 5],
-    [COMMIT, 197, ALL_FIVE, 1, 6],
-    [TABLE, 238, 0, 0, 0],
+    [CREATE, 5, 64, 4, 5],
+    [COMMIT, 229, AT_0, 1, 6],
+    [TABLE, 266, 0, 0, 0],
+    [CREATE, 5, 64, 4, 5],
+    [COMMIT, 229, AT_0_1, 1, 6],
+    [TABLE, 267, 0, 0, 0],
+    [CREATE, 5, 64, 4, 5],
+    [COMMIT, 229, AT_0_1_2, 1, 6],
+    [TABLE, 268, 0, 0, 0],
+    [CREATE, 5, 64, 4, 5],
+    [COMMIT, 229, AT_0_1_2_3, 1, 6],
+    [TABLE, 269, 0, 0, 0],
+    [CREATE, 5, 64, 4, 5],
+    [COMMIT, 229, ALL_FIVE, 1, 6],
+    [TABLE, 270, 0, 0, 0],
 ];
 
 // "Largest item 0, 1, 2, 3, 4: shift 0, 1, 2, 2, 3."

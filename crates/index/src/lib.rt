@@ -16,6 +16,8 @@ use fields::part;
 use fields::room;
 use format::ByteOffset;
 use format::Entry;
+use format::HEADER_LENGTH;
+use format::IMAGE_MAJOR;
 use format::Refusal;
 use format::Verdict;
 
@@ -59,13 +61,13 @@ pub fn header_verdict(s: &[u8]) -> Verdict
     ensures { λ r. ⌜ r ≡ headerVerdict (now (s .entry)) ⌝ }
 {
     let place = ByteOffset(0);
-    if s.len() < 72 {
+    if (s.len() as u64) < HEADER_LENGTH {
         return Verdict::Refuses(Refusal { number: 1, place });
     }
     if unknown(get(s, 0, 8)) {
         return Verdict::Refuses(Refusal { number: 2, place });
     }
-    if get(s, 40, 1) != 2 {
+    if get(s, IMAGE_MAJOR, 1) != 2 {
         return Verdict::Refuses(Refusal { number: 3, place });
     }
     Verdict::Passes
@@ -77,7 +79,7 @@ pub fn index_verdict(s: &[u8], o: ByteOffset) -> Verdict
 {
     let place = o;
     let index = o.0;
-    if index < 72 {
+    if index < HEADER_LENGTH {
         return Verdict::Refuses(Refusal { number: 4, place });
     }
     if room(s, index) < 20 {
@@ -120,7 +122,7 @@ fn entry_verdict(s: &[u8], p: ByteOffset, e: Entry) -> Verdict
     let place = p;
     let offset = e.offset;
     let at = offset.0;
-    if at < 72 {
+    if at < HEADER_LENGTH {
         return Verdict::Refuses(Refusal { number: 7, place });
     }
     if room(s, at) < 4 {

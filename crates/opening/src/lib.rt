@@ -20,6 +20,7 @@ use fields::get;
 use fields::part;
 use fields::room;
 use format::ByteOffset;
+use format::INDEX_OFFSET;
 use format::ItemNumber;
 use format::Pointer;
 use format::Refusal;
@@ -159,7 +160,7 @@ pub fn open(s: &[u8]) -> Opening
     if let Verdict::Refuses(r) = v {
         return Opening::Refused(r);
     }
-    open_index(s, ByteOffset(get(s, 48, 8)))
+    open_index(s, ByteOffset(get(s, INDEX_OFFSET, 8)))
 }
 
 // All of opening's checks, with o for the index's offset.

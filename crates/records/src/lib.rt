@@ -8,7 +8,7 @@ ghost use Prim.Native.Nat.{_+_, _*_, _≤_};
 ghost use lib.ListN.{length};
 ghost use Rattle.fields.specs.Bytes.{part, overwrite};
 ghost use Rattle.fields.specs.Layout.{num, raw, layout};
-ghost use Rattle.format.specs.Layouts.{applicationLength, headerBytes, entryBytes, indexHeader, blockHeader, tableHeader};
+ghost use Rattle.format.specs.Layouts.{headerLength, applicationLength, imageMajorAt, headerBytes, entryBytes, indexHeader, blockHeader, tableHeader};
 ghost use Rattle.format.specs.Writing.{setHeader};
 ghost use Rattle.format.specs.Creating.{createdUsed, createdBytes};
 use crc64::checksum;
@@ -16,8 +16,19 @@ use fields::clear;
 use fields::copy;
 use fields::part;
 use fields::put;
+use format::APPLICATION;
+use format::APPLICATION_MAJOR;
+use format::APPLICATION_MINOR;
 use format::ByteOffset;
+use format::CREATED_ENTRIES;
+use format::CREATION_TIME;
 use format::Entry;
+use format::HEADER_LENGTH;
+use format::IMAGE_MAJOR;
+use format::IMAGE_MINOR;
+use format::INDEX_OFFSET;
+use format::LAST_WRITTEN_TIME;
+use format::MEDIA_TYPE;
 
 // The fields that begin a block and a table: identifier, type 1, compression 0.
 fn put_identifier(buf: &mut [u8], at: u64, letters: &[u8])
@@ -92,14 +103,14 @@ pub fn put_entry(buf: &mut [u8], at: ByteOffset, e: Entry)
 
 // The header's versions and mediaType: those of the image are 2.0.
 fn put_versions(buf: &mut [u8], major: u8, minor: u8, mediaType: u32)
-    requires { ⌜ 48 ≤ length (now buf) ⌝ }
-    ensures { λ _. ⌜ now (buf .exit) ≡ overwrite (now (buf .entry)) 40 (layout (num 1 2 ∷ num 1 0 ∷ num 1 major ∷ num 1 minor ∷ num 4 mediaType ∷ [])) ⌝ }
+    requires { ⌜ imageMajorAt + 8 ≤ length (now buf) ⌝ }
+    ensures { λ _. ⌜ now (buf .exit) ≡ overwrite (now (buf .entry)) imageMajorAt (layout (num 1 2 ∷ num 1 0 ∷ num 1 major ∷ num 1 minor ∷ num 4 mediaType ∷ [])) ⌝ }
 {
-    put(buf, 40, 1, 2);
-    put(buf, 41, 1, 0);
-    put(buf, 42, 1, major as u64);
-    put(buf, 43, 1, minor as u64);
-    put(buf, 44, 4, mediaType as u64);
+    put(buf, IMAGE_MAJOR, 1, 2);
+    put(buf, IMAGE_MINOR, 1, 0);
+    put(buf, APPLICATION_MAJOR, 1, major as u64);
+    put(buf, APPLICATION_MINOR, 1, minor as u64);
+    put(buf, MEDIA_TYPE, 4, mediaType as u64);
 }
 
 // Writes the header of a new image.
@@ -113,24 +124,24 @@ fn put_header(
     created: u64,
     written: u64,
 )
-    requires { ⌜ (72 ≤ length (now buf)) × (length (now application) ≡ applicationLength) ⌝ }
+    requires { ⌜ (headerLength ≤ length (now buf)) × (length (now application) ≡ applicationLength) ⌝ }
     ensures { λ _. ⌜ now (buf .exit) ≡ overwrite (now (buf .entry)) 0 (headerBytes (now (application .entry)) major minor mediaType (index .0) created written) ⌝ }
 {
     copy(buf, 0, b"AARUFRMT");
-    copy(buf, 8, application);
+    copy(buf, APPLICATION, application);
     put_versions(buf, major, minor, mediaType);
-    put(buf, 48, 8, index.0);
-    put(buf, 56, 8, created);
-    put(buf, 64, 8, written);
+    put(buf, INDEX_OFFSET, 8, index.0);
+    put(buf, CREATION_TIME, 8, created);
+    put(buf, LAST_WRITTEN_TIME, 8, written);
 }
 
 // Sets indexOffset and lastWrittenTime.
 pub fn set_header(buf: &mut [u8], offset: ByteOffset, time: u64)
-    requires { ⌜ 72 ≤ length (now buf) ⌝ }
+    requires { ⌜ headerLength ≤ length (now buf) ⌝ }
     ensures { λ _. ⌜ now (buf .exit) ≡ setHeader (now (buf .entry)) (offset .0) time ⌝ }
 {
-    put(buf, 48, 8, offset.0);
-    put(buf, 64, 8, time);
+    put(buf, INDEX_OFFSET, 8, offset.0);
+    put(buf, LAST_WRITTEN_TIME, 8, time);
 }
 
 // Writes a new image: header, a table of `count` entries that are 0, an index of the table's entry.
@@ -147,7 +158,7 @@ pub fn put_image(
     requires { ⌜ (createdUsed count ≤ length (now buf)) × (length (now application) ≡ applicationLength) ⌝ }
     ensures { λ _. ⌜ now (buf .exit) ≡ overwrite (now (buf .entry)) 0 (createdBytes count (now (application .entry)) major minor mediaType created written) ⌝ }
 {
-    let index = 121 + 8 * count; // behind 72 bytes of the header and 49 of the table's
+    let index = CREATED_ENTRIES + 8 * count;
     put_header(
         buf,
         application,
@@ -158,15 +169,15 @@ pub fn put_image(
         created,
         written,
     );
-    clear(buf, 121, 8 * count);
-    seal_table(buf, ByteOffset(72), 0, count);
+    clear(buf, CREATED_ENTRIES, 8 * count);
+    seal_table(buf, ByteOffset(HEADER_LENGTH), 0, count);
     put_entry(
         buf,
         ByteOffset(index + 20),
         Entry {
             blockType: 0x2a54_4444,
             dataType: 1,
-            offset: ByteOffset(72),
+            offset: ByteOffset(HEADER_LENGTH),
         },
     );
     seal_index(buf, ByteOffset(index), 1);

@@ -19,6 +19,7 @@ use fields::part;
 use fields::room;
 use format::ByteOffset;
 use format::Entry;
+use format::INDEX_OFFSET;
 use format::Located;
 use format::Place;
 use format::Pointer;
@@ -198,7 +199,7 @@ fn pointer_verdict(s: &[u8], place: ByteOffset, p: Pointer, known: ByteOffset) -
     if is_known(b, known) {
         return number_verdict(s, p);
     }
-    if is_indexed(s, ByteOffset(get(s, 48, 8)), b) {
+    if is_indexed(s, ByteOffset(get(s, INDEX_OFFSET, 8)), b) {
         return item_verdict(s, p);
     }
     Verdict::Refuses(Refusal { number: 22, place })

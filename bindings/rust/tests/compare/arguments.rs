@@ -1,5 +1,6 @@
 //! Arguments that a call accepts.
 
+use crate::layout::APPLICATION;
 use crate::random::Random;
 use crate::sides::{Commit, Create};
 
@@ -30,7 +31,7 @@ pub fn commit(random: &mut Random, count: usize) -> Commit {
 pub fn create(random: &mut Random, sectors: u64) -> Create {
     Create {
         sectors,
-        application: random.bytes(32),
+        application: random.bytes(APPLICATION),
         major: random.number() as u8,
         minor: random.number() as u8,
         media_type: random.number() as u32,

@@ -1,7 +1,7 @@
 //! Faults that can be brought into an accepted input, alone or two at once.
 
 use crate::images::addresses_in;
-use crate::layout::{get, identifier, put, Layout, BLOCK, TABLE};
+use crate::layout::{get, identifier, put, Layout, BLOCK, IMAGE_MAJOR, INDEX_OFFSET, TABLE};
 use crate::sides::Call;
 use std::mem::discriminant;
 
@@ -124,28 +124,28 @@ pub fn of_opening(image: &[u8], layout: &Layout) -> Vec<Fault> {
     let table_end = layout.table_entry(layout.count);
     let mut faults = vec![
         vec![Used(0)],
-        vec![Used(71)],
+        vec![Used(103)],
         vec![Used(index as u64 + 19)],
         vec![Used(index_end as u64 - 1)],
         vec![Used(table_end as u64 - 1)],
         vec![Field(0, 8, get(image, 0, 8) ^ 1)],
         vec![Field(7, 1, 0)],
-        vec![Field(40, 1, 1)],
-        vec![Field(40, 1, 3)],
+        vec![Field(IMAGE_MAJOR, 1, 1)],
+        vec![Field(IMAGE_MAJOR, 1, 3)],
         vec![Field(index, 4, identifier(b"INDX"))],
         vec![Field(index + 4, 8, (1 << 60) + layout.entries as u64)],
         vec![Field(index + 4, 8, (length - index as u64 - 20) / 16 + 1)],
         vec![Damage(index + 12, 8, !get(image, index + 12, 8))],
     ];
     for offset in [
-        71,
+        103,
         length - 19,
         (1 << 32) - 1,
         u64::MAX,
         index as u64 + 1,
         table as u64,
     ] {
-        faults.push(vec![Field(48, 8, offset)]);
+        faults.push(vec![Field(INDEX_OFFSET, 8, offset)]);
     }
     for entry in [0, layout.entries - 1] {
         faults.extend(of_index_entry(image, layout, entry));
@@ -159,7 +159,7 @@ fn of_index_entry(image: &[u8], layout: &Layout, entry: usize) -> Vec<Fault> {
     let (block_type, offset) = (get(image, at, 4), get(image, at + 8, 8));
     vec![
         vec![Field(at, 4, block_type ^ 0x20)],
-        vec![Field(at + 8, 8, 71)],
+        vec![Field(at + 8, 8, 103)],
         vec![Field(at + 8, 8, layout.length as u64 - 3)],
         vec![Field(at + 8, 8, u64::MAX - 3)],
         vec![Field(at + 8, 8, offset + 1)],

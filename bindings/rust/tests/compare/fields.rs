@@ -59,7 +59,7 @@ fn concerned(image: &[u8], layout: &Layout, record: Record) -> Vec<u64> {
 fn telling(image: &[u8], layout: &Layout, place: Place) -> Vec<u64> {
     let old = get(image, place.at, place.width);
     let length = image.len() as u64;
-    let mut values = vec![0, 1, 33, 71, 72, 255, (1 << 32) - 4, (1 << 32) - 1];
+    let mut values = vec![0, 1, 33, 103, 104, 255, (1 << 32) - 4, (1 << 32) - 1];
     // Sums with these wrap, or products with 8 and 16.
     values.extend([1 << 63, u64::MAX - 35, u64::MAX - 3, u64::MAX]);
     for bit in [60, 61] {
@@ -143,7 +143,7 @@ fn every_call(
 /// Where a rollback may be sent to.
 fn telling_offsets(layout: &Layout) -> Vec<u64> {
     let (length, index) = (layout.length as u64, layout.index as u64);
-    let mut offsets = vec![0, 1, 71, 72, index - 1, index + 1, layout.table as u64];
+    let mut offsets = vec![0, 1, 103, 104, index - 1, index + 1, layout.table as u64];
     offsets.extend([length - 21, length - 20, length - 19, length - 1, length]);
     offsets.extend([(1 << 32) - 4, (1 << 32) - 1, 1 << 32, index + (1 << 32)]);
     offsets.extend([1 << 63, u64::MAX - 19, u64::MAX - 3, u64::MAX]);

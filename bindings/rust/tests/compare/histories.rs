@@ -169,7 +169,7 @@ impl History<'_> {
         let any = random.number() % self.used;
         let (point, _) = random.pick(&self.points);
         let near = [point - 1, point + 1, any, self.used - 20, self.used];
-        let offset = random.pick(&[&near[..], &[0, 71, 72, 1 << 32]].concat());
+        let offset = random.pick(&[&near[..], &[0, 103, 104, 1 << 32]].concat());
         let known = self.points.iter().any(|(point, _)| *point == offset);
         let answer = self.call(&Call::Rollback {
             offset,

@@ -2,7 +2,9 @@
 //! made by the library.
 
 use crate::arguments::{self, sector, SIZES};
-use crate::layout::{get, put, Layout, BLOCK, HEADER, INDEX, INDEX_ENTRY, TABLE};
+use crate::layout::{
+    get, put, Layout, BLOCK, HEADER, IMAGE_MAJOR, INDEX, INDEX_ENTRY, INDEX_OFFSET, TABLE,
+};
 use crate::random::Random;
 use crate::sides::{raw, Call};
 
@@ -141,7 +143,7 @@ impl Description {
 fn header(random: &mut Random) -> Vec<u8> {
     let mut header = random.bytes(HEADER);
     header[..8].copy_from_slice(random.pick(&[b"AARUFRMT", b"DICMFRMT"]));
-    header[40] = 2;
+    header[IMAGE_MAJOR] = 2;
     header
 }
 
@@ -152,7 +154,7 @@ fn append(image: &mut Vec<u8>, part: &Part, count: usize) {
             image.resize(at + INDEX + INDEX_ENTRY * entries, 0);
             image[at..at + 4].copy_from_slice(b"IDX2");
             put(image, at + 4, 8, *entries as u64);
-            put(image, 48, 8, at as u64);
+            put(image, INDEX_OFFSET, 8, at as u64);
         }
         Part::Table => {
             let length = 8 * count;

@@ -1,14 +1,22 @@
 //! Document 01 in plain Rust, in the paper's order: layouts, checksum, opening, reading, creating,
-//! committing, rolling back. Each refusal carries the place that request 1/13 gives it. All is
-//! written from the papers alone and shares no code with the library; it is there to compare the
-//! library with.
+//! committing, rolling back. Each refusal carries the place that request 1/13 gives it; the header
+//! is that of 2/13. All is written from the papers alone and shares no code with the library; it is
+//! there to compare the library with.
 
 use aaru::{Creation, Refusal};
 use std::collections::BTreeMap;
 
 // Layouts.
 
-const HEADER: u64 = 72;
+// "The application name is 32 UTF-16 units, so 64 bytes and not 01's 32, and the header has 104
+// bytes: versions at 72 to 75, mediaType 76, indexOffset 80, creationTime 88, lastWrittenTime 96."
+// (2/13)
+const HEADER: u64 = 104;
+const APPLICATION_LENGTH: usize = 64;
+const IMAGE_MAJOR: usize = 72;
+const INDEX_OFFSET: usize = 80;
+const LAST_WRITTEN_TIME: usize = 96;
+
 const INDEX: u64 = 20;
 const INDEX_ENTRY: u64 = 16;
 const BLOCK: u64 = 36;
@@ -172,10 +180,10 @@ fn open_header(image: &[u8]) -> Result<u64, Refusal> {
     if identifier != AARUFRMT && identifier != DICMFRMT {
         return Err(refusal(2));
     }
-    if number(header, 40, 1) != 2 {
+    if number(header, IMAGE_MAJOR, 1) != 2 {
         return Err(refusal(3));
     }
-    Ok(number(header, 48, 8))
+    Ok(number(header, INDEX_OFFSET, 8))
 }
 
 /// Opening, steps 2 to 5, with the index at `index_offset`: "as read or handed in, even past the
@@ -328,7 +336,7 @@ pub fn create(buffer: &mut [u8], creation: &Creation) -> Result<(u64, u64), Refu
     if creation.sectors == 0 || creation.sectors > MOST_SECTORS {
         return Err(refusal(30));
     }
-    if creation.application.len() != 32 {
+    if creation.application.len() != APPLICATION_LENGTH {
         return Err(refusal(33));
     }
     let table_offset = HEADER;
@@ -560,52 +568,58 @@ fn put_index(image: &mut Vec<u8>, index: &[IndexEntry]) {
 
 /// Sets indexOffset and lastWrittenTime.
 fn set_header(buffer: &mut [u8], index_offset: u64, time: u64) {
-    buffer[48..56].copy_from_slice(&index_offset.to_le_bytes());
-    buffer[64..72].copy_from_slice(&time.to_le_bytes());
+    buffer[INDEX_OFFSET..INDEX_OFFSET + 8].copy_from_slice(&index_offset.to_le_bytes());
+    buffer[LAST_WRITTEN_TIME..LAST_WRITTEN_TIME + 8].copy_from_slice(&time.to_le_bytes());
 }
 
 /// "A small disc, worked out", and where its damaged copies are refused.
 mod tests {
     use super::*;
 
+    /// No two bytes are equal, so that a shifted or cut name is seen.
+    const NAME: &[u8] = b"0123456789abcdefghijklmnopqrstuvwxyzABCDEFGHIJKLMNOPQRSTUVWXYZ-.";
+
     /// A buffer with the disc of P1 in it, and some bytes to spare.
     fn p1() -> Vec<u8> {
         let mut buffer = vec![0xEE; 700];
-        assert_eq!(create_disc(&mut buffer, 3), Ok((181, 145)));
+        assert_eq!(create_disc(&mut buffer, 3), Ok((213, 177)));
         buffer
     }
 
     fn p2() -> Vec<u8> {
         let mut buffer = p1();
-        let result = commit(&mut buffer, 181, &[0, 2], 4, b"AAAABBBB", 7);
-        assert_eq!(result, Ok((350, 298)));
+        let result = commit(&mut buffer, 213, &[0, 2], 4, b"AAAABBBB", 7);
+        assert_eq!(result, Ok((382, 330)));
         buffer
     }
 
     fn p3() -> Vec<u8> {
         let mut buffer = p2();
-        let result = commit(&mut buffer, 350, &[1], 4, b"AAAA", 8);
-        assert_eq!(result, Ok((475, 423)));
+        let result = commit(&mut buffer, 382, &[1], 4, b"AAAA", 8);
+        assert_eq!(result, Ok((507, 455)));
         buffer
     }
 
     fn p4() -> Vec<u8> {
         let mut buffer = p3();
-        assert_eq!(rollback(&mut buffer, 475, 298, 9), Ok((475, 298)));
+        assert_eq!(rollback(&mut buffer, 507, 330, 9), Ok((507, 330)));
         buffer
     }
 
-    fn create_disc(buffer: &mut [u8], sectors: u64) -> Result<(u64, u64), Refusal> {
-        let creation = Creation {
+    fn creation(sectors: u64, application: &[u8]) -> Creation<'_> {
+        Creation {
             sectors,
-            application: b"0123456789abcdef0123456789ABCDEF",
+            application,
             major: 5,
             minor: 6,
             media_type: 0x0403_0201,
             created: 3,
             written: 4,
-        };
-        create(buffer, &creation)
+        }
+    }
+
+    fn create_disc(buffer: &mut [u8], sectors: u64) -> Result<(u64, u64), Refusal> {
+        create(buffer, &creation(sectors, NAME))
     }
 
     /// The index entries of the image in use.
@@ -644,88 +658,90 @@ mod tests {
     #[test]
     fn p1_create() {
         let buffer = p1();
-        let image = &buffer[..181];
+        let image = &buffer[..213];
         assert_eq!(&image[..8], b"AARUFRMT");
-        assert_eq!(&image[8..40], b"0123456789abcdef0123456789ABCDEF");
-        assert_eq!(&image[40..48], [2, 0, 5, 6, 1, 2, 3, 4]);
-        assert_eq!(number(image, 48, 8), 145);
-        assert_eq!(number(image, 56, 8), 3);
-        assert_eq!(number(image, 64, 8), 4);
-        assert_eq!(&image[72..76], b"DDT*");
-        assert_eq!(&image[145..149], b"IDX2");
-        assert_eq!(index(image), [(DDT, 1, 72)]);
+        assert_eq!(&image[8..72], NAME);
+        assert_eq!(&image[72..80], [2, 0, 5, 6, 1, 2, 3, 4]);
+        assert_eq!(number(image, 80, 8), 177);
+        assert_eq!(number(image, 88, 8), 3);
+        assert_eq!(number(image, 96, 8), 4);
+        assert_eq!(&image[104..108], b"DDT*");
+        assert_eq!(&image[177..181], b"IDX2");
+        assert_eq!(index(image), [(DDT, 1, 104)]);
         assert_eq!(table(image), (0, vec![0, 0, 0]));
         assert_eq!(open(image), Ok(3));
         assert_eq!(locate(image, 0), Err(refusal(21)));
         assert_eq!(locate(image, 3), Err(refusal(20)));
-        assert!(buffer[181..].iter().all(|&byte| byte == 0xEE));
-        assert_eq!(create_disc(&mut [0; 180], 3), Err(refusal(35)));
+        assert!(buffer[213..].iter().all(|&byte| byte == 0xEE));
+        assert_eq!(create_disc(&mut [0; 212], 3), Err(refusal(35)));
     }
 
     #[test]
     fn p2_commit() {
         let buffer = p2();
-        let image = &buffer[..350];
-        assert_eq!(&image[181..185], b"DBLK");
-        assert_eq!(&image[225..229], b"DDT*");
-        assert_eq!(&image[298..302], b"IDX2");
-        assert_eq!(number(image, 48, 8), 298);
-        assert_eq!(number(image, 64, 8), 7);
-        assert_eq!(index(image), [(DDT, 1, 225), (DBLK, 1, 181)]);
-        assert_eq!(table(image), (1, vec![362, 0, 363]));
+        let image = &buffer[..382];
+        assert_eq!(&image[213..217], b"DBLK");
+        assert_eq!(&image[257..261], b"DDT*");
+        assert_eq!(&image[330..334], b"IDX2");
+        assert_eq!(number(image, 80, 8), 330);
+        assert_eq!(number(image, 96, 8), 7);
+        assert_eq!(index(image), [(DDT, 1, 257), (DBLK, 1, 213)]);
+        assert_eq!(table(image), (1, vec![426, 0, 427]));
         assert_eq!(sector(image, 0), Ok(&b"AAAA"[..]));
         assert_eq!(sector(image, 1), Err(refusal(21)));
         assert_eq!(sector(image, 2), Ok(&b"BBBB"[..]));
-        same_outside(&p1(), &buffer, &[48..56, 64..72, 181..350]);
+        same_outside(&p1(), &buffer, &[80..88, 96..104, 213..382]);
     }
 
     #[test]
     fn p3_commit_of_an_equal_sector() {
         let buffer = p3();
-        let image = &buffer[..475];
-        assert_eq!(&image[350..354], b"DDT*");
-        assert_eq!(&image[423..427], b"IDX2");
-        assert_eq!(index(image), [(DDT, 1, 350), (DBLK, 1, 181)]);
-        assert_eq!(table(image), (1, vec![362, 362, 363]));
+        let image = &buffer[..507];
+        assert_eq!(&image[382..386], b"DDT*");
+        assert_eq!(&image[455..459], b"IDX2");
+        assert_eq!(index(image), [(DDT, 1, 382), (DBLK, 1, 213)]);
+        assert_eq!(table(image), (1, vec![426, 426, 427]));
         assert_eq!(open(image), Ok(3));
-        assert_eq!(locate(image, 0), Ok((217, 4)));
-        assert_eq!(locate(image, 1), Ok((217, 4)));
-        assert_eq!(locate(image, 2), Ok((221, 4)));
-        same_outside(&p2(), &buffer, &[48..56, 64..72, 350..475]);
+        assert_eq!(locate(image, 0), Ok((249, 4)));
+        assert_eq!(locate(image, 1), Ok((249, 4)));
+        assert_eq!(locate(image, 2), Ok((253, 4)));
+        same_outside(&p2(), &buffer, &[80..88, 96..104, 382..507]);
     }
 
     #[test]
     fn p4_p5_rollback_and_back() {
         let mut buffer = p4();
-        assert_eq!(locate(&buffer[..475], 1), Err(refusal(21)));
-        assert_eq!(number(&buffer, 48, 8), 298);
-        assert_eq!(number(&buffer, 64, 8), 9);
-        same_outside(&p3(), &buffer, &[48..56, 64..72]);
-        assert_eq!(rollback(&mut buffer, 475, 423, 10), Ok((475, 423)));
-        assert_eq!(sector(&buffer[..475], 1), Ok(&b"AAAA"[..]));
+        assert_eq!(locate(&buffer[..507], 1), Err(refusal(21)));
+        assert_eq!(number(&buffer, 80, 8), 330);
+        assert_eq!(number(&buffer, 96, 8), 9);
+        same_outside(&p3(), &buffer, &[80..88, 96..104]);
+        assert_eq!(rollback(&mut buffer, 507, 455, 10), Ok((507, 455)));
+        assert_eq!(sector(&buffer[..507], 1), Ok(&b"AAAA"[..]));
+        assert_eq!(locate(&buffer[..507], 1), Ok((249, 4)));
     }
 
     #[test]
     fn p6_commit_after_rollback() {
         let mut buffer = p4();
-        let result = commit(&mut buffer, 475, &[1], 4, b"BBBB", 11);
-        assert_eq!(result, Ok((600, 548)));
-        assert_eq!(table(&buffer[..600]), (1, vec![362, 363, 363]));
-        same_outside(&p4(), &buffer, &[48..56, 64..72, 475..600]);
+        let result = commit(&mut buffer, 507, &[1], 4, b"BBBB", 11);
+        assert_eq!(result, Ok((632, 580)));
+        assert_eq!(index(&buffer[..632]), [(DDT, 1, 507), (DBLK, 1, 213)]);
+        assert_eq!(table(&buffer[..632]), (1, vec![426, 427, 427]));
+        same_outside(&p4(), &buffer, &[80..88, 96..104, 507..632]);
     }
 
     #[test]
     fn p7_empty_commit() {
         let mut buffer = p1();
-        assert_eq!(commit(&mut buffer, 181, &[], 4, b"", 12), Ok((290, 254)));
-        assert_eq!(index(&buffer[..290]), [(DDT, 1, 181)]);
-        assert_eq!(table(&buffer[..290]), (0, vec![0, 0, 0]));
+        assert_eq!(commit(&mut buffer, 213, &[], 4, b"", 12), Ok((322, 286)));
+        assert_eq!(index(&buffer[..322]), [(DDT, 1, 213)]);
+        assert_eq!(table(&buffer[..322]), (0, vec![0, 0, 0]));
     }
 
     #[test]
     fn p8_smallest_shift() {
         for (largest, shift) in [0, 1, 2, 2, 3].into_iter().enumerate() {
-            let mut buffer = vec![0; 400];
+            let mut buffer = vec![0; 500];
             let (used, _) = create_disc(&mut buffer, 5).unwrap();
             let addresses = &[0, 1, 2, 3, 4][..=largest];
             let sectors = &b"abcde"[..=largest];
@@ -736,25 +752,33 @@ mod tests {
 
     #[test]
     fn p9_index_offset_past_the_end() {
-        for (offset, number) in [(4_294_967_295, 4), (162, 4), (71, 4), (161, 5)] {
+        // At 104, the lowest offset, is the table.
+        let cases = [
+            (4_294_967_295u64, 4),
+            (194, 4),
+            (103, 4),
+            (193, 5),
+            (104, 5),
+        ];
+        for (offset, number) in cases {
             let mut buffer = p1();
-            set_header(&mut buffer, offset, 4);
+            buffer[80..88].copy_from_slice(&offset.to_le_bytes());
             let refused = refusal_at(number, offset);
-            assert_eq!(open(&buffer[..181]), Err(refused));
-            assert_eq!(rollback(&mut p1(), 181, offset, 4), Err(refused));
+            assert_eq!(open(&buffer[..213]), Err(refused));
+            assert_eq!(rollback(&mut p1(), 213, offset, 4), Err(refused));
         }
     }
 
     #[test]
     fn p10_block_length_past_the_end() {
         let mut buffer = p2();
-        for at in [181 + 12, 181 + 16] {
+        for at in [213 + 12, 213 + 16] {
             buffer[at..at + 4].copy_from_slice(&4_294_967_292u32.to_le_bytes());
         }
-        let refused = refusal_at(23, 181);
-        assert_eq!(locate(&buffer[..350], 0), Err(refused));
+        let refused = refusal_at(23, 213);
+        assert_eq!(locate(&buffer[..382], 0), Err(refused));
         let damaged = buffer.clone();
-        let result = commit(&mut buffer, 350, &[1], 4, b"AAAA", 8);
+        let result = commit(&mut buffer, 382, &[1], 4, b"AAAA", 8);
         assert_eq!(result, Err(refused));
         assert_eq!(buffer, damaged);
     }
@@ -776,21 +800,21 @@ mod tests {
     #[test]
     fn commit_leaves_out_cksm() {
         let mut image = p1();
-        image.truncate(181);
+        image.truncate(213);
         image.extend_from_slice(b"CKSM");
         let entry = |block_type, data_type, offset| IndexEntry {
             block_type,
             data_type,
             offset,
         };
-        let entries = [entry(CKSM, 0, 181), entry(DDT, 2, 72), entry(DDT, 1, 72)];
+        let entries = [entry(CKSM, 0, 213), entry(DDT, 2, 104), entry(DDT, 1, 104)];
         put_index(&mut image, &entries);
-        set_header(&mut image, 185, 4);
+        set_header(&mut image, 217, 4);
         image.resize(600, 0);
-        let result = commit(&mut image, 253, &[1], 4, b"AAAA", 7);
-        assert_eq!(result, Ok((434, 366)));
-        let expected = [(DDT, 2, 72), (DDT, 1, 293), (DBLK, 1, 253)];
-        assert_eq!(index(&image[..434]), expected);
+        let result = commit(&mut image, 285, &[1], 4, b"AAAA", 7);
+        assert_eq!(result, Ok((466, 398)));
+        let expected = [(DDT, 2, 104), (DDT, 1, 325), (DBLK, 1, 285)];
+        assert_eq!(index(&image[..466]), expected);
     }
 
     #[test]
@@ -798,12 +822,12 @@ mod tests {
         let cases: [(&[u64], u32); 3] = [(&[1, 1], 34), (&[2, 1], 34), (&[1, 3], 20)];
         for (addresses, number) in cases {
             let mut buffer = p2();
-            let result = commit(&mut buffer, 350, addresses, 4, b"CCCCDDDD", 8);
+            let result = commit(&mut buffer, 382, addresses, 4, b"CCCCDDDD", 8);
             assert_eq!(result, Err(refusal(number)));
             assert_eq!(buffer, p2());
         }
-        assert_eq!(locate(&p2()[..350], 3), Err(refusal(20)));
-        let result = commit(&mut p2(), 350, &[3], 4, b"CCCC", 8);
+        assert_eq!(locate(&p2()[..382], 3), Err(refusal(20)));
+        let result = commit(&mut p2(), 382, &[3], 4, b"CCCC", 8);
         assert_eq!(result, Err(refusal(20)));
     }
 
@@ -812,33 +836,35 @@ mod tests {
     fn places_in_p2() {
         let cases = [
             (0, 1, refusal(2)),
-            (40, 1, refusal(3)),
+            (72, 1, refusal(3)),
             // Three index entries, the last one past the end.
-            (298 + 4, 2 ^ 3, refusal_at(4, 298)),
-            (298, 1, refusal_at(5, 298)),
-            (298 + 12, 1, refusal_at(6, 298)),
-            (225, 1, refusal_at(8, 318)),
-            (181, 1, refusal_at(8, 334)),
-            (225 + 4, 1, refusal_at(12, 225)),
-            (225 + 6, 1, refusal_at(13, 225)),
-            (225 + 41, 1, refusal_at(14, 225)),
+            (330 + 4, 2 ^ 3, refusal_at(4, 330)),
+            (330, 1, refusal_at(5, 330)),
+            (330 + 12, 1, refusal_at(6, 330)),
+            (257, 1, refusal_at(8, 350)),
+            (213, 1, refusal_at(8, 366)),
+            (257 + 4, 1, refusal_at(12, 257)),
+            (257 + 6, 1, refusal_at(13, 257)),
+            (257 + 41, 1, refusal_at(14, 257)),
             // Shift 0, so that item 1 is a different block.
-            (225 + 8, 1, refusal_at(22, 290)),
-            (181 + 6, 1, refusal_at(24, 181)),
-            (181 + 4, 1, refusal_at(25, 181)),
+            (257 + 8, 1, refusal_at(22, 322)),
+            (213 + 6, 1, refusal_at(24, 213)),
+            (213 + 4, 1, refusal_at(25, 213)),
             // Sector size 8, so that the block has one item.
-            (181 + 8, 4 ^ 8, refusal_at(26, 181)),
-            (181 + 28, 1, refusal_at(27, 181)),
+            (213 + 8, 4 ^ 8, refusal_at(26, 213)),
+            (213 + 28, 1, refusal_at(27, 213)),
         ];
         for (at, bits, refused) in cases {
             let mut buffer = p2();
             buffer[at] ^= bits;
-            assert_eq!(locate(&buffer[..350], 2), Err(refused), "byte {at}");
+            assert_eq!(locate(&buffer[..382], 2), Err(refused), "byte {at}");
         }
-        assert_eq!(open(&p2()[..71]), Err(refusal(1)));
+        assert_eq!(open(&p2()[..103]), Err(refusal(1)));
+        // The header is whole and names an index past the end.
+        assert_eq!(open(&p2()[..104]), Err(refusal_at(4, 330)));
     }
 
-    /// P1's disc with another index at 181, its checksum right, and last of all the letters 'DDT*'.
+    /// P1's disc with another index at 213, its checksum right, and last of all the letters 'DDT*'.
     #[test]
     fn places_by_index() {
         let entry = |block_type, offset| IndexEntry {
@@ -846,25 +872,83 @@ mod tests {
             data_type: USER_DATA,
             offset,
         };
-        let table = entry(DDT, 72);
+        let table = entry(DDT, 104);
         let cases: [(&[IndexEntry], Refusal); 6] = [
-            (&[table, entry(DBLK, 71)], refusal_at(7, 217)),
-            (&[table, entry(DBLK, u64::MAX)], refusal_at(7, 217)),
-            (&[table, entry(DBLK, 72)], refusal_at(8, 217)),
-            (&[], refusal_at(9, 181)),
-            (&[table, table], refusal_at(10, 181)),
-            (&[entry(DDT, 217)], refusal_at(11, 217)),
+            (&[table, entry(DBLK, 103)], refusal_at(7, 249)),
+            (&[table, entry(DBLK, u64::MAX)], refusal_at(7, 249)),
+            (&[table, entry(DBLK, 104)], refusal_at(8, 249)),
+            (&[], refusal_at(9, 213)),
+            (&[table, table], refusal_at(10, 213)),
+            (&[entry(DDT, 249)], refusal_at(11, 249)),
         ];
         for (entries, refused) in cases {
             let mut image = p1();
-            image.truncate(181);
+            image.truncate(213);
             put_index(&mut image, entries);
             put(&mut image, DDT, 4);
             let used = image.len() as u64;
-            assert_eq!(rollback(&mut image, used, 181, 5), Err(refused));
-            set_header(&mut image, 181, 4);
+            assert_eq!(rollback(&mut image, used, 213, 5), Err(refused));
+            set_header(&mut image, 213, 4);
             assert_eq!(open(&image), Err(refused));
             assert_eq!(commit(&mut image, used, &[], 4, b"", 5), Err(refused));
         }
+    }
+
+    /// "Refusals: 1, 4, 7 and 33 take the new numbers." The buffer has room and stays as it was.
+    #[test]
+    fn refused_applications() {
+        for length in [32, 63, 65] {
+            let mut buffer = vec![0xEE; 700];
+            let application = vec![b'n'; length];
+            let result = create(&mut buffer, &creation(3, &application));
+            assert_eq!(result, Err(refusal(33)), "{length} bytes");
+            assert!(buffer.iter().all(|&byte| byte == 0xEE));
+        }
+    }
+
+    /// "The short header isn't kept." P3's bytes as 01 had them, with a header of 72 bytes: where
+    /// the image major now is, they have the first letter of 'DDT*'.
+    #[test]
+    fn short_header_is_not_kept() {
+        let entry = |block_type, offset| IndexEntry {
+            block_type,
+            data_type: USER_DATA,
+            offset,
+        };
+        let item = |item| Some(Pointer { offset: 181, item });
+        let mut image = b"AARUFRMT".to_vec();
+        image.extend_from_slice(&NAME[..32]);
+        image.extend_from_slice(&[2, 0, 5, 6, 1, 2, 3, 4]);
+        for field in [423, 3, 8] {
+            put(&mut image, field, 8);
+        }
+        assert_eq!(image.len(), 72);
+        put_table(&mut image, &[None, None, None], 0);
+        assert_eq!(image.len(), 145);
+        put_index(&mut image, &[entry(DDT, 72)]);
+        assert_eq!(image.len(), 181);
+        put_block(&mut image, 4, b"AAAABBBB");
+        assert_eq!(image.len(), 225);
+        put_table(&mut image, &[item(0), None, item(1)], 1);
+        assert_eq!(image.len(), 298);
+        put_index(&mut image, &[entry(DDT, 225), entry(DBLK, 181)]);
+        assert_eq!(image.len(), 350);
+        put_table(&mut image, &[item(0), item(0), item(1)], 1);
+        assert_eq!(image.len(), 423);
+        put_index(&mut image, &[entry(DDT, 350), entry(DBLK, 181)]);
+        assert_eq!(image.len(), 475);
+        let entries = [399, 407, 415].map(|at| number(&image, at, 8));
+        assert_eq!(entries, [362, 362, 363]);
+
+        let refused = refusal_at(3, 0);
+        assert_eq!(open(&image), Err(refused));
+        assert_eq!(locate(&image, 0), Err(refused));
+        let mut buffer = image.clone();
+        buffer.resize(700, 0xEE);
+        let old = buffer.clone();
+        let result = commit(&mut buffer, 475, &[1], 4, b"BBBB", 9);
+        assert_eq!(result, Err(refused));
+        assert_eq!(rollback(&mut buffer, 475, 298, 9), Err(refused));
+        assert_eq!(buffer, old);
     }
 }

@@ -2,26 +2,34 @@
 
 use crate::independent::checksum;
 
-pub const HEADER: usize = 72;
+pub const HEADER: usize = 104;
 pub const INDEX: usize = 20;
 pub const INDEX_ENTRY: usize = 16;
 pub const BLOCK: usize = 36;
 pub const TABLE: usize = 49;
 
-/// The place and width of each field within its record; of the application's 32 bytes the first
+/// How many bytes an application's name has, and where two fields of the header stand.
+pub const APPLICATION: usize = 64;
+pub const IMAGE_MAJOR: usize = 72;
+pub const INDEX_OFFSET: usize = 80;
+
+/// A created image, but for its table's entries.
+pub const CREATED: usize = 189;
+
+/// The place and width of each field within its record; of the application's 64 bytes the first
 /// and the last.
 const HEADER_FIELDS: [(usize, usize); 11] = [
     (0, 8),
     (8, 8),
-    (32, 8),
-    (40, 1),
-    (41, 1),
-    (42, 1),
-    (43, 1),
-    (44, 4),
-    (48, 8),
-    (56, 8),
     (64, 8),
+    (72, 1),
+    (73, 1),
+    (74, 1),
+    (75, 1),
+    (76, 4),
+    (80, 8),
+    (88, 8),
+    (96, 8),
 ];
 const INDEX_FIELDS: [(usize, usize); 3] = [(0, 4), (4, 8), (12, 8)];
 const INDEX_ENTRY_FIELDS: [(usize, usize); 3] = [(0, 4), (4, 4), (8, 8)];
@@ -95,7 +103,7 @@ pub struct Layout {
 
 impl Layout {
     pub fn of(image: &[u8]) -> Layout {
-        let index = get(image, 48, 8) as usize;
+        let index = get(image, INDEX_OFFSET, 8) as usize;
         let mut layout = Layout {
             index,
             entries: get(image, index + 4, 8) as usize,

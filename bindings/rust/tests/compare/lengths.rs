@@ -3,7 +3,7 @@
 
 use crate::arguments::{self, with_room};
 use crate::images::{self, Description};
-use crate::layout::Layout;
+use crate::layout::{Layout, CREATED};
 use crate::random::Random;
 use crate::sides::{Call, Sides};
 
@@ -43,7 +43,7 @@ fn cut_everywhere(sides: &mut Sides, image: &[u8], random: &mut Random) {
 }
 
 fn buffers_for_creation(sides: &mut Sides, sectors: u64, random: &mut Random) {
-    let needed = 157 + 8 * sectors as usize;
+    let needed = CREATED + 8 * sectors as usize;
     let create = Call::Create(arguments::create(random, sectors));
     let buffer = random.bytes(needed + 8);
     for length in 0..=buffer.len() {

@@ -61,7 +61,7 @@ fn null_pointers_to_nothing() {
     let nothing = (null(), null_mut::<u8>());
     let about = Creation {
         sectors: 3,
-        application: &[0; 32],
+        application: &[0; 64],
         major: 1,
         minor: 0,
         media_type: 0,

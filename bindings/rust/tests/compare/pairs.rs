@@ -4,7 +4,7 @@
 use crate::arguments::{self, with_room};
 use crate::faults::{self, clash, with, Edit::*, Fault, Input};
 use crate::images;
-use crate::layout::Layout;
+use crate::layout::{Layout, CREATED, HEADER};
 use crate::random::Random;
 use crate::sides::{Answer, Call, Sides};
 use aaru::Refusal;
@@ -165,7 +165,7 @@ fn rollback(sides: &mut Sides, image: &[u8], layout: &Layout, random: &mut Rando
     };
     let mut faults = faults::of_opening(image, layout);
     faults.extend([vec![Used(used + 10)], vec![Used(u64::MAX)]]);
-    for offset in [0, 71, used - 19, used, index + 1, (1 << 32) - 1, u64::MAX] {
+    for offset in [0, 103, used - 19, used, index + 1, (1 << 32) - 1, u64::MAX] {
         faults.push(vec![Offset(offset)]);
     }
     pairs(sides, &base, layout, faults, random);
@@ -173,7 +173,7 @@ fn rollback(sides: &mut Sides, image: &[u8], layout: &Layout, random: &mut Rando
 
 fn create(sides: &mut Sides, random: &mut Random) {
     let sectors = 1 + random.below(9) as u64;
-    let needed = 157 + 8 * sectors as usize;
+    let needed = CREATED + 8 * sectors as usize;
     let base = Input {
         buffer: random.bytes(needed + 1),
         used: 0,
@@ -181,7 +181,7 @@ fn create(sides: &mut Sides, random: &mut Random) {
     };
     let mut faults: Vec<Fault> = Vec::new();
     faults.extend([0, 1_048_577, u64::MAX].map(|sectors| vec![Sectors(sectors)]));
-    faults.extend([0, 31, 33].map(|length| vec![ApplicationLength(length)]));
-    faults.extend([0, 72, needed - 1].map(|length| vec![BufferLength(length)]));
+    faults.extend([0, 32, 63, 65].map(|length| vec![ApplicationLength(length)]));
+    faults.extend([0, HEADER, needed - 1].map(|length| vec![BufferLength(length)]));
     pairs(sides, &base, &Layout::default(), faults, random);
 }

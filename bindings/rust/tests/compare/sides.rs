@@ -2,7 +2,7 @@
 //! everything that they give compared.
 
 use crate::independent;
-use crate::layout::{get, Layout, INDEX};
+use crate::layout::{get, Layout, INDEX, INDEX_OFFSET};
 use crate::random::Random;
 use crate::tally::Tally;
 use aaru::{ffi, Creation, Placed, Refusal};
@@ -298,7 +298,7 @@ impl Sides {
 
 /// Whether a place is one of those that `tally::telling` asks for.
 fn telling(image: &[u8], call: &Call, Refusal { number, place }: Refusal) -> bool {
-    let named = || get(image, 48, 8);
+    let named = || get(image, INDEX_OFFSET, 8);
     let index = || match call {
         Call::Rollback { offset, .. } => *offset,
         _ => named(),

@@ -3,7 +3,7 @@
 use crate::arguments;
 use crate::faults::{self, read_addresses};
 use crate::images::Description;
-use crate::layout::{get, put, Layout, HEADER};
+use crate::layout::{get, put, Layout, HEADER, INDEX_OFFSET};
 use crate::random::Random;
 use crate::sides::{other, raw, refused, safe, Answer, Call, Commit, Sides};
 use std::ffi::c_void;
@@ -218,7 +218,7 @@ fn build_far_behind(buffer: &mut [u8], random: &mut Random) -> Layout {
     layout.table += far;
     layout.blocks.iter_mut().for_each(|block| *block += far);
     layout.length = buffer.len();
-    put(buffer, 48, 8, layout.index as u64);
+    put(buffer, INDEX_OFFSET, 8, layout.index as u64);
     for entry in 0..layout.entries {
         let at = layout.index_entry(entry) + 8;
         put(buffer, at, 8, get(buffer, at, 8) + far as u64);

@@ -4,6 +4,7 @@ use borrow.Author.Needs.{needs}
 use mathlib.Core.Path.{_≡_, sym, ap}
 use Prim.Native.Nat.{ℕ, _+_, _*_}
 use denote.Ref.{now}
+use Rattle.format.specs.Layouts.{headerLength, indexHeaderLength, entryLength, tableHeaderLength}
 use Rattle.format.specs.Writing.{placed}
 use Rattle.format.specs.Creating.{createdIndexAt, createdUsed, create}
 use Rattle.format.proofs.Checks.{CreateOk, create-ok}
@@ -12,10 +13,14 @@ use Rattle.format.proofs.Answers.{outcome-stops, outcome-done}
 use Rattle.aaru.proofs.create.Statement.{statement}
 use Rattle.aaru.proofs.create.Tie as tie
 
+-- a new image but for its table's entries
+abbrev fixed : ℕ
+fixed = headerLength + tableHeaderLength + indexHeaderLength + entryLength
+
 -- where the new image ends and where its index stands
-places : (count : ℕ) → placed (157 + 8 * count) (121 + 8 * count) ≡ placed (createdUsed count) (createdIndexAt count)
+places : (count : ℕ) → placed (fixed + 8 * count) (headerLength + tableHeaderLength + 8 * count) ≡ placed (createdUsed count) (createdIndexAt count)
 unfolding createdUsed createdIndexAt
-places count = let e : 157 + 8 * count ≡ 72 + 49 + 8 * count + 20 + 16 = omega arith in ap (λ n. placed n (121 + 8 * count)) e
+places count = let e : fixed + 8 * count ≡ createdUsed count = omega arith in ap (λ n. placed n (createdIndexAt count)) e
 
 ok : (c : tie.After-enum-told) → let a = c .before .before .before .before .before .before .args in CreateOk (now (a .buffer)) (a .count) (now (a .application))
 ok c = create-ok _ _ _ .0 (sym (by (c .enum-told .given .1) (c .before .before .create-verdict .ensures)))
