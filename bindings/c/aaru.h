@@ -76,7 +76,8 @@ uint32_t aaru_locate(const uint8_t *image, size_t used, uint64_t address, uint64
 
 /*
  * Makes a new image at the start of the buffer, of `sectors` sectors that are not written: 189 + 8 x sectors bytes. Later bytes of the buffer stay
- * as they are. `application` is a name of 64 bytes (AaruFormat: 32 units of UTF-16, not looked at here), major and minor its version; the two times, `created` and `written`, are stored as they are.
+ * as they are. `application` is a name of 64 bytes, in AaruFormat 32 units of UTF-16, which are not looked at; major and minor are its version. The
+ * name and the two times, `created` and `written`, are stored as they are.
  * `*used` is the image's length, `*index` the offset of its index.
  * Refused with, in this order:
  *   31  the buffer is longer than 4,294,967,296 bytes

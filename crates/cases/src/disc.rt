@@ -38,8 +38,8 @@ const AAAA: u64 = 0x4141_4141;
 
 const BBBB: u64 = 0x4242_4242;
 
-// Eight of the application's bytes: each is 7.
-const APP: u64 = 0x0707_0707_0707_0707;
+// Eight of the application's 64 bytes: each is 7.
+const S7: u64 = 0x0707_0707_0707_0707;
 
 // The checksum of "AAAABBBB", and those of the index and of the table of each disc, in the order in which the discs stand below.
 const AB: u64 = 0x5d97_66a1_2101_fcdb;
@@ -68,23 +68,7 @@ const T5: u64 = 0x6bde_8ce2_ae9b_9109;
 // disc has.
 // P1: table 104, index 177, used 213. Its index has one entry: the zeros of the second lie past the end.
 const P1: [[u64; 15]; 4] = [
-    [
-        ID,
-        0,
-        AARU,
-        APP,
-        APP,
-        APP,
-        APP,
-        APP,
-        APP,
-        APP,
-        APP,
-        0,
-        0,
-        0,
-        0,
-    ],
+    [ID, 0, AARU, S7, S7, S7, S7, S7, S7, S7, S7, 0, 0, 0, 0],
     [HD, 72, 2, 0, 1, 2, 3, 177, 4, 5, 0, 0, 0, 0, 0],
     [TB, 104, DDT, 1, 0, 0, 3, 24, 24, T1, T1, 0, 0, 0, 0],
     [IX, 177, IDX, 1, I1, DDT, 1, 104, 0, 0, 0, 0, 0, 0, 0],
@@ -107,23 +91,7 @@ const P3: [[u64; 15]; 3] = [
 
 // P2's sectors in 273 bytes: index 104, block 156, and the table last, at 200, where the image's end can cut it short.
 const TABLE_LAST: [[u64; 15]; 5] = [
-    [
-        ID,
-        0,
-        AARU,
-        APP,
-        APP,
-        APP,
-        APP,
-        APP,
-        APP,
-        APP,
-        APP,
-        0,
-        0,
-        0,
-        0,
-    ],
+    [ID, 0, AARU, S7, S7, S7, S7, S7, S7, S7, S7, 0, 0, 0, 0],
     [HD, 72, 2, 0, 1, 2, 3, 104, 4, 5, 0, 0, 0, 0, 0],
     [IX, 104, IDX, 2, I4, DDT, 1, 200, DBLK, 1, 156, 0, 0, 0, 0],
     [DB, 156, DBLK, 1, 0, 4, 8, 8, AB, AB, AAAA, BBBB, 0, 0, 0],
@@ -132,23 +100,7 @@ const TABLE_LAST: [[u64; 15]; 5] = [
 
 // The same in another order: index 104, table 156, and the block last, at 229.
 const BLOCK_LAST: [[u64; 15]; 5] = [
-    [
-        ID,
-        0,
-        AARU,
-        APP,
-        APP,
-        APP,
-        APP,
-        APP,
-        APP,
-        APP,
-        APP,
-        0,
-        0,
-        0,
-        0,
-    ],
+    [ID, 0, AARU, S7, S7, S7, S7, S7, S7, S7, S7, 0, 0, 0, 0],
     [HD, 72, 2, 0, 1, 2, 3, 104, 4, 5, 0, 0, 0, 0, 0],
     [IX, 104, IDX, 2, I5, DDT, 1, 156, DBLK, 1, 229, 0, 0, 0, 0],
     [TB, 156, DDT, 1, 0, 1, 3, 24, 24, T5, T5, 458, 0, 459, 0],

@@ -18,4 +18,4 @@ pub mod Committed
 pub mod Created
 pub mod Reading
 pub mod History
-pub mod WorkedDisc
+mod Examples

@@ -1,4 +1,5 @@
 -- "*Create* takes a buffer, a sector count E, 64 application bytes, two application version bytes, mediaType and two times."
+-- 64, 104 and 189 are 2/13's, for 01's 32, 72 and 157.
 use mathlib.Core.List.{List, [], _∷_, _++_}
 use Prim.Native.Nat.{ℕ, _+_, _*_}
 use lib.ListN.{length, replicate}

@@ -34,7 +34,8 @@ unfoldable pub tag : List ℕ → ℕ
 tag letters = fromLe letters
 
 -- ---- Header, 104, as 2/13 has it: identifier at 0 (8); application at 8 (64); image major 72, minor 73; application major 74,
--- minor 75; mediaType 76 (4); indexOffset 80 (8); creationTime 88 (8); lastWrittenTime 96 (8)
+-- minor 75; mediaType 76 (4); indexOffset 80 (8); creationTime 88 (8); lastWrittenTime 96 (8).
+-- "Where 01 says 72 as header length or lowest offset, read 104"
 abbrev pub headerLength : ℕ
 headerLength = 104
 

@@ -11,5 +11,5 @@ pub mod Committing
 pub mod RollingBack
 pub mod Answers
 pub mod Histories
-pub mod WorkedDisc
+pub mod Examples
 pub mod Demands

@@ -1,5 +1,5 @@
 -- Opening, with o for the index's offset: a rollback checks at the offset that it is handed, all else at the header's.
--- "All sums are whole numbers. Checks in this order".
+-- "All sums are whole numbers. Checks in this order", with 2/13's 104 where 01 says 72.
 use mathlib.Core.Bool.{Bool}
 use mathlib.Core.List.{List, [], _∷_}
 use Prim.Native.Nat.{ℕ, zero, suc, _+_, _*_}

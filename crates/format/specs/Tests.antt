@@ -1,5 +1,6 @@
 -- The tests that the checks of document 01 are made of. All numbers are whole numbers, so no sum of places wraps.
 use mathlib.Core.Bool.{Bool, true, false, not}
+use mathlib.Core.List.{List, [], _∷_}
 use Prim.Native.Nat.{ℕ}
 use lib.Dec.{ltb, leb, eqb}
 
@@ -29,3 +30,8 @@ false and b = false
 unfoldable pub choose : {A : Type 0} → Bool → A → A → A
 choose true a b = a
 choose false a b = b
+
+-- all tests of a table say yes
+unfoldable pub allHold : List Bool → Bool
+allHold [] = true
+allHold (b ∷ bs) = b and allHold bs

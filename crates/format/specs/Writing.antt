@@ -10,7 +10,7 @@ use Rattle.format.specs.Tests.{below}
 use Rattle.format.specs.Refusals.{refusal, row, _then_, Answer, refused, accepted}
 use Rattle.format.specs.Layouts.{indexOffsetAt, lastWrittenAt}
 
--- 01's table of the numbers that these calls give besides opening's and reading's:
+-- 01's table of the numbers that these calls give besides opening's and reading's, with 2/13's 64:
 --   30  E is 0 or over 1,048,576; sector size 0 or over 65,536; over 65,536 addresses
 --   31  buffer longer than 4,294,967,296 bytes (creating, committing, rolling back only)
 --   32  `used` exceeds the buffer

@@ -10,9 +10,9 @@ use Rattle.format.specs.Tests.{below, choose}
 use Rattle.format.proofs.Tests.{below-true, below-iff, choose-true, choose-false, choose-cases}
 use Rattle.listing.specs.Listing.{lastDigit, digits, decimal}
 
--- the codes of the digits of a few numbers: 0, 7, 10, 475, 65536, 2^64 - 1
+-- the codes of the digits of a few numbers: 0, 7, 10, 507, 65536, 2^64 - 1
 pub decimal-examples :
-    (decimal 0 ≡ 48 ∷ []) × (decimal 7 ≡ 55 ∷ []) × (decimal 10 ≡ 49 ∷ 48 ∷ []) × (decimal 475 ≡ 52 ∷ 55 ∷ 53 ∷ [])
+    (decimal 0 ≡ 48 ∷ []) × (decimal 7 ≡ 55 ∷ []) × (decimal 10 ≡ 49 ∷ 48 ∷ []) × (decimal 507 ≡ 53 ∷ 48 ∷ 55 ∷ [])
     × (decimal 65536 ≡ 54 ∷ 53 ∷ 53 ∷ 51 ∷ 54 ∷ [])
     × (decimal 18446744073709551615
     ≡ 49 ∷ 56 ∷ 52 ∷ 52 ∷ 54 ∷ 55 ∷ 52 ∷ 52 ∷ 48 ∷ 55 ∷ 51 ∷ 55 ∷ 48 ∷ 57 ∷ 53 ∷ 53 ∷ 49 ∷ 54 ∷ 49 ∷ 53 ∷ [])

@@ -4,22 +4,19 @@ use mathlib.Core.List.{List, [], _∷_, _++_, map}
 use Prim.Native.Nat.{ℕ}
 use lib.ListN.{length, take, replicate}
 use Rattle.crc64.specs.Crc.{crcOf}
-use Rattle.fields.specs.Bytes.{part, field, toLe, overwrite, equal}
+use Rattle.fields.specs.Bytes.{field, toLe, overwrite, equal}
 use Rattle.format.specs.declared.Entry.{Entry}
 use Rattle.format.specs.declared.Place.{Place}
 use Rattle.format.specs.declared.Placed.{Placed}
 use Rattle.format.specs.Tests.{same, _and_}
 use Rattle.format.specs.Refusals.{Answer, refused, accepted}
-use Rattle.format.specs.Layouts.{AARUFRMT, DICMFRMT, IDX2, DBLK, DDT*, CKSM, tag, indexOffset, headerBytes, indexBytes, blockBytes, tableBytes, decode}
+use Rattle.format.specs.Layouts.{DBLK, DDT*, tag, indexOffset, headerBytes, indexBytes, blockBytes, tableBytes, decode}
 use Rattle.format.specs.Opening.{opening, opened}
 use Rattle.format.specs.Reading.{tableEntry, read, locate}
 use Rattle.format.specs.Creating.{create}
 use Rattle.format.specs.Committing.{shiftFor, commit}
 use Rattle.format.specs.RollingBack.{rollback}
-
-unfoldable pub allHold : List Bool → Bool
-allHold [] = true
-allHold (b ∷ bs) = b and allHold bs
+use Rattle.format.specs.Examples.{p1Header}
 
 -- accepted, with this `used` and this index offset
 unfoldable pub leaves : ℕ → ℕ → Answer Placed → Bool
@@ -115,13 +112,8 @@ workedDisc =
     ∷ refusedWith 23 213 (read (overwrite i2 225 (toLe 4 4294967292 ++ toLe 4 4294967292)) 0)
     -- P11: "Checksum of no bytes is 0." P12: "0x8003 with shift 5 is offset 1024, item 3."
     ∷ same (crcOf []) 0 ∷ same (decode 5 0x8003 .block .0) 1024 ∷ same (decode 5 0x8003 .item .0) 3
-    -- beyond the P cases: the short header is not kept
-    ∷ same (length shortP3) 475 ∷ refusedWith 3 0 (opening shortP3)
-    -- and the header as creating (versions 2.0 and 1.2, mediaType 3, times 4 and 5), a commit (6) and a rollback (8) leave it
-    ∷ equal (part i1 8 64) (replicate 64 7)
-    ∷ equal (part i1 72 4) (2 ∷ 0 ∷ 1 ∷ 2 ∷ []) ∷ same (field i1 76 4) 3 ∷ same (field i1 80 8) 177 ∷ same (field i1 88 8) 4 ∷ same (field i1 96 8) 5
-    ∷ same (field i2 88 8) 4 ∷ same (field i2 96 8) 6 ∷ same (field i4 88 8) 4 ∷ same (field i4 96 8) 8
-    -- and the identifiers as numbers, of which `cases` makes the same from their letters
-    ∷ same (tag AARUFRMT) 0x544D524655524141 ∷ same (tag DICMFRMT) 0x544D52464D434944 ∷ same (tag IDX2) 0x32584449
-    ∷ same (tag DDT*) 0x2A544444 ∷ same (tag DBLK) 0x4B4C4244 ∷ same (tag CKSM) 0x4D534B43
+    -- beyond the P cases: the lowest offset passes check 4 (a table is there, no index); the short header is not kept
+    ∷ refusedWith 5 104 (opening (overwrite i1 80 (toLe 8 104))) ∷ same (length shortP3) 475 ∷ refusedWith 3 0 (opening shortP3)
+    -- and the header as creating (times 4 and 5), a commit (6) and a rollback (8) leave it
+    ∷ equal (take 104 b1) p1Header ∷ same (field i2 88 8) 4 ∷ same (field i2 96 8) 6 ∷ same (field i4 88 8) 4 ∷ same (field i4 96 8) 8
     ∷ []
