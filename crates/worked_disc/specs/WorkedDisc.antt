@@ -1,5 +1,5 @@
 -- "A small disc, worked out": P1 to P12, with the numbers of 2/13, as one table of tests. proofs/WorkedDisc proves that all hold.
-use mathlib.Core.Bool.{Bool, true, false}
+use mathlib.Core.Bool.{Bool, false}
 use mathlib.Core.List.{List, [], _∷_, _++_, map}
 use Prim.Native.Nat.{ℕ}
 use lib.ListN.{length, take, replicate}
