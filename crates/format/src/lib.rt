@@ -10,35 +10,6 @@ pub struct ItemNumber(pub u64);
 // Which sector of a disc.
 pub struct SectorAddress(pub u64);
 
-// The header, as 2/13 has it: how many bytes it has, and where its fields stand. The identifier, at 0, has 8 bytes.
-pub const HEADER_LENGTH: u64 = 104;
-
-pub const APPLICATION: u64 = 8;
-
-pub const APPLICATION_LENGTH: u64 = 64; // 32 UTF-16 units
-
-pub const IMAGE_MAJOR: u64 = 72;
-
-pub const IMAGE_MINOR: u64 = 73;
-
-pub const APPLICATION_MAJOR: u64 = 74;
-
-pub const APPLICATION_MINOR: u64 = 75;
-
-pub const MEDIA_TYPE: u64 = 76;
-
-pub const INDEX_OFFSET: u64 = 80;
-
-pub const CREATION_TIME: u64 = 88;
-
-pub const LAST_WRITTEN_TIME: u64 = 96;
-
-// A new image has a header, a table's header (49 bytes) and its entries, 8 bytes for each sector, an index's header (20) and one
-// entry (16): where the table's entries start, and how many bytes it would have without them.
-pub const CREATED_ENTRIES: u64 = HEADER_LENGTH + 49;
-
-pub const CREATED_LENGTH: u64 = CREATED_ENTRIES + 20 + 16;
-
 // Why a call is refused: the number of document 01, and the byte offset in the image of what it is about, 0 where there is none.
 pub struct Refusal {
     pub number: u32,
@@ -93,3 +64,32 @@ pub enum Updated {
     To(Placed),
     Refused(Refusal),
 }
+
+// The header, as 2/13 has it: how many bytes it has, and where its fields stand. The identifier, at 0, has 8 bytes.
+pub const HEADER_LENGTH: u64 = 104;
+
+pub const APPLICATION: u64 = 8;
+
+pub const APPLICATION_LENGTH: u64 = 64; // 32 UTF-16 units
+
+pub const IMAGE_MAJOR: u64 = 72;
+
+pub const IMAGE_MINOR: u64 = 73;
+
+pub const APPLICATION_MAJOR: u64 = 74;
+
+pub const APPLICATION_MINOR: u64 = 75;
+
+pub const MEDIA_TYPE: u64 = 76;
+
+pub const INDEX_OFFSET: u64 = 80;
+
+pub const CREATION_TIME: u64 = 88;
+
+pub const LAST_WRITTEN_TIME: u64 = 96;
+
+// A new image has a header, a table's header (49 bytes) and its entries, 8 bytes for each sector, an index's header (20) and one
+// entry (16): where the table's entries start, and how many bytes it would have without them.
+pub const CREATED_ENTRIES: u64 = HEADER_LENGTH + 49;
+
+pub const CREATED_LENGTH: u64 = CREATED_ENTRIES + 20 + 16;
