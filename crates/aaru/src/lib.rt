@@ -9,7 +9,6 @@ ghost use Rattle.format.specs.RollingBack.{rollback};
 ghost use Rattle.format.specs.Answers.{counted, located, bytesRead, answered};
 pub use format::ByteOffset;
 use format::CREATED_ENTRIES;
-use format::CREATED_LENGTH;
 pub use format::Counted;
 pub use format::Located;
 pub use format::Place;
@@ -83,10 +82,10 @@ pub fn create(
         created,
         written,
     );
-    Updated::To(Placed {
-        used: CREATED_LENGTH + 8 * count,
-        index: ByteOffset(CREATED_ENTRIES + 8 * count),
-    })
+    let at = CREATED_ENTRIES + 8 * count;
+    let used = at + 20 + 16; // an index's header and one entry
+    let index = ByteOffset(at);
+    Updated::To(Placed { used, index })
 }
 
 // Commits sectors of `size` bytes, which stand one after another in `sectors`, to the addresses of the list: these read as handed in

@@ -8,11 +8,14 @@ ghost use Rattle.format.specs.Creating.{createVerdict};
 ghost use Rattle.format.specs.Committing.{rising, argumentsVerdict};
 use format::APPLICATION_LENGTH;
 use format::ByteOffset;
-use format::CREATED_LENGTH;
+use format::CREATED_ENTRIES;
 use format::Refusal;
 use format::Verdict;
 
 const LONGEST_BUFFER: u64 = 4294967296;
+
+// A new image but for its table's entries: behind these are an index's header and one entry.
+const CREATED_LENGTH: u64 = CREATED_ENTRIES + 20 + 16;
 
 // A new image's sector count: check 30.
 fn count_refused(count: u64) -> bool

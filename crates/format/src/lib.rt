@@ -88,8 +88,5 @@ pub const CREATION_TIME: u64 = 88;
 
 pub const LAST_WRITTEN_TIME: u64 = 96;
 
-// A new image has a header, a table's header (49 bytes) and its entries, 8 bytes for each sector, an index's header (20) and one
-// entry (16): where the table's entries start, and how many bytes it would have without them.
+// Where the entries of a new image's table start: behind the header and the table's, which has 49 bytes.
 pub const CREATED_ENTRIES: u64 = HEADER_LENGTH + 49;
-
-pub const CREATED_LENGTH: u64 = CREATED_ENTRIES + 20 + 16;
