@@ -7,8 +7,8 @@ use std::time::Instant;
 
 const REPETITIONS: usize = 201;
 
-/// An image of so many sectors, of which the first ones are written, in commits of 1,024 at most.
-fn image(random: &mut Random, sectors: u64, written: usize, size: usize) -> Vec<u8> {
+/// An image of so many sectors, of which the first ones are written, in commits of at most `each`.
+fn image(random: &mut Random, sectors: u64, written: usize, size: usize, each: usize) -> Vec<u8> {
     let about = aaru::Creation {
         sectors,
         application: &[0; 64],
@@ -18,11 +18,12 @@ fn image(random: &mut Random, sectors: u64, written: usize, size: usize) -> Vec<
         created: 1,
         written: 1,
     };
-    let commits = written.div_ceil(1024);
-    let mut buffer = vec![0; 1000 + written * size + (commits + 1) * (8 * sectors as usize + 1000)];
+    let commits = written.div_ceil(each);
+    let records = 8 * sectors as usize + 16 * commits + 1000;
+    let mut buffer = vec![0; 1000 + written * size + (commits + 1) * records];
     let mut used = aaru::create(&mut buffer, &about).expect("created").used;
     let addresses: Vec<_> = (0..written as u64).collect();
-    for addresses in addresses.chunks(1024) {
+    for addresses in addresses.chunks(each) {
         let sectors = random.bytes(addresses.len() * size);
         let placed = aaru::commit(&mut buffer, used, addresses, size as u64, &sectors, 1);
         used = placed.expect("committed").used;
@@ -69,10 +70,11 @@ fn times(image: &[u8], address: Option<u64>, calls: u32) -> [f64; 2] {
 }
 
 pub fn measure(random: &mut Random) {
-    let small = image(random, 16, 16, 512);
-    let bank = image(random, 8192, 8192, 2048);
-    let empty = image(random, 1_048_576, 0, 1);
-    for image in [&small, &bank, &empty] {
+    let small = image(random, 16, 16, 512, 1024);
+    let bank = image(random, 8192, 8192, 2048, 1024);
+    let empty = image(random, 1_048_576, 0, 1, 1024);
+    let blocks = image(random, 1024, 1024, 16, 1);
+    for image in [&small, &bank, &empty, &blocks] {
         let addresses = (0..9000).step_by(7).map(Some);
         for address in addresses.chain([None, Some(u64::MAX)]) {
             assert_eq!(ours(image, address), rust(image, address));
@@ -85,6 +87,8 @@ pub fn measure(random: &mut Random) {
         ("open, 8,192 sectors of 2,048", &bank, None, 10),
         ("read, the same", &bank, Some(5000), 1),
         ("open, 1,048,576 not written", &empty, None, 1),
+        ("open, 1,024 blocks", &blocks, None, 10),
+        ("read, the same", &blocks, Some(1000), 10),
     ];
     println!(
         "  {:<32} {:>10} {:>10} {:>12}",

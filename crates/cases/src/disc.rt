@@ -1,6 +1,10 @@
 // The discs that the cases read, as document 01 and 2/13 lay them out, in a buffer of 512 bytes. Their checksums are numbers here, and
 // don't come from the code that is tested.
 ghost use Prim.Native.Nat.{_+_, _≤_};
+use printing::letters::AARUFRMT;
+use printing::letters::DBLK;
+use printing::letters::DDT;
+use printing::letters::IDX2;
 
 // Where the header is.
 pub const HEADER: u64 = 0;
@@ -25,15 +29,7 @@ const WIDTHS: [[u64; 13]; 5] = [
     [4, 2, 2, 4, 4, 4, 8, 8, 4, 4, 0, 0, 0],
 ];
 
-// The numbers that letters make.
-pub const AARU: u64 = 0x544d_5246_5552_4141; // AARUFRMT
-
-pub const IDX: u64 = 0x3258_4449; // IDX2
-
-pub const DDT: u64 = 0x2a54_4444; // DDT*
-
-const DBLK: u64 = 0x4b4c_4244;
-
+// The sectors' bytes.
 const AAAA: u64 = 0x4141_4141;
 
 const BBBB: u64 = 0x4242_4242;
@@ -68,10 +64,10 @@ const T5: u64 = 0x6bde_8ce2_ae9b_9109;
 // disc has.
 // P1: table 104, index 177, used 213. Its index has one entry: the zeros of the second lie past the end.
 const P1: [[u64; 15]; 4] = [
-    [ID, 0, AARU, S7, S7, S7, S7, S7, S7, S7, S7, 0, 0, 0, 0],
+    [ID, 0, AARUFRMT, S7, S7, S7, S7, S7, S7, S7, S7, 0, 0, 0, 0],
     [HD, 72, 2, 0, 1, 2, 3, 177, 4, 5, 0, 0, 0, 0, 0],
     [TB, 104, DDT, 1, 0, 0, 3, 24, 24, T1, T1, 0, 0, 0, 0],
-    [IX, 177, IDX, 1, I1, DDT, 1, 104, 0, 0, 0, 0, 0, 0, 0],
+    [IX, 177, IDX2, 1, I1, DDT, 1, 104, 0, 0, 0, 0, 0, 0, 0],
 ];
 
 // P2, what is written over P1: block 213, table 257, index 330, used 382, shift 1, entries 426, 0, 427.
@@ -79,30 +75,30 @@ const P2: [[u64; 15]; 4] = [
     [HD, 72, 2, 0, 1, 2, 3, 330, 4, 6, 0, 0, 0, 0, 0],
     [DB, 213, DBLK, 1, 0, 4, 8, 8, AB, AB, AAAA, BBBB, 0, 0, 0],
     [TB, 257, DDT, 1, 0, 1, 3, 24, 24, T2, T2, 426, 0, 427, 0],
-    [IX, 330, IDX, 2, I2, DDT, 1, 257, DBLK, 1, 213, 0, 0, 0, 0],
+    [IX, 330, IDX2, 2, I2, DDT, 1, 257, DBLK, 1, 213, 0, 0, 0, 0],
 ];
 
 // P3, what is written over P2: no block, table 382, index 455, used 507, entries 426, 426, 427.
 const P3: [[u64; 15]; 3] = [
     [HD, 72, 2, 0, 1, 2, 3, 455, 4, 7, 0, 0, 0, 0, 0],
     [TB, 382, DDT, 1, 0, 1, 3, 24, 24, T3, T3, 426, 426, 427, 0],
-    [IX, 455, IDX, 2, I3, DDT, 1, 382, DBLK, 1, 213, 0, 0, 0, 0],
+    [IX, 455, IDX2, 2, I3, DDT, 1, 382, DBLK, 1, 213, 0, 0, 0, 0],
 ];
 
 // P2's sectors in 273 bytes: index 104, block 156, and the table last, at 200, where the image's end can cut it short.
 const TABLE_LAST: [[u64; 15]; 5] = [
-    [ID, 0, AARU, S7, S7, S7, S7, S7, S7, S7, S7, 0, 0, 0, 0],
+    [ID, 0, AARUFRMT, S7, S7, S7, S7, S7, S7, S7, S7, 0, 0, 0, 0],
     [HD, 72, 2, 0, 1, 2, 3, 104, 4, 5, 0, 0, 0, 0, 0],
-    [IX, 104, IDX, 2, I4, DDT, 1, 200, DBLK, 1, 156, 0, 0, 0, 0],
+    [IX, 104, IDX2, 2, I4, DDT, 1, 200, DBLK, 1, 156, 0, 0, 0, 0],
     [DB, 156, DBLK, 1, 0, 4, 8, 8, AB, AB, AAAA, BBBB, 0, 0, 0],
     [TB, 200, DDT, 1, 0, 1, 3, 24, 24, T4, T4, 312, 0, 313, 0],
 ];
 
 // The same in another order: index 104, table 156, and the block last, at 229.
 const BLOCK_LAST: [[u64; 15]; 5] = [
-    [ID, 0, AARU, S7, S7, S7, S7, S7, S7, S7, S7, 0, 0, 0, 0],
+    [ID, 0, AARUFRMT, S7, S7, S7, S7, S7, S7, S7, S7, 0, 0, 0, 0],
     [HD, 72, 2, 0, 1, 2, 3, 104, 4, 5, 0, 0, 0, 0, 0],
-    [IX, 104, IDX, 2, I5, DDT, 1, 156, DBLK, 1, 229, 0, 0, 0, 0],
+    [IX, 104, IDX2, 2, I5, DDT, 1, 156, DBLK, 1, 229, 0, 0, 0, 0],
     [TB, 156, DDT, 1, 0, 1, 3, 24, 24, T5, T5, 458, 0, 459, 0],
     [DB, 229, DBLK, 1, 0, 4, 8, 8, AB, AB, AAAA, BBBB, 0, 0, 0],
 ];

@@ -1,15 +1,20 @@
 // Opening: for every two neighbours in document 01's order of checks an image to which both apply, and the number and place that it gives;
 // beside them what one check finds alone. Each script bends the disc `table_last`.
 use super::ONES;
-use super::disc::AARU;
-use super::disc::DDT;
-use super::disc::IDX;
 use super::disc::table_last;
 use super::script::COUNT;
 use super::script::CRC;
 use super::script::FRESH;
 use super::script::PLACE;
 use super::script::run;
+use printing::letters::AARUFRMT;
+use printing::letters::AARUFRMX;
+use printing::letters::DBLX;
+use printing::letters::DDT;
+use printing::letters::DDT2;
+use printing::letters::DICMFRMT;
+use printing::letters::IDX2;
+use printing::letters::INDX;
 
 // Where its records are, and how many bytes it has.
 const INDEX: u64 = 104;
@@ -24,22 +29,11 @@ const TABLE: u64 = 200;
 
 const WHOLE: u64 = 273;
 
-// Other letters, as numbers.
-const DICM: u64 = 0x544d_5246_4d43_4944; // DICMFRMT
-
-const AARX: u64 = 0x584d_5246_5552_4141; // AARUFRMX
-
-const INDX: u64 = 0x5844_4e49;
-
-const DDT2: u64 = 0x3254_4444;
-
-const DBLX: u64 = 0x584c_4244;
-
 const ACCEPTED_ROWS: [[u64; 3]; 7] = [
     [WHOLE, COUNT, 0],
     [73, 1, 7], // image minor
     [WHOLE, COUNT, 0],
-    [0, 8, DICM], // identifier
+    [0, 8, DICMFRMT], // identifier
     [WHOLE, COUNT, 0],
     [TABLE + 8, 1, 32], // shift
     [WHOLE, COUNT, 0],
@@ -58,12 +52,12 @@ fn accepted(disc: &[u8; 512]) {
 
 const HEADER_ROWS: [[u64; 3]; 17] = [
     [0, COUNT, 0],
-    [0, 8, AARX], // identifier
+    [0, 8, AARUFRMX], // identifier
     [103, COUNT, 0],
     [104, COUNT, 0],
     [72, 1, 3], // image major
     [WHOLE, COUNT, 0],
-    [0, 8, AARU], // identifier
+    [0, 8, AARUFRMT], // identifier
     [80, 8, 103], // indexOffset
     [WHOLE, COUNT, 0],
     [72, 1, 2], // image major
@@ -96,7 +90,7 @@ const INDEX_ROWS: [[u64; 3]; 10] = [
     [INDEX, 4, INDX], // identifier
     [INDEX + 4, 8, 10], // entries
     [WHOLE, COUNT, 0],
-    [INDEX, 4, IDX], // identifier
+    [INDEX, 4, IDX2], // identifier
     [WHOLE, COUNT, 0],
     [INDEX + 4, 8, 0x1000_0000_0000_0002], // entries
     [WHOLE, COUNT, 0],

@@ -27,9 +27,6 @@ use format::Verdict;
 use opening::Image;
 use opening::Opened;
 
-// The identifier 'DBLK', as the number that its letters make.
-const DATA_BLOCK: u64 = 0x4b4c_4244;
-
 // The first address that is refused, and how; the number of addresses where none is.
 struct First {
     address: SectorAddress,
@@ -152,7 +149,7 @@ fn with_block(s: &[u8], t: Opened, p: ByteOffset, left: u64, first: First) -> Fi
     ensures { λ r. ⌜ FirstFrom (now (s .entry)) (contents t) (left - 1) (p .0 + entryLength) r ⌝ }
 {
     let e = index::entry(s, p);
-    if !index::is_user_data(e, DATA_BLOCK) {
+    if !index::is_user_data(e, b"DBLK") {
         return first;
     }
     let b = e.offset;

@@ -2,6 +2,7 @@
 use mathlib.Core.Path.{_≡_, refl, sym, ap, _∙_}
 use mathlib.Core.Bool.{Bool, true, false, _&&_, true≢false}
 use mathlib.Core.List.{List, [], _∷_}
+use mathlib.Core.Logic.{_↔_}
 use Prim.Native.Nat.{ℕ}
 use lib.Dec.{eqb}
 use borrow.Author.Tests.{eqb-true, eq-eqb, ne-eqb}
@@ -27,6 +28,10 @@ pub equal-refl : (xs : List ℕ) → equal xs xs ≡ true
 unfolding equal
 equal-refl [] = refl
 equal-refl (x ∷ xs) = ap (λ (b : Bool). b && equal xs xs) (eq-eqb x x refl) ∙ equal-refl xs
+
+-- so the test says yes exactly of the same list
+pub equal-iff : {xs ys : List ℕ} → (equal xs ys ≡ true) ↔ (xs ≡ ys)
+equal-iff {xs} {ys} = (equal-true xs ys, λ e. ap (equal xs) (sym e) ∙ equal-refl xs)
 
 -- ---- byte by byte
 

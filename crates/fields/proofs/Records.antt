@@ -6,7 +6,7 @@ use Prim.Native.Nat.{ℕ, zero, suc, _+_, _^_, _<_}
 use native.Mathlib.Nat.{add-zero, not-suc-le-zero, le-of-suc-le-suc}
 use native.Mathlib.Omega.{arith}
 use lib.ListN.{length, take, getD, length-append}
-use Rattle.fields.specs.Bytes.{fromLe, field, overwrite}
+use Rattle.fields.specs.Bytes.{part, field, overwrite}
 use Rattle.fields.specs.Layout.{Field, num, raw, fieldBytes, layout}
 use Rattle.fields.proofs.Numbers.{length-toLe}
 use Rattle.fields.proofs.Overwrite.{overwrite-then}
@@ -41,11 +41,9 @@ holds-num s at fs rest h j k v l e b = holds-number s _ k v (rw e at (holds-nth 
 
 -- its first field, as bytes
 pub holds-raw : (s : List ℕ) (at : ℕ) (bytes : List ℕ) (fs : List Field) (rest : List ℕ) → Holds s at (layout (raw bytes ∷ fs) ++ rest)
-    → field s at (length bytes) ≡ fromLe bytes
-unfolding field
+    → part s at (length bytes) ≡ bytes
 holds-raw s at bytes fs rest h =
-    let n : Holds s at bytes = rw add-zero at (holds-nth s at (raw bytes ∷ fs) rest h 0 (omega arith)) in
-    ap fromLe (holds-all s at bytes n)
+    holds-all s at bytes (rw add-zero at (holds-nth s at (raw bytes ∷ fs) rest h 0 (omega arith)))
 
 pub length-layout : (fs : List Field) → length (layout fs) ≡ total fs
 unfolding layout

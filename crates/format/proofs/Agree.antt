@@ -51,18 +51,17 @@ module _ (x y : List ℕ) (g : Agree x y) where
   unfolding field
   field-rest at n h k = ap fromLe (part-rest at n h k)
 
-  field-front : (at n : ℕ) → at + n ≤ indexOffsetAt → headerLength ≤ length x → field x at n ≡ field y at n
-  unfolding field
-  field-front at n h k = ap fromLe (part-alike x y at at n (omega arith) (omega (arith, g .longer)) (λ i b. g .bytes (at + i) (inl (omega arith)) (omega arith)))
+  part-front : (at n : ℕ) → at + n ≤ indexOffsetAt → headerLength ≤ length x → part x at n ≡ part y at n
+  part-front at n h k = part-alike x y at at n (omega arith) (omega (arith, g .longer)) (λ i b. g .bytes (at + i) (inl (omega arith)) (omega arith))
 
   pub header-agree : HeaderOk x → HeaderOk y
-  unfolding Identified
+  unfolding Identified field
   header-agree k =
-      let e0 : field x 0 8 ≡ field y 0 8 = field-front 0 8 (lit≤ tt) (k .long) in
+      let e0 : part x 0 8 ≡ part y 0 8 = part-front 0 8 (lit≤ tt) (k .long) in
       record {
         long = le-trans (k .long) (g .longer);
         identifier = rw e0 at (k .identifier);
-        major = sym (field-front imageMajorAt 1 (lit≤ tt) (k .long)) ∙ k .major;
+        major = ap fromLe (sym (part-front imageMajorAt 1 (lit≤ tt) (k .long))) ∙ k .major;
       }
 
   index-agree : (o : ℕ) → IndexOk x o → IndexOk y o
@@ -70,7 +69,7 @@ module _ (x y : List ℕ) (g : Agree x y) where
   index-agree o k =
       let low : headerLength ≤ o = k .low in
       let head : o + indexHeaderLength ≤ length x = k .head in
-      let e0 : field x o 4 ≡ field y o 4 = field-rest o 4 low (omega arith) in
+      let e0 : part x o 4 ≡ part y o 4 = part-rest o 4 low (omega arith) in
       let e4 : field x (o + 4) 8 ≡ field y (o + 4) 8 = field-rest (o + 4) 8 (omega arith) (omega arith) in
       let e12 : field x (o + 12) 8 ≡ field y (o + 12) 8 = field-rest (o + 12) 8 (omega arith) (omega arith) in
       let ep : part x (o + indexHeaderLength) (entryLength * field x (o + 4) 8) ≡ part y (o + indexHeaderLength) (entryLength * field x (o + 4) 8) = part-rest (o + indexHeaderLength) _ (omega arith) (k .fits) in

@@ -11,13 +11,13 @@ use native.Mathlib.Omega.{arith}
 use lib.Dec.{lit<, lit≤}
 use lib.ListN.{length, getD, length-map}
 use lib.Pow.{pow-mono, pow-pos, high, low}
-use Rattle.fields.specs.Bytes.{part, fromLe}
+use Rattle.fields.specs.Bytes.{part, fromLe, toLe}
 use Rattle.fields.proofs.Holds.{Holds, holds-all, holds-left, holds-right, holds-number}
 use Rattle.format.specs.declared.Entry.{Entry}
 use Rattle.format.specs.declared.Pointer.{Pointer}
 use Rattle.format.specs.Lists.{All, done, more, IsBytes}
 use Rattle.format.specs.Refusals.{refusal, Answer, refused, accepted}
-use Rattle.format.specs.Layouts.{DBLK, DDT*, CKSM, tag, headerLength, entries, indexBytes, sectorSize, blockLength, tableBytes, decode, encode, tableHeaderLength, blockHeaderLength, tableEntryLength}
+use Rattle.format.specs.Layouts.{DBLK, DDT*, CKSM, tag, headerLength, entries, userDataEntry, indexBytes, sectorSize, blockLength, tableBytes, decode, encode, tableHeaderLength, blockHeaderLength, tableEntryLength}
 use Rattle.format.specs.Opening.{offsetsOf, Opened, opened}
 use Rattle.format.specs.Reading.{tableEntry, notWritten, pointerAt, has, placeOf, itemBytes, readAt}
 use Rattle.format.specs.Writing.{largestSize, longestBuffer}
@@ -29,10 +29,10 @@ use Rattle.format.proofs.Lists.{Sized, all-append, all-map, all-get, le
 use Rattle.format.proofs.Checks.{PointerOk, SectorOk, AddressOk, Sound, read-20, read-21, read-bytes}
 use Rattle.format.proofs.Named.{user-data-on, user-data-true, user-data-false, offsets-yes, offsets-no, offsets-append, has-head, has-left, has-right}
 use Rattle.format.proofs.Agree.{Agree, header-agree, entry-agree, item-agree, bytes-agree, block-low}
-use Rattle.format.proofs.Written.{EntryFits, holds-piece, length-tableBytes, table-identified, table-entries, length-blockBytes, block-identified, block-size, block-items, item-written, length-indexBytes, Opens, opens-written}
+use Rattle.format.proofs.Written.{EntryFits, identified-number, type-number, holds-piece, length-tableBytes, table-identified, table-entries, length-blockBytes, block-identified, block-size, block-items, item-written, length-indexBytes, Opens, opens-written}
 use Rattle.format.proofs.KeptEntries.{dblk-cksm, dblk-ddt, kept-all, kept-blocks, kept-table}
 use Rattle.format.proofs.Storing.{handedOr, stored-sized, entries-sized, length-entries, shift-fits, shift-least, Source, old, new, stored-ok, NewPointer, fresh, kept, new-pointer, length-newPointers, getD-newPointers, item-largest, largest-bound}
-use Rattle.format.proofs.Bytes.{entries-fit}
+use Rattle.format.proofs.Bytes.{field-fits, entries-fit}
 
 -- ---- a pointer, encoded and decoded
 decode-encode : (s : ℕ) (p : Pointer) → p .item .0 < 2 ^ s → decode s (encode s p) ≡ p
@@ -54,18 +54,15 @@ encode-pos s p h e =
     omega arith
 
 -- ---- the new block's entry, where anything is stored
-abbrev blockEntry : ℕ → Entry
-blockEntry b = record { blockType = tag DBLK; dataType = 1; offset = record { 0 = b } }
-
-block-entry-all : {P : Entry → Type 0} (b : ℕ) (items : List (List ℕ)) → (0 < length items → P (blockEntry b)) → All P (newBlockEntry b items)
+block-entry-all : {P : Entry → Type 0} (b : ℕ) (items : List (List ℕ)) → (0 < length items → P (userDataEntry DBLK b)) → All P (newBlockEntry b items)
 unfolding newBlockEntry
 block-entry-all b [] f = done
 block-entry-all b (i ∷ is) f = more (f (omega arith)) done
 
 block-no-table : (b : ℕ) (items : List (List ℕ)) → offsetsOf DDT* (newBlockEntry b items) ≡ []
-unfolding newBlockEntry offsetsOf
+unfolding newBlockEntry offsetsOf tag fromLe toLe
 block-no-table b [] = refl
-block-no-table b (i ∷ is) = offsets-no DDT* (blockEntry b) [] (user-data-false DDT* (blockEntry b) dblk-ddt)
+block-no-table b (i ∷ is) = offsets-no DDT* (userDataEntry DBLK b) [] (user-data-false DDT* (userDataEntry DBLK b) dblk-ddt)
 
 -- ---- the new block: item j of it
 record NewItem (y : List ℕ) (b : ℕ) (items : List (List ℕ)) (j : ℕ) : Type 0 where
@@ -77,7 +74,7 @@ record NewItem (y : List ℕ) (b : ℕ) (items : List (List ℕ)) (j : ℕ) : Ty
 
 new-item : (y : List ℕ) (b size : ℕ) (items : List (List ℕ)) → All (Sized size) items → Holds y b (newBlock size items) → size ≢ 0 → size ≤ largestSize
     → length y ≤ longestBuffer → (j : ℕ) → j < length items → NewItem y b items j
-unfolding newBlock newBlockEntry itemBytes placeOf
+unfolding newBlock newBlockEntry itemBytes placeOf tag fromLe toLe
 new-item y b size [] sz h pos small long j k = absurd (not-suc-le-zero k)
 new-item y b size (s ∷ ss) sz h pos small long j k = made
   where
@@ -112,7 +109,7 @@ new-item y b size (s ∷ ss) sz h pos small long j k = made
           fits = omega (arith, f);
           item = item-written y b size payload h pos small short (length items) whole j k;
           bytes = ap (λ n. part y (b + blockHeaderLength + j * n) n) es ∙ ap (part y (b + blockHeaderLength + j * size)) (sym ln) ∙ holds-all y (b + blockHeaderLength + j * size) (getD items j []) hi;
-          named = ap (has b) (offsets-yes DBLK (blockEntry b) [] (user-data-true DBLK (blockEntry b) (record { type = refl; userData = refl }))) ∙ has-head b b _ refl;
+          named = ap (has b) (offsets-yes DBLK (userDataEntry DBLK b) [] (user-data-true DBLK (userDataEntry DBLK b) (record { type = refl; userData = refl }))) ∙ has-head b b _ refl;
         }
 
 -- ---- a pointer that stands, in an image whose index has the entries es: it names an intact item, which holds these bytes
@@ -335,7 +332,7 @@ module _ (x : List ℕ) (o : ℕ) (addresses : List ℕ) (size : ℕ) (sectors :
     table-fits = omega (arith, ht .fits, length-tableBytes shift (length pointers) payload)
 
     -- ---- the index
-    block-entry-fits : EntryFits (blockEntry (length x))
+    block-entry-fits : EntryFits (userDataEntry DBLK (length x))
     unfolding tag fromLe
     block-entry-fits = record { blockType = lit< tt; dataType = lit< tt; offset = omega (arith, g .longer) }
 
@@ -348,25 +345,26 @@ module _ (x : List ℕ) (o : ℕ) (addresses : List ℕ) (size : ℕ) (sectors :
     new-entries-fit : All EntryFits newEntries
     new-entries-fit = all-append (all-map (λ e k. k .0) kept-fit) (block-entry-all (length x) items (λ n. block-entry-fits))
 
-    block-entry-ok : 0 < length items → EntryOk y (blockEntry (length x))
-    unfolding Identified
+    block-entry-ok : 0 < length items → EntryOk y (userDataEntry DBLK (length x))
     block-entry-ok k =
         let n = new-item y (length x) size items items-sized hb pos small long 0 k in
-        record { low = x-long; fits = omega (arith, n .fits); identifier = n .identified }
+        record { low = x-long; fits = omega (arith, n .fits); identifier = identified-number y (length x) DBLK (n .identified) }
 
     new-entries-ok : All (EntryOk y) newEntries
-    unfolding Identified tableStart
+    unfolding tableStart
     new-entries-ok =
         all-append
-        (all-map (λ e k. k .0)
-        (kept-all (EntryOk y) newTableAt (entries x o)
-        (λ e k q.
-        record {
-          low = omega (arith, x-long);
-          fits = omega (arith, table-fits);
-          identifier = table-identified y newTableAt shift (length pointers) payload ht ∙ sym (user-data-on DDT* e q .type);
-        })
-        (all-map (entry-agree x y g) (s .opens .entriesOk))))
+        (all-map (λ e k. k .0 .1)
+        (kept-all (λ (e : Entry). (e .blockType < 256 ^ 4) × EntryOk y e) newTableAt (entries x o)
+        (λ e k q. (
+          k .0,
+          record {
+            low = omega (arith, x-long);
+            fits = omega (arith, table-fits);
+            identifier = identified-number y newTableAt DDT* (table-identified y newTableAt shift (length pointers) payload ht) ∙ sym (type-number e (k .0) (user-data-on DDT* e q));
+          },
+        ))
+        (all-map (λ e k. (rw (← (k .identifier)) (field-fits isBytes (e .offset .0) 4), entry-agree x y g e k)) (s .opens .entriesOk))))
         (block-entry-all (length x) items block-entry-ok)
 
     only-table : offsetsOf DDT* newEntries ≡ newTableAt ∷ []

@@ -1,13 +1,13 @@
 -- Lists of bytes: their fields fit, and what is written is bytes again.
 use mathlib.Core.List.{List, [], _∷_, flatten}
 use mathlib.Core.Option.{Option, none, some}
-use Prim.Native.Nat.{ℕ, zero, suc, _+_, _*_, _/_, _≤_, _<_}
+use Prim.Native.Nat.{ℕ, zero, suc, _+_, _*_, _/_, _^_, _≤_, _<_}
 use native.Mathlib.Nat.{mod-lt, zero-lt-suc}
 use lib.Dec.{T, ltb, lit<}
 use lib.Ieee.Fits.{and-l, and-r}
 use lib.ListN.{length, getD}
 use lib.Pow.{areBytes}
-use Rattle.fields.specs.Bytes.{toLe, overwrite}
+use Rattle.fields.specs.Bytes.{toLe, field, overwrite}
 use Rattle.fields.specs.Layout.{Field, num, raw, layout}
 use Rattle.fields.proofs.Numbers.{field-lt}
 use Rattle.fields.proofs.Overwrite.{overwrite-split}
@@ -28,12 +28,15 @@ bytes-get done i = lit< tt
 bytes-get (more h hs) zero = h
 bytes-get (more h hs) (suc i) = bytes-get hs i
 
+pub field-fits : {x : List ℕ} → IsBytes x → (at k : ℕ) → field x at k < 256 ^ k
+field-fits {x} h at k = field-lt x at k (bytes-get h)
+
 pub entries-fit : (x : List ℕ) → IsBytes x → (k p : ℕ) → All EntryFits (entriesFrom x k p)
 unfolding entriesFrom entryAt
 entries-fit x h zero p = done
 entries-fit x h (suc k) p =
     more
-    (record { blockType = field-lt x p 4 (bytes-get h); dataType = field-lt x (p + 4) 4 (bytes-get h); offset = field-lt x (p + 8) 8 (bytes-get h) })
+    (record { blockType = field-fits h p 4; dataType = field-fits h (p + 4) 4; offset = field-fits h (p + 8) 8 })
     (entries-fit x h k (p + entryLength))
 
 -- ---- what is written over bytes

@@ -1,5 +1,5 @@
 -- Each group of checks passes exactly if its facts hold. Nobody else opens a chain of checks.
-use mathlib.Core.Bool.{Bool, true, false}
+use mathlib.Core.Bool.{Bool, true, false, not}
 use mathlib.Core.List.{List, [], _∷_, cons-ne-nil}
 use mathlib.Core.Logic.{_≢_, _⊎_, ⊎-elim, ⊎-map, inl, inr, _↔_, Iff·rfl, Iff·trans}
 use mathlib.Core.Path.{_≡_, refl, sym, ap, _∙_, subst}
@@ -7,6 +7,8 @@ use Prim.Native.Nat.{ℕ, zero, suc, _+_, _*_, _≤_, _<_}
 use native.Mathlib.Nat.{le-trans, mul-le-mul-right, div-mul-le-self, suc-mul}
 use native.Mathlib.Omega.{arith}
 use lib.ListN.{length, take, getD}
+use Rattle.fields.specs.Bytes.{part, equal}
+use Rattle.fields.proofs.Equal.{equal-iff}
 use Rattle.format.specs.declared.Entry.{Entry}
 use Rattle.format.specs.declared.Pointer.{Pointer}
 use Rattle.format.specs.declared.Verdict.{Verdict}
@@ -31,18 +33,27 @@ facts : {A B C : Type 0} → A ↔ B → (B → C) → (C → B) → A ↔ C
 facts h f g = Iff·trans h (f, g)
 
 -- ---- opening
+lacks-iff : (img : List ℕ) (at : ℕ) (letters : List ℕ) → (lacks img at letters ≡ false) ↔ Identified img at letters
+unfolding lacks Identified
+lacks-iff img at letters = Iff·trans not-iff equal-iff
+
+-- what comparing the bytes answers
+pub lacks-not : (img : List ℕ) (at : ℕ) (letters : List ℕ) {r : Bool} → r ≡ equal (part img at (length letters)) letters → not r ≡ lacks img at letters
+unfolding lacks
+lacks-not img at letters h = ap not h
+
 pub header-ok : (img : List ℕ) → (headerVerdict img ≡ Passes) ↔ HeaderOk img
-unfolding headerVerdict lacks Identified
+unfolding headerVerdict
 header-ok img =
-    facts (then-iff (row-iff _ below-iff) (then-iff (row-iff _ (and-iff differs-iff differs-iff)) (row-iff _ differs-iff)))
+    facts (then-iff (row-iff _ below-iff) (then-iff (row-iff _ (and-iff (lacks-iff img _ _) (lacks-iff img _ _))) (row-iff _ differs-iff)))
     (λ (a, (b, c)). record { long = a; identifier = b; major = c }) (λ k. (k .long, (k .identifier, k .major)))
 
 pub index-ok : (img : List ℕ) (o : ℕ) → (indexVerdict img o ≡ Passes) ↔ IndexOk img o
-unfolding indexVerdict lacks Identified
+unfolding indexVerdict
 index-ok img o =
     facts
     (then-iff (row-iff _ (or-iff below-iff below-iff))
-    (then-iff (row-iff _ differs-iff)
+    (then-iff (row-iff _ (lacks-iff img o _))
     (then-iff (row-iff _ below-iff) (row-iff _ differs-iff))))
     (λ ((a, b), (c, (d, e))). record { low = a; head = b; identifier = c; fits = d; sum = e })
     (λ k. ((k .low, k .head), (k .identifier, (k .fits, k .sum))))

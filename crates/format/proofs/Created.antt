@@ -7,7 +7,7 @@ use Prim.Native.Nat.{ℕ, _+_, _*_, _≤_, _<_, zero-le}
 use native.Mathlib.Omega.{arith}
 use lib.Dec.{lit<, lit≤}
 use lib.ListN.{length, take, replicate, length-replicate, length-append}
-use Rattle.fields.specs.Bytes.{part, fromLe, field, overwrite}
+use Rattle.fields.specs.Bytes.{part, fromLe, toLe, field, overwrite}
 use Rattle.fields.proofs.Overwrite.{length-overwrite}
 use Rattle.fields.proofs.Holds.{Holds, holds-take, holds-overwrite, holds-part, holds-left, holds-right}
 use Rattle.fields.proofs.Records.{holds-num, holds-raw}
@@ -24,7 +24,7 @@ use Rattle.format.proofs.Tests.{same-true}
 use Rattle.format.proofs.Lists.{all-take, all-drop, all-replicate}
 use Rattle.format.proofs.Checks.{Sound, create-ok}
 use Rattle.format.proofs.Named.{user-data-true, offsets-yes}
-use Rattle.format.proofs.Written.{EntryFits, length-headerBytes, length-tableBytes, table-identified, table-entries, length-indexBytes, Opens, opens-written}
+use Rattle.format.proofs.Written.{EntryFits, identified-number, length-headerBytes, length-tableBytes, table-identified, table-entries, length-indexBytes, Opens, opens-written}
 use Rattle.format.proofs.Bytes.{bytes-overwrite, bytes-created}
 use Rattle.format.proofs.Buffers.{outcome-accepted}
 
@@ -82,7 +82,7 @@ module _ (count : ℕ) (application : List ℕ) (major minor mediaType creationT
     y-long = omega (arith, h .fits, length-new)
 
     header-new : HeaderOk y
-    unfolding Identified createdBytes headerBytes tag createdUsed createdIndexAt
+    unfolding Identified createdBytes headerBytes createdUsed createdIndexAt
     header-new =
         let e : 0 + (8 + (length application + 0)) ≡ imageMajorAt = omega arith in
         record {
@@ -103,13 +103,13 @@ module _ (count : ℕ) (application : List ℕ) (major minor mediaType creationT
     fit = more (record { blockType = lit< tt; dataType = lit< tt; offset = lit< tt }) done
 
     named : All (EntryOk y) createdEntries
-    unfolding Identified createdUsed createdIndexAt
+    unfolding createdUsed createdIndexAt
     named =
         let fits : headerLength + 4 ≤ length y = omega (arith, y-long) in
-        more (record { low = lit≤ tt; fits = fits; identifier = table-identified y headerLength 0 count zeros h-table }) done
+        more (record { low = lit≤ tt; fits = fits; identifier = identified-number y headerLength DDT* (table-identified y headerLength 0 count zeros h-table) }) done
 
     only : offsetsOf DDT* createdEntries ≡ headerLength ∷ []
-    unfolding offsetsOf
+    unfolding offsetsOf tag fromLe toLe
     only = offsets-yes DDT* _ [] (user-data-true DDT* _ (record { type = refl; userData = refl }))
 
     abbrev newOpened : Opened

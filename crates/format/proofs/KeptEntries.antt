@@ -1,34 +1,43 @@
 -- The old entries as a new index has them: the data blocks stay, the table's entry is replaced in its place, no 'CKSM' entry is left.
-use mathlib.Core.Bool.{true}
+use mathlib.Core.Bool.{true, false}
 use mathlib.Core.List.{List, [], _∷_, map}
 use mathlib.Core.Logic.{_≢_}
 use mathlib.Core.Path.{_≡_, refl, sym, ap, _∙_}
 use Prim.Native.Nat.{ℕ}
 use native.Mathlib.Omega.{arith}
-use Rattle.fields.specs.Bytes.{fromLe}
+use Rattle.fields.specs.Bytes.{fromLe, toLe, equal}
+use Rattle.fields.proofs.Equal.{equal-iff}
 use Rattle.format.specs.declared.Entry.{Entry}
 use Rattle.format.specs.Lists.{All, done, more}
 use Rattle.format.specs.Layouts.{DBLK, DDT*, CKSM, tag}
 use Rattle.format.specs.Opening.{isType, isUserData, offsetsOf}
 use Rattle.format.specs.Committing.{keptEntry, keptEntries}
-use Rattle.format.proofs.Tests.{choose-cases}
+use Rattle.format.proofs.Tests.{never, choose-cases}
 use Rattle.format.proofs.Named.{type-on, type-off, user-data-on, user-data-true, user-data-false, offsets-yes, offsets-no, offsets-cons}
 
-cksm-ddt : tag CKSM ≢ tag DDT*
-unfolding tag fromLe
-cksm-ddt = omega arith
+apart : {a b : List ℕ} → equal a b ≡ false → a ≢ b
+apart h e = never (equal-iff .1 e) h
 
-cksm-dblk : tag CKSM ≢ tag DBLK
-unfolding tag fromLe
-cksm-dblk = omega arith
+cksm-ddt : CKSM ≢ DDT*
+unfolding equal
+cksm-ddt = apart refl
+
+cksm-dblk : CKSM ≢ DBLK
+unfolding equal
+cksm-dblk = apart refl
+
+pub dblk-ddt : DBLK ≢ DDT*
+unfolding equal
+dblk-ddt = apart refl
 
 pub dblk-cksm : tag DBLK ≢ tag CKSM
 unfolding tag fromLe
 dblk-cksm = omega arith
 
-pub dblk-ddt : tag DBLK ≢ tag DDT*
-unfolding tag fromLe
-dblk-ddt = omega arith
+-- an entry of another type has another number
+not-cksm : (e : Entry) → toLe 4 (e .blockType) ≢ CKSM → e .blockType ≢ tag CKSM
+unfolding tag fromLe toLe
+not-cksm e h q = h (ap (toLe 4) q)
 
 -- an entry with another offset is of the same kind
 abbrev pub moved : ℕ → Entry → Entry
@@ -42,7 +51,7 @@ kept-all P table _ f done = done
 kept-all P table _ f (more {a = e} {l = es} k ks) =
     let ih = kept-all P table es f ks in
     choose-cases (All (λ (q : Entry). P q × (q .blockType ≢ tag CKSM))) (isType CKSM e) _ _ (λ c. ih)
-    (λ c. more (choose-cases (λ (q : Entry). P q × (q .blockType ≢ tag CKSM)) (isUserData DDT* e) _ _ (λ d. (f e k d, type-off CKSM e c)) (λ d. (k, type-off CKSM e c))) ih)
+    (λ c. more (choose-cases (λ (q : Entry). P q × (q .blockType ≢ tag CKSM)) (isUserData DDT* e) _ _ (λ d. (f e k d, not-cksm e (type-off CKSM e c))) (λ d. (k, not-cksm e (type-off CKSM e c)))) ih)
 
 -- the data blocks stay
 pub kept-blocks : (table : ℕ) (es : List Entry) → offsetsOf DBLK (keptEntries table es) ≡ offsetsOf DBLK es
@@ -54,7 +63,7 @@ kept-blocks table (e ∷ es) =
     (λ c. ih ∙ sym (offsets-no DBLK e es (user-data-false DBLK e (λ q. cksm-dblk (sym (type-on CKSM e c) ∙ q)))))
     (λ c. choose-cases (λ (q : Entry). offsetsOf DBLK (q ∷ keptEntries table es) ≡ offsetsOf DBLK (e ∷ es)) (isUserData DDT* e) _ _
     (λ d.
-    let n : e .blockType ≢ tag DBLK = λ q. dblk-ddt (sym q ∙ user-data-on DDT* e d .type) in
+    let n : toLe 4 (e .blockType) ≢ DBLK = λ q. dblk-ddt (sym q ∙ user-data-on DDT* e d .type) in
     offsets-no DBLK (moved table e) (keptEntries table es) (user-data-false DBLK (moved table e) n) ∙ ih ∙ sym (offsets-no DBLK e es (user-data-false DBLK e n)))
     (λ d. offsets-cons DBLK e (keptEntries table es) es ih))
 

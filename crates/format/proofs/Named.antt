@@ -5,32 +5,31 @@ use mathlib.Core.Logic.{_≢_, _⊎_, inl, inr, _↔_, Iff·rfl, ⊎-elim}
 use mathlib.Core.Path.{_≡_, refl, ap, _∙_, subst}
 use Prim.Native.Nat.{ℕ}
 use native.Mathlib.Omega.{arith}
+use Rattle.fields.specs.Bytes.{toLe}
+use Rattle.fields.proofs.Equal.{equal-iff}
 use Rattle.format.specs.declared.Entry.{Entry}
 use Rattle.format.specs.Tests.{choose}
 use Rattle.format.specs.Lists.{All, done, more, Any, here, there, Only, found, later}
-use Rattle.format.specs.Layouts.{tag}
 use Rattle.format.specs.Opening.{isType, isUserData, offsetsOf}
 use Rattle.format.specs.Reading.{has}
 use Rattle.format.specs.Facts.{UserData}
-use Rattle.format.proofs.Tests.{on-or-off, never, same-on, same-true, same-iff, or-on, or-true-left, or-true-right, and-on, and-true, and-iff, choose-true, choose-false, choose-cases}
+use Rattle.format.proofs.Tests.{on-or-off, never, same-on, same-true, or-on, or-true-left, or-true-right, and-on, and-true, and-iff, choose-true, choose-false, choose-cases}
 
 -- ---- one entry
 module _ (letters : List ℕ) (e : Entry) where
-  pub type-on : isType letters e ≡ true → e .blockType ≡ tag letters
+  pub type-on : isType letters e ≡ true → toLe 4 (e .blockType) ≡ letters
   unfolding isType
-  type-on h = same-on _ _ h
+  type-on h = equal-iff .0 h
 
-  pub type-off : isType letters e ≡ false → e .blockType ≢ tag letters
+  type-true : toLe 4 (e .blockType) ≡ letters → isType letters e ≡ true
   unfolding isType
-  type-off h = same-iff .0 h
+  type-true h = equal-iff .1 h
 
-  pub type-true : e .blockType ≡ tag letters → isType letters e ≡ true
-  unfolding isType
-  type-true h = same-true _ _ h
+  pub type-off : isType letters e ≡ false → toLe 4 (e .blockType) ≢ letters
+  type-off h k = never (type-true k) h
 
-  pub type-false : e .blockType ≢ tag letters → isType letters e ≡ false
-  unfolding isType
-  type-false h = same-iff .1 h
+  type-false : toLe 4 (e .blockType) ≢ letters → isType letters e ≡ false
+  type-false h = ⊎-elim (λ n. absurd (h (type-on n))) (λ n. n) (on-or-off (isType letters e))
 
   pub user-data-on : isUserData letters e ≡ true → UserData letters e
   unfolding isUserData
@@ -40,7 +39,7 @@ module _ (letters : List ℕ) (e : Entry) where
   unfolding isUserData
   user-data-true k = and-true _ _ (type-true (k .type)) (same-true _ _ (k .userData))
 
-  pub user-data-false : e .blockType ≢ tag letters → isUserData letters e ≡ false
+  pub user-data-false : toLe 4 (e .blockType) ≢ letters → isUserData letters e ≡ false
   unfolding isUserData
   user-data-false h = and-iff (type-off, type-false) Iff·rfl .1 (inl h)
 

@@ -9,7 +9,8 @@ use lib.Dec.{lit<}
 use lib.ListN.{length, getD, length-append, length-map}
 use Rattle.crc64.specs.Crc.{crcOf}
 use Rattle.crc64.proofs.Bound.{crcOf-lt}
-use Rattle.fields.specs.Bytes.{part, field}
+use Rattle.fields.specs.Bytes.{part, field, fromLe}
+use Rattle.fields.proofs.Numbers.{fromLe-toLe}
 use Rattle.fields.proofs.Holds.{Holds, holds-all, holds-left, holds-right}
 use Rattle.fields.proofs.Records.{length-layout, holds-num, holds-raw}
 use Rattle.format.specs.declared.Entry.{Entry}
@@ -17,7 +18,7 @@ use Rattle.format.specs.Lists.{All, done, more}
 use Rattle.format.specs.Layouts.{IDX2, DBLK, DDT*, tag, headerLength, applicationLength, headerBytes, entryCount, entryAt, entriesFrom, entries, entryBytes, indexHeader, indexBytes, sectorSize, blockLength, blockPayload, blockHeader, blockBytes, tableShift, tableCount, tableLength, tablePayload, tableHeader, tableBytes, tableHeaderLength, blockHeaderLength, indexHeaderLength, entryLength, tableEntryLength}
 use Rattle.format.specs.Opening.{offsetsOf, tableAt, Opened, openedAt, opened}
 use Rattle.format.specs.Writing.{largestSize}
-use Rattle.format.specs.Facts.{Identified, HeaderOk, IndexOk, EntryOk, TableOk, ItemOk}
+use Rattle.format.specs.Facts.{Identified, HeaderOk, IndexOk, EntryOk, UserData, TableOk, ItemOk}
 use Rattle.format.proofs.Lists.{Sized, all-image, length-flatten}
 use Rattle.format.proofs.Checks.{tableAt-only, OpenOk}
 
@@ -39,6 +40,16 @@ holds-piece y n _ (more {a = l} {l = ls} e es) p h (suc j) k =
     let z : p + suc j * n ≡ p + length l + j * n = rw e (omega arith) in
     rw z (holds-piece y n ls es (p + length l) (holds-right y p l (flatten ls) h refl) j (le-of-suc-le-suc k))
 
+-- ---- an identifier, as a number
+pub identified-number : (y : List ℕ) (at : ℕ) (letters : List ℕ) → Identified y at letters → field y at (length letters) ≡ tag letters
+unfolding Identified field tag
+identified-number y at letters h = ap fromLe h
+
+-- an entry's number is that of its letters
+pub type-number : {letters : List ℕ} (e : Entry) → e .blockType < 256 ^ 4 → UserData letters e → e .blockType ≡ tag letters
+unfolding tag
+type-number e h u = sym (fromLe-toLe 4 (e .blockType) h) ∙ ap fromLe (u .type)
+
 -- ---- table
 pub length-tableHeader : (s c : ℕ) (payload : List ℕ) → length (tableHeader s c payload) ≡ tableHeaderLength
 unfolding tableHeader
@@ -50,7 +61,7 @@ length-tableBytes s c payload = simp (length-append, length-tableHeader)
 
 module _ (y : List ℕ) (t s c : ℕ) (payload : List ℕ) (h : Holds y t (tableBytes s c payload)) where
   pub table-identified : Identified y t DDT*
-  unfolding Identified tableBytes tableHeader tag
+  unfolding Identified tableBytes tableHeader
   table-identified = holds-raw y t DDT* _ _ h
 
   pub table-entries : Holds y (t + tableHeaderLength) payload
@@ -99,7 +110,7 @@ length-blockBytes size payload = simp (length-append, length-blockHeader)
 
 module _ (y : List ℕ) (b size : ℕ) (payload : List ℕ) (h : Holds y b (blockBytes size payload)) where
   pub block-identified : Identified y b DBLK
-  unfolding Identified blockBytes blockHeader tag
+  unfolding Identified blockBytes blockHeader
   block-identified = holds-raw y b DBLK _ _ h
 
   pub block-items : Holds y (b + blockHeaderLength) payload
@@ -195,7 +206,7 @@ module _ (y : List ℕ) (o : ℕ) (es : List Entry) (h : Holds y o (indexBytes e
   index-entries few fit = ap (λ n. entriesFrom y n (o + indexHeaderLength)) (index-count few) ∙ entries-written y (o + indexHeaderLength) es fit index-run
 
   index-written : length es < 256 ^ 8 → headerLength ≤ o → IndexOk y o
-  unfolding Identified indexBytes indexHeader tag
+  unfolding Identified indexBytes indexHeader
   index-written few low =
       let f : o + length (indexBytes es) ≤ length y = h .fits in
       let l : length (indexBytes es) ≡ indexHeaderLength + entryLength * length es = length-indexBytes es in

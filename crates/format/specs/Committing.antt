@@ -12,7 +12,7 @@ use Rattle.format.specs.declared.Verdict.{Verdict}
 use Rattle.format.specs.declared.Verdict.the-variants.{Passes, Refuses}
 use Rattle.format.specs.Tests.{same, differs, below, atLeast, _or_, _and_, choose}
 use Rattle.format.specs.Refusals.{refusal, row, _then_, firstRefusal}
-use Rattle.format.specs.Layouts.{DBLK, DDT*, CKSM, tag, indexOffset, entries, indexBytes, blockBytes, tableBytes, tableEntryLength, encode}
+use Rattle.format.specs.Layouts.{DBLK, DDT*, CKSM, indexOffset, entries, userDataEntry, indexBytes, blockBytes, tableBytes, tableEntryLength, encode}
 use Rattle.format.specs.Opening.{isType, isUserData, Opened, opened, openVerdict}
 use Rattle.format.specs.Reading.{notWritten, pointerAt, itemBytes, sectorVerdict}
 use Rattle.format.specs.Writing.{largestSize, mostAddresses, bufferVerdict, Outcome, outcome, placed, setHeader}
@@ -177,7 +177,7 @@ newBlock size (i ∷ is) = blockBytes size (flatten (i ∷ is))
 
 unfoldable pub newBlockEntry : ℕ → List (List ℕ) → List Entry
 newBlockEntry block [] = []
-newBlockEntry block (i ∷ is) = record { blockType = tag DBLK; dataType = 1; offset = record { 0 = block } } ∷ []
+newBlockEntry block (i ∷ is) = userDataEntry DBLK block ∷ []
 
 -- ---- "Appended at `used`, without gaps: one data block if anything is stored; a table of the same count; an index."
 pub record Appended : Type 0 where

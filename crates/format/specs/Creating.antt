@@ -8,7 +8,7 @@ use Rattle.format.specs.declared.Entry.{Entry}
 use Rattle.format.specs.declared.Verdict.{Verdict}
 use Rattle.format.specs.Tests.{same, differs, below, _or_}
 use Rattle.format.specs.Refusals.{refusal, row, _then_}
-use Rattle.format.specs.Layouts.{DDT*, tag, headerLength, applicationLength, headerBytes, indexHeaderLength, entryLength, indexBytes, tableHeaderLength, tableEntryLength, tableBytes}
+use Rattle.format.specs.Layouts.{DDT*, headerLength, applicationLength, headerBytes, indexHeaderLength, entryLength, userDataEntry, indexBytes, tableHeaderLength, tableEntryLength, tableBytes}
 use Rattle.format.specs.Writing.{mostSectors, longestBuffer, Outcome, outcome, placed}
 
 -- "a table of E zero entries with shift 0 at 104 .., then an index with that one entry (dataType 1): 189 + 8E bytes"
@@ -19,7 +19,7 @@ unfoldable pub createdUsed : ℕ → ℕ
 createdUsed count = createdIndexAt count + indexHeaderLength + entryLength
 
 abbrev pub createdEntries : List Entry
-createdEntries = record { blockType = tag DDT*; dataType = 1; offset = record { 0 = headerLength } } ∷ []
+createdEntries = userDataEntry DDT* headerLength ∷ []
 
 unfoldable pub createdBytes : ℕ → List ℕ → ℕ → ℕ → ℕ → ℕ → ℕ → List ℕ
 createdBytes count application major minor mediaType creationTime lastWrittenTime =

@@ -1,11 +1,13 @@
--- A header as bytes and the identifiers as numbers, worked out by hand, as a table of tests. proofs/Examples proves that all hold.
-use mathlib.Core.Bool.{Bool}
+-- A header as bytes, the identifiers as bytes and what the tests of them say, worked out by hand, as a table of tests.
+-- proofs/Examples proves that all hold.
+use mathlib.Core.Bool.{Bool, not}
 use mathlib.Core.List.{List, [], _∷_, _++_}
 use Prim.Native.Nat.{ℕ}
 use lib.ListN.{length, replicate}
 use Rattle.fields.specs.Bytes.{field, equal}
 use Rattle.format.specs.Tests.{same}
-use Rattle.format.specs.Layouts.{AARUFRMT, DICMFRMT, IDX2, DBLK, DDT*, CKSM, tag, headerLength, imageMajorAt, indexOffsetAt, lastWrittenAt, headerBytes}
+use Rattle.format.specs.Layouts.{ascii, AARUFRMT, DICMFRMT, IDX2, DBLK, DDT*, CKSM, headerLength, imageMajorAt, indexOffsetAt, lastWrittenAt, headerBytes, entryBytes, userDataEntry}
+use Rattle.format.specs.Opening.{lacks, isType}
 
 -- P1's: a name of 64 bytes, versions 2.0 and 1.2, mediaType 3, indexOffset 177, times 4 and 5
 abbrev pub p1Header : List ℕ
@@ -19,6 +21,14 @@ examples =
     -- what has a name of its own is where it stands in the table of fields
     ∷ same (length p1Header) headerLength ∷ same (field p1Header imageMajorAt 1) 2 ∷ same (field p1Header indexOffsetAt 8) 177
     ∷ same (field p1Header lastWrittenAt 8) 5
-    -- of the identifiers the code and `cases` have the same numbers
-    ∷ same (tag AARUFRMT) 0x544D524655524141 ∷ same (tag DICMFRMT) 0x544D52464D434944 ∷ same (tag IDX2) 0x32584449
-    ∷ same (tag DDT*) 0x2A544444 ∷ same (tag DBLK) 0x4B4C4244 ∷ same (tag CKSM) 0x4D534B43 ∷ []
+    -- the letters' codes
+    ∷ equal AARUFRMT (65 ∷ 65 ∷ 82 ∷ 85 ∷ 70 ∷ 82 ∷ 77 ∷ 84 ∷ []) ∷ equal DICMFRMT (68 ∷ 73 ∷ 67 ∷ 77 ∷ 70 ∷ 82 ∷ 77 ∷ 84 ∷ [])
+    ∷ equal IDX2 (73 ∷ 68 ∷ 88 ∷ 50 ∷ []) ∷ equal DDT* (68 ∷ 68 ∷ 84 ∷ 42 ∷ []) ∷ equal DBLK (68 ∷ 66 ∷ 76 ∷ 75 ∷ [])
+    ∷ equal CKSM (67 ∷ 75 ∷ 83 ∷ 77 ∷ [])
+    -- those letters in that order, at their place; then two exchanged, one changed, one left out, the place wrong
+    ∷ not (lacks (7 ∷ IDX2 ++ (7 ∷ [])) 1 IDX2) ∷ lacks (ascii "IXD2") 0 IDX2 ∷ lacks (ascii "IDX1") 0 IDX2 ∷ lacks (ascii "IDX") 0 IDX2
+    ∷ lacks (7 ∷ IDX2) 0 IDX2
+    -- the same of an entry's blockType, and the entry as it is written
+    ∷ isType DDT* (userDataEntry DDT* 104) ∷ not (isType DDT* (userDataEntry (ascii "DD*T") 104))
+    ∷ not (isType DDT* (userDataEntry (ascii "DDT2") 104)) ∷ not (isType DDT* (userDataEntry (ascii "DDT") 104))
+    ∷ equal (entryBytes (userDataEntry DDT* 104)) (DDT* ++ (1 ∷ 0 ∷ 0 ∷ 0 ∷ 104 ∷ 0 ∷ 0 ∷ 0 ∷ 0 ∷ 0 ∷ 0 ∷ 0 ∷ [])) ∷ []

@@ -5,13 +5,13 @@ use mathlib.Core.Path.{_≡_}
 use Prim.Native.Nat.{ℕ, _+_, _*_, _/_, _%_, _≤_, _<_}
 use lib.ListN.{length}
 use Rattle.crc64.specs.Crc.{crcOf}
-use Rattle.fields.specs.Bytes.{field}
+use Rattle.fields.specs.Bytes.{part, field, toLe}
 use Rattle.format.specs.declared.Entry.{Entry}
-use Rattle.format.specs.Layouts.{AARUFRMT, DICMFRMT, IDX2, tag, headerLength, imageMajorAt, indexHeaderLength, entryCount, indexCrc64, entryLength, entriesPart, blockHeaderLength, blockDataType, blockCompression, sectorSize, blockCmpLength, blockLength, blockCmpCrc64, blockCrc64, blockPayload, tableHeaderLength, tableDataType, tableCompression, tableShift, tableCount, tableCmpLength, tableLength, tableCmpCrc64, tableCrc64, tablePayload, tableEntryLength}
+use Rattle.format.specs.Layouts.{AARUFRMT, DICMFRMT, IDX2, headerLength, imageMajorAt, indexHeaderLength, entryCount, indexCrc64, entryLength, entriesPart, blockHeaderLength, blockDataType, blockCompression, sectorSize, blockCmpLength, blockLength, blockCmpCrc64, blockCrc64, blockPayload, tableHeaderLength, tableDataType, tableCompression, tableShift, tableCount, tableCmpLength, tableLength, tableCmpCrc64, tableCrc64, tablePayload, tableEntryLength}
 
 -- the identifier at a place is this one
 unfoldable pub Identified : List ℕ → ℕ → List ℕ → Type 0
-Identified img at letters = field img at (length letters) ≡ tag letters
+Identified img at letters = part img at (length letters) ≡ letters
 
 -- the header: checks 1 to 3
 pub record HeaderOk (img : List ℕ) : Type 0 where
@@ -35,7 +35,7 @@ pub record EntryOk (img : List ℕ) (e : Entry) : Type 0 where
 
 -- an index entry for this kind of block, of user data
 pub record UserData (letters : List ℕ) (e : Entry) : Type 0 where
-  pub type : e .blockType ≡ tag letters
+  pub type : toLe 4 (e .blockType) ≡ letters
   pub userData : e .dataType ≡ 1
 
 -- the table at t: checks 11 to 14. Its identifier is its index entry's fact

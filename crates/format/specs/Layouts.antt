@@ -3,6 +3,8 @@
 -- `field img (b + 8) 4` is the 4-byte field at 8 of the record that stands at b.
 use mathlib.Core.List.{List, [], _∷_, _++_, map, flatten}
 use Prim.Native.Nat.{ℕ, zero, suc, _+_, _*_, _/_, _%_, _^_}
+use Prim.Native.Char.{code}
+use Prim.Native.String.{String, [] as []ᵗ, _∷_ as _∷ᵗ_}
 use lib.ListN.{length}
 use Rattle.crc64.specs.Crc.{crcOf}
 use Rattle.fields.specs.Bytes.{part, field, fromLe}
@@ -10,26 +12,30 @@ use Rattle.fields.specs.Layout.{num, raw, layout}
 use Rattle.format.specs.declared.Entry.{Entry}
 use Rattle.format.specs.declared.Pointer.{Pointer}
 
--- ---- identifiers, by the codes of their letters
+-- ---- identifiers, by their letters. The bytes of a text in ASCII:
+abbrev pub ascii : String → List ℕ
+ascii []ᵗ = []
+ascii (c ∷ᵗ s) = code c ∷ ascii s
+
 abbrev pub AARUFRMT : List ℕ
-AARUFRMT = 65 ∷ 65 ∷ 82 ∷ 85 ∷ 70 ∷ 82 ∷ 77 ∷ 84 ∷ []
+AARUFRMT = ascii "AARUFRMT"
 
 abbrev pub DICMFRMT : List ℕ
-DICMFRMT = 68 ∷ 73 ∷ 67 ∷ 77 ∷ 70 ∷ 82 ∷ 77 ∷ 84 ∷ []
+DICMFRMT = ascii "DICMFRMT"
 
 abbrev pub IDX2 : List ℕ
-IDX2 = 73 ∷ 68 ∷ 88 ∷ 50 ∷ []
+IDX2 = ascii "IDX2"
 
 abbrev pub DBLK : List ℕ
-DBLK = 68 ∷ 66 ∷ 76 ∷ 75 ∷ []
+DBLK = ascii "DBLK"
 
 abbrev pub DDT* : List ℕ
-DDT* = 68 ∷ 68 ∷ 84 ∷ 42 ∷ []
+DDT* = ascii "DDT*"
 
 abbrev pub CKSM : List ℕ
-CKSM = 67 ∷ 75 ∷ 83 ∷ 77 ∷ []
+CKSM = ascii "CKSM"
 
--- the number that an identifier's letters make
+-- the number that an identifier's letters make, as an index entry has it
 unfoldable pub tag : List ℕ → ℕ
 tag letters = fromLe letters
 
@@ -93,6 +99,10 @@ entriesPart img o = part img (o + indexHeaderLength) (entryLength * entryCount i
 
 unfoldable pub entryBytes : Entry → List ℕ
 entryBytes e = layout (num 4 (e .blockType) ∷ num 4 (e .dataType) ∷ num 8 (e .offset .0) ∷ [])
+
+-- an entry for user data in a block with this identifier
+abbrev pub userDataEntry : List ℕ → ℕ → Entry
+userDataEntry letters offset = record { blockType = tag letters; dataType = 1; offset = record { 0 = offset } }
 
 unfoldable pub indexHeader : ℕ → List ℕ → List ℕ
 indexHeader count payload = layout (raw IDX2 ∷ num 8 count ∷ num 8 (crcOf payload) ∷ [])

@@ -1,21 +1,22 @@
 -- Opening, with o for the index's offset: a rollback checks at the offset that it is handed, all else at the header's.
 -- "All sums are whole numbers. Checks in this order", with 2/13's 104 where 01 says 72.
-use mathlib.Core.Bool.{Bool}
+use mathlib.Core.Bool.{Bool, not}
 use mathlib.Core.List.{List, [], _∷_}
 use Prim.Native.Nat.{ℕ, zero, suc, _+_, _*_}
 use lib.ListN.{length, getD}
 use Rattle.crc64.specs.Crc.{crcOf}
-use Rattle.fields.specs.Bytes.{field}
+use Rattle.fields.specs.Bytes.{part, field, toLe, equal}
 use Rattle.format.specs.declared.Entry.{Entry}
 use Rattle.format.specs.declared.Verdict.{Verdict}
 use Rattle.format.specs.declared.Verdict.the-variants.{Passes, Refuses}
 use Rattle.format.specs.Tests.{same, differs, below, _or_, _and_, choose}
 use Rattle.format.specs.Refusals.{refusal, row, _then_, Answer, answer}
-use Rattle.format.specs.Layouts.{AARUFRMT, DICMFRMT, IDX2, DDT*, tag, headerLength, imageMajorAt, indexOffset, indexHeaderLength, entryCount, indexCrc64, entryLength, entryAt, entries, entriesPart, tableHeaderLength, tableEntryLength, tableDataType, tableCompression, tableShift, tableCount, tableCmpLength, tableLength, tableCmpCrc64, tableCrc64, tablePayload}
+use Rattle.format.specs.Layouts.{AARUFRMT, DICMFRMT, IDX2, DDT*, headerLength, imageMajorAt, indexOffset, indexHeaderLength, entryCount, indexCrc64, entryLength, entryAt, entries, entriesPart, tableHeaderLength, tableEntryLength, tableDataType, tableCompression, tableShift, tableCount, tableCmpLength, tableLength, tableCmpCrc64, tableCrc64, tablePayload}
 
+-- 6/13: "test each block's identifier against its printed letters: the test says yes exactly if the bytes are those letters in that order."
 -- the identifier at a place is not this one
 unfoldable pub lacks : List ℕ → ℕ → List ℕ → Bool
-lacks img at letters = differs (field img at (length letters)) (tag letters)
+lacks img at letters = not (equal (part img at (length letters)) letters)
 
 -- 1. "`used` below 104: 1. Identifier neither 'AARUFRMT' nor 'DICMFRMT': 2. Image major not 2: 3 (minor is not looked at)."
 unfoldable pub headerVerdict : List ℕ → Verdict
@@ -46,9 +47,9 @@ entriesVerdict img zero p = Passes
 entriesVerdict img (suc k) p = entryVerdict img p then entriesVerdict img k (p + entryLength)
 
 -- 4. "Entries with blockType 'DDT*' and dataType 1: none is 9, more than one is 10."
--- an entry for this kind of block
+-- an entry for this kind of block: the four bytes of its blockType are these letters
 unfoldable pub isType : List ℕ → Entry → Bool
-isType letters e = same (e .blockType) (tag letters)
+isType letters e = equal (toLe 4 (e .blockType)) letters
 
 -- an entry for this kind of block, of user data (dataType 1)
 unfoldable pub isUserData : List ℕ → Entry → Bool

@@ -11,6 +11,9 @@ use super::script::CRC;
 use super::script::FRESH;
 use super::script::SET;
 use super::script::run;
+use printing::letters::DBLK;
+use printing::letters::DDT;
+use printing::letters::IDX2;
 
 // Where the records of the second commit are; address 1 lies in its block, 0 and 2 in the first one's.
 const BLOCK: u64 = 382;
@@ -20,9 +23,9 @@ const TABLE: u64 = 422;
 // An index made by hand, behind the image, and the first halves of its entries.
 const INDEX: u64 = 563;
 
-const DDT: u64 = 0x1_2a54_4444; // 'DDT*', dataType 1
+const TABLE_TYPE: u64 = DDT + (1 << 32); // dataType 1
 
-const DBLK: u64 = 0x1_4b4c_4244; // 'DBLK', dataType 1
+const BLOCK_TYPE: u64 = DBLK + (1 << 32);
 
 const ROWS: [[u64; 5]; 52] = [
     [FRESH, 900, 0, 0, 0],
@@ -61,15 +64,15 @@ const ROWS: [[u64; 5]; 52] = [
     [COMMIT, 563, NONE, 4, 8],
     [SET, BLOCK + 12, 4, 4, 0], // cmpLength
     [CRC, BLOCK + 28, BLOCK + 36, 4, 0],
-    [SET, INDEX, 4, 0x3258_4449, 0], // IDX2
+    [SET, INDEX, 4, IDX2, 0], // identifier
     [SET, INDEX + 4, 8, 4, 0], // entries
-    [SET, INDEX + 20, 8, DBLK, 0],
+    [SET, INDEX + 20, 8, BLOCK_TYPE, 0],
     [SET, INDEX + 28, 8, BLOCK, 0],
-    [SET, INDEX + 36, 8, DDT, 0],
+    [SET, INDEX + 36, 8, TABLE_TYPE, 0],
     [SET, INDEX + 44, 8, TABLE, 0],
-    [SET, INDEX + 52, 8, DBLK, 0],
+    [SET, INDEX + 52, 8, BLOCK_TYPE, 0],
     [SET, INDEX + 60, 8, BLOCK, 0],
-    [SET, INDEX + 68, 8, DBLK, 0],
+    [SET, INDEX + 68, 8, BLOCK_TYPE, 0],
     [SET, INDEX + 76, 8, 213, 0],
     [CRC, INDEX + 12, INDEX + 20, 64, 0],
     [ROLLBACK, 647, INDEX, 9, 0],

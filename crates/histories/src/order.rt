@@ -20,6 +20,9 @@ use super::script::CRC;
 use super::script::FRESH;
 use super::script::SET;
 use super::script::run;
+use printing::letters::AARUFRMT;
+use printing::letters::AARUFRMX;
+use printing::letters::DBLK;
 
 // Where the records of P2 are.
 const BLOCK: u64 = 213;
@@ -27,11 +30,6 @@ const BLOCK: u64 = 213;
 const TABLE: u64 = 257;
 
 const INDEX: u64 = 330;
-
-// Letters, as numbers.
-const AARU: u64 = 0x544d_5246_5552_4141; // AARUFRMT
-
-const AARX: u64 = 0x584d_5246_5552_4141; // AARUFRMX
 
 const ARGUMENT_ROWS: [[u64; 5]; 32] = [
     // creating
@@ -173,13 +171,13 @@ const ROLLBACK_ROWS: [[u64; 5]; 39] = [
     [ROLLBACK, 381, INDEX, 7, 0],
     [ROLLBACK, 382, 331, 7, 0],
     [ROLLBACK, 382, 104, 7, 0],
-    [SET, 0, 8, AARX, 0], // identifier
+    [SET, 0, 8, AARUFRMX, 0], // identifier
     [ROLLBACK, 103, 103, 7, 0],
     [SET, 72, 1, 3, 0], // image major
     [ROLLBACK, 382, INDEX, 7, 0],
     [SET, 72, 1, 2, 0], // image major
     [ROLLBACK, 382, 103, 7, 0],
-    [SET, 0, 8, AARU, 0], // identifier
+    [SET, 0, 8, AARUFRMT, 0], // identifier
     [SET, 72, 1, 3, 0], // image major
     [ROLLBACK, 382, 103, 7, 0],
     [SET, 72, 1, 2, 0], // image major
@@ -190,7 +188,7 @@ const ROLLBACK_ROWS: [[u64; 5]; 39] = [
     [CRC, INDEX + 12, INDEX + 20, 32, 0],
     [SET, BLOCK, 1, 0x58, 0], // XBLK
     [ROLLBACK, 382, INDEX, 8, 0],
-    [SET, BLOCK, 1, 0x44, 0], // DBLK
+    [SET, BLOCK, 4, DBLK, 0], // identifier
     [SET, TABLE + 41, 8, 0, 0], // crc64
     [ROLLBACK, 382, INDEX, 8, 0],
     [CRC, TABLE + 41, TABLE + 49, 24, 0],

@@ -14,24 +14,18 @@ use super::script::CRC;
 use super::script::FRESH;
 use super::script::SET;
 use super::script::run;
-
-// Letters, as numbers.
-const DICM: u64 = 0x544d_5246_4d43_4944; // DICMFRMT
-
-const IDX: u64 = 0x3258_4449; // IDX2
-
-const DDT: u64 = 0x2a54_4444; // DDT*
-
-const CKSM: u64 = 0x4d53_4b43;
-
-const NOTE: u64 = 0x4554_4f4e;
+use printing::letters::CKSM;
+use printing::letters::DDT;
+use printing::letters::DICMFRMT;
+use printing::letters::IDX2;
+use printing::letters::NOTE;
 
 const ROWS: [[u64; 5]; 52] = [
     // an index of CKSM, NOTE, the table, CKSM and a 'DDT*' of dataType 2
     [CREATE, 3, 64, 4, 5],
     [SET, 213, 4, CKSM, 0],
     [SET, 217, 4, NOTE, 0],
-    [SET, 221, 4, IDX, 0],
+    [SET, 221, 4, IDX2, 0],
     [SET, 225, 8, 5, 0], // entries
     [SET, 241, 4, CKSM, 0],
     [SET, 245, 4, 0, 0],
@@ -71,7 +65,7 @@ const ROWS: [[u64; 5]; 52] = [
     [DISC, 382, 0, 0, 0],
     [COMMIT, 382, AT_1, 4, 7],
     [TABLE, 382, 0, 0, 0],
-    [SET, 0, 8, DICM, 0], // identifier
+    [SET, 0, 8, DICMFRMT, 0], // identifier
     [SET, 73, 1, 7, 0], // image minor
     [COMMIT, 507, NONE, 4, 8],
     [BYTES, 0, 104, 0, 0],

@@ -5,14 +5,16 @@ ghost use mathlib.Core.List.{List, _∷_};
 ghost use mathlib.Core.Path.{_≡_};
 ghost use Prim.Native.Nat.{ℕ, _+_, _*_, _≤_};
 ghost use lib.ListN.{length};
-ghost use Rattle.format.specs.Tests.{same, differs, _and_, choose};
+ghost use Rattle.format.specs.Tests.{_and_, choose};
 ghost use Rattle.format.specs.Refusals.{answer};
-ghost use Rattle.format.specs.Layouts.{AARUFRMT, DICMFRMT, DDT*, tag, indexHeaderLength, entryCount, entryLength, entryAt};
-ghost use Rattle.format.specs.Opening.{headerVerdict, indexVerdict, entryVerdict, isUserData, tableAt};
+ghost use Rattle.format.specs.Layouts.{AARUFRMT, DICMFRMT, DDT*, indexHeaderLength, entryCount, entryLength, entryAt};
+ghost use Rattle.format.specs.Opening.{lacks, headerVerdict, indexVerdict, entryVerdict, isType, isUserData, tableAt};
 ghost use Rattle.index.specs.Tables.{namedVerdict, oneAnswer, before, onlyOne};
 use crc64::checksum;
 use fields::get;
+use fields::matches;
 use fields::part;
+use fields::put;
 use fields::room;
 use format::ByteOffset;
 use format::Entry;
@@ -20,15 +22,6 @@ use format::HEADER_LENGTH;
 use format::IMAGE_MAJOR;
 use format::Refusal;
 use format::Verdict;
-
-// The identifiers, as the numbers that their letters make.
-const AARUFRMT: u64 = 0x544d_5246_5552_4141;
-
-const DICMFRMT: u64 = 0x544d_5246_4d43_4944;
-
-const IDX2: u64 = 0x3258_4449;
-
-const DDT: u64 = 0x2a54_4444;
 
 // The tables among the index entries seen so far.
 enum Tables {
@@ -43,14 +36,15 @@ pub enum Named {
     Refused(Refusal),
 }
 
-// The identifier is neither of the two that a header may have.
-fn unknown(identifier: u64) -> bool
-    ensures { λ r. ⌜ r ≡ (differs identifier (tag AARUFRMT) and differs identifier (tag DICMFRMT)) ⌝ }
+// The image begins with neither of the two identifiers that a header may have.
+fn unknown(s: &[u8]) -> bool
+    requires { ⌜ 8 ≤ length (now s) ⌝ }
+    ensures { λ r. ⌜ r ≡ (lacks (now (s .entry)) 0 AARUFRMT and lacks (now (s .entry)) 0 DICMFRMT) ⌝ }
 {
-    if identifier == AARUFRMT {
+    if matches(s, 0, b"AARUFRMT") {
         return false;
     }
-    if identifier == DICMFRMT {
+    if matches(s, 0, b"DICMFRMT") {
         return false;
     }
     true
@@ -64,7 +58,7 @@ pub fn header_verdict(s: &[u8]) -> Verdict
     if (s.len() as u64) < HEADER_LENGTH {
         return Verdict::Refuses(Refusal { number: 1, place });
     }
-    if unknown(get(s, 0, 8)) {
+    if unknown(s) {
         return Verdict::Refuses(Refusal { number: 2, place });
     }
     if get(s, IMAGE_MAJOR, 1) != 2 {
@@ -85,7 +79,7 @@ pub fn index_verdict(s: &[u8], o: ByteOffset) -> Verdict
     if room(s, index) < 20 {
         return Verdict::Refuses(Refusal { number: 4, place });
     }
-    if get(s, index, 4) != IDX2 {
+    if !matches(s, index, b"IDX2") {
         return Verdict::Refuses(Refusal { number: 5, place });
     }
     let entries = get(s, index + 4, 8);
@@ -134,11 +128,20 @@ fn entry_verdict(s: &[u8], p: ByteOffset, e: Entry) -> Verdict
     Verdict::Passes
 }
 
-// The entry is for this kind of block, of user data.
-pub fn is_user_data(e: Entry, blockType: u64) -> bool
-    ensures { λ r. ⌜ r ≡ (same (e .blockType) blockType and same (e .dataType) 1) ⌝ }
+// The entry is for this kind of block: the four bytes of its blockType are these letters.
+pub fn is_type(e: Entry, letters: &[u8; 4]) -> bool
+    ensures { λ r. ⌜ r ≡ isType (now (letters .entry)) e ⌝ }
 {
-    if e.blockType != blockType {
+    let mut bytes = [0; 4];
+    put(&mut bytes, 0, 4, e.blockType);
+    matches(&bytes, 0, letters)
+}
+
+// The entry is for this kind of block, of user data.
+pub fn is_user_data(e: Entry, letters: &[u8; 4]) -> bool
+    ensures { λ r. ⌜ r ≡ isUserData (now (letters .entry)) e ⌝ }
+{
+    if !is_type(e, letters) {
         return false;
     }
     if e.dataType != 1 {
@@ -151,7 +154,7 @@ pub fn is_user_data(e: Entry, blockType: u64) -> bool
 fn with_entry(seen: Tables, e: Entry) -> Tables
     ensures { λ r. ⌜ ((o : ℕ) (l : List ℕ) → oneAnswer o (before r l) ≡ oneAnswer o (before seen (choose (isUserData DDT* e) (e .offset .0 ∷ l) l))) ⌝ }
 {
-    if is_user_data(e, DDT) {
+    if is_user_data(e, b"DDT*") {
         let offset = e.offset;
         return match seen {
             Tables::None => Tables::One(offset),

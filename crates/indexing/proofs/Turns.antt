@@ -1,39 +1,31 @@
 -- The loops over the old entries, with `left` of them from place p on: what those that are left give with what was done, and what all give.
 use mathlib.Core.List.{List, [], _∷_, flatten}
-use mathlib.Core.Logic.{_≢_}
+use mathlib.Core.Bool.{true, false}
 use mathlib.Core.Path.{_≡_, refl, sym, ap, _∙_}
 use Prim.Native.Nat.{ℕ, _+_, _-_, _*_, _≤_, _<_}
 use native.Mathlib.Omega.{arith}
 use lib.ListN.{length, take}
-use Rattle.fields.specs.Bytes.{part, fromLe, overwrite}
+use Rattle.fields.specs.Bytes.{part, overwrite}
 use Rattle.fields.proofs.Overwrite.{length-overwrite, overwrite-then, take-overwrite, written}
 use Rattle.format.specs.declared.Entry.{Entry}
-use Rattle.format.specs.Layouts.{CKSM, tag, indexHeaderLength, entryLength, entryCount, entryAt, entriesFrom, entries, entryBytes}
+use Rattle.format.specs.Layouts.{CKSM, indexHeaderLength, entryLength, entryCount, entryAt, entriesFrom, entries, entryBytes}
+use Rattle.format.specs.Opening.{isType}
 use Rattle.format.specs.Committing.{keptEntry, keptEntries}
 use Rattle.format.proofs.Tests.{choose-true, choose-false}
-use Rattle.format.proofs.Named.{type-true, type-false}
 use Rattle.format.proofs.Written.{length-entryBytes}
 use Rattle.index.proofs.Entries.{entries-next, entries-done}
 use Rattle.indexing.specs.Entries.{entriesBytes}
 
--- 'CKSM' as the code has it
-abbrev checksumBlock : ℕ
-checksumBlock = 0x4d53_4b43
-
-is-checksumBlock : checksumBlock ≡ tag CKSM
-unfolding tag fromLe
-is-checksumBlock = refl
-
 -- ---- one entry
 module _ (table : ℕ) (img : List ℕ) (left p : ℕ) (h : 0 < left) where
-  kept-skips : entryAt img p .blockType ≡ checksumBlock → keptEntries table (entriesFrom img left p) ≡ keptEntries table (entriesFrom img (left - 1) (p + entryLength))
+  kept-skips : isType CKSM (entryAt img p) ≡ true → keptEntries table (entriesFrom img left p) ≡ keptEntries table (entriesFrom img (left - 1) (p + entryLength))
   unfolding keptEntries
-  kept-skips e = ap (keptEntries table) (entries-next img left p h) ∙ choose-true _ _ _ (type-true CKSM (entryAt img p) (e ∙ is-checksumBlock))
+  kept-skips e = ap (keptEntries table) (entries-next img left p h) ∙ choose-true _ _ _ e
 
-  kept-keeps : entryAt img p .blockType ≢ checksumBlock
+  kept-keeps : isType CKSM (entryAt img p) ≡ false
       → keptEntries table (entriesFrom img left p) ≡ keptEntry table (entryAt img p) ∷ keptEntries table (entriesFrom img (left - 1) (p + entryLength))
   unfolding keptEntries
-  kept-keeps e = ap (keptEntries table) (entries-next img left p h) ∙ choose-false _ _ _ (type-false CKSM (entryAt img p) (λ z. e (z ∙ sym is-checksumBlock)))
+  kept-keeps e = ap (keptEntries table) (entries-next img left p h) ∙ choose-false _ _ _ e
 
 kept-done : (table : ℕ) (img : List ℕ) (left p : ℕ) → left ≤ 0 → keptEntries table (entriesFrom img left p) ≡ []
 unfolding keptEntries
@@ -52,11 +44,11 @@ count-starts s o left e h =
     record { inside = omega arith; few = omega arith; sum = λ table. rw e (omega arith) }
 
 module _ {s : List ℕ} {o left p kept : ℕ} (c : Counting s o left p kept) where
-  pub count-skips : 0 < left → entryAt s p .blockType ≡ checksumBlock → Counting s o (left - 1) (p + entryLength) kept
+  pub count-skips : 0 < left → isType CKSM (entryAt s p) ≡ true → Counting s o (left - 1) (p + entryLength) kept
   count-skips h e =
       record { inside = omega arith; few = omega arith; sum = λ table. ap (λ (l : List Entry). kept + length l) (sym (kept-skips table s left p h e)) ∙ c .sum table }
 
-  pub count-keeps : 0 < left → entryAt s p .blockType ≢ checksumBlock → Counting s o (left - 1) (p + entryLength) (kept + 1)
+  pub count-keeps : 0 < left → isType CKSM (entryAt s p) ≡ false → Counting s o (left - 1) (p + entryLength) (kept + 1)
   count-keeps h e =
       record {
         inside = omega arith;
@@ -91,9 +83,9 @@ module _ {buf₀ : List ℕ} {used table o at : ℕ} {buf : List ℕ} {left p q 
   unfolding part
   same-entry = read ∙ ap (λ (l : List ℕ). entryAt l p) (c .image)
 
-  pub put-skips : e .blockType ≡ checksumBlock → Putting buf₀ used table o at buf (left - 1) (p + entryLength) q
+  pub put-skips : isType CKSM e ≡ true → Putting buf₀ used table o at buf (left - 1) (p + entryLength) q
   put-skips k =
-      let n = kept-skips table (take used buf₀) left p h (ap (λ (x : Entry). x .blockType) (sym same-entry) ∙ k) in
+      let n = kept-skips table (take used buf₀) left p h (ap (isType CKSM) (sym same-entry) ∙ k) in
       record {
         inside = omega (arith, c .inside);
         past = c .past;
@@ -103,14 +95,14 @@ module _ {buf₀ : List ℕ} {used table o at : ℕ} {buf : List ℕ} {left p q 
         rest = rw (← n) (c .rest);
       }
 
-  keeps : e .blockType ≢ checksumBlock → keptEntries table (entriesFrom (take used buf₀) left p)
+  keeps : isType CKSM e ≡ false → keptEntries table (entriesFrom (take used buf₀) left p)
       ≡ keptEntry table e ∷ keptEntries table (entriesFrom (take used buf₀) (left - 1) (p + entryLength))
-  keeps k = rw same-entry (kept-keeps table (take used buf₀) left p h (λ z. k (ap (λ (x : Entry). x .blockType) same-entry ∙ z)))
+  keeps k = rw same-entry (kept-keeps table (take used buf₀) left p h (ap (isType CKSM) (sym same-entry) ∙ k))
 
-  pub put-room : e .blockType ≢ checksumBlock → q + entryLength ≤ length buf
+  pub put-room : isType CKSM e ≡ false → q + entryLength ≤ length buf
   put-room k = omega (arith, ap length (keeps k), c .room, c .long)
 
-  pub put-keeps : {x : Entry} {after : List ℕ} → e .blockType ≢ checksumBlock → x ≡ keptEntry table e → after ≡ overwrite buf q (entryBytes x)
+  pub put-keeps : {x : Entry} {after : List ℕ} → isType CKSM e ≡ false → x ≡ keptEntry table e → after ≡ overwrite buf q (entryBytes x)
       → Putting buf₀ used table o at after (left - 1) (p + entryLength) (q + entryLength)
   unfolding entriesBytes flatten
   put-keeps {x} {after} k ex w =

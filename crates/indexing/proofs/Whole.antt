@@ -5,10 +5,10 @@ use mathlib.Core.Path.{_≡_, refl, sym, ap, _∙_}
 use Prim.Native.Nat.{ℕ, zero, suc, _+_, _*_, _≤_}
 use native.Mathlib.Omega.{arith}
 use lib.ListN.{length, take, length-append, length-take}
-use Rattle.fields.specs.Bytes.{part, fromLe, overwrite}
+use Rattle.fields.specs.Bytes.{part, overwrite}
 use Rattle.fields.proofs.Overwrite.{overwrite-then, overwrite-nil}
 use Rattle.format.specs.declared.Entry.{Entry}
-use Rattle.format.specs.Layouts.{tag, indexHeaderLength, entryLength, entryBytes, entries, indexHeader, indexBytes}
+use Rattle.format.specs.Layouts.{DBLK, indexHeaderLength, entryLength, entryBytes, userDataEntry, entries, indexHeader, indexBytes}
 use Rattle.format.specs.Committing.{keptEntries}
 use Rattle.format.proofs.Written.{length-entriesBytes, length-indexHeader}
 use Rattle.records.proofs.Sealed.{sealed}
@@ -20,11 +20,8 @@ entriesBytes-append [] b = refl
 entriesBytes-append (e ∷ a) b = ap (λ (l : List ℕ). entryBytes e ++ l) (entriesBytes-append a b) ∙ sym (append-assoc (entryBytes e) (entriesBytes a) (entriesBytes b))
 
 -- ---- the new block's entry
-abbrev entryOf : ℕ → Entry
-entryOf block = record { blockType = 0x4b4c_4244; dataType = 1; offset = record { 0 = block } }
-
-block-one : (block stored : ℕ) → stored ≢ 0 → blockEntry block stored ≡ entryOf block ∷ []
-unfolding blockEntry tag fromLe
+block-one : (block stored : ℕ) → stored ≢ 0 → blockEntry block stored ≡ userDataEntry DBLK block ∷ []
+unfolding blockEntry
 block-one block zero h = absurd (h refl)
 block-one block (suc n) h = refl
 
@@ -36,10 +33,10 @@ pub wrote-none : (s : List ℕ) (at block stored : ℕ) → stored ≡ 0
 unfolding blockEntry entriesBytes flatten
 wrote-none s at block stored h = rw h (refl, sym (overwrite-nil s at))
 
-pub wrote-one : (s : List ℕ) (at block stored : ℕ) (after : List ℕ) → stored ≢ 0 → after ≡ overwrite s at (entryBytes (entryOf block))
+pub wrote-one : (s : List ℕ) (at block stored : ℕ) (after : List ℕ) → stored ≢ 0 → after ≡ overwrite s at (entryBytes (userDataEntry DBLK block))
     → (1 ≡ length (blockEntry block stored)) × (after ≡ overwrite s at (entriesBytes (blockEntry block stored)))
 unfolding entriesBytes flatten
-wrote-one s at block stored after h e = rw (block-one block stored h) (refl, e ∙ ap (overwrite s at) (sym (append-nil (entryBytes (entryOf block)))))
+wrote-one s at block stored after h e = rw (block-one block stored h) (refl, e ∙ ap (overwrite s at) (sym (append-nil (entryBytes (userDataEntry DBLK block)))))
 
 -- ---- the whole index
 -- kept entries, then the new block's, then the header

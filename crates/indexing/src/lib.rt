@@ -6,7 +6,8 @@ ghost use mathlib.Core.Path.{_≡_};
 ghost use Prim.Native.Nat.{ℕ, _+_, _*_, _≤_, _<_};
 ghost use lib.ListN.{length, take};
 ghost use Rattle.fields.specs.Bytes.{overwrite};
-ghost use Rattle.format.specs.Layouts.{indexHeaderLength, entryLength, entryCount, entries, indexBytes};
+ghost use Rattle.format.specs.Layouts.{CKSM, indexHeaderLength, entryLength, entryCount, entries, indexBytes};
+ghost use Rattle.format.specs.Opening.{isType};
 ghost use Rattle.format.specs.Committing.{keptEntry, keptEntries};
 ghost use Rattle.indexing.specs.Entries.{blockEntry, newEntries, Indexes, entriesBytes};
 use fields::get;
@@ -15,18 +16,11 @@ use format::ByteOffset;
 use format::Entry;
 use index::entry;
 
-// Identifiers, as the numbers that their letters make.
-const CHECKSUM_BLOCK: u64 = 0x4d53_4b43;
-
-const TABLE: u64 = 0x2a54_4444;
-
-const DATA_BLOCK: u64 = 0x4b4c_4244;
-
 // An old entry as the new index has it, with the new table at `table`.
 fn kept_entry(e: Entry, table: ByteOffset) -> Entry
     ensures { λ r. ⌜ r ≡ keptEntry (table .0) e ⌝ }
 {
-    if index::is_user_data(e, TABLE) {
+    if index::is_user_data(e, b"DDT*") {
         return Entry {
             blockType: e.blockType,
             dataType: e.dataType,
@@ -34,6 +28,13 @@ fn kept_entry(e: Entry, table: ByteOffset) -> Entry
         };
     }
     e
+}
+
+// The entry is for a block of checksums, which the new index leaves out.
+fn is_checksums(e: Entry) -> bool
+    ensures { λ r. ⌜ r ≡ isType CKSM e ⌝ }
+{
+    index::is_type(e, b"CKSM")
 }
 
 // How many entries of the index at o the new index keeps, wherever the new table is.
@@ -47,10 +48,10 @@ pub fn count_kept(s: &[u8], o: ByteOffset) -> u64
     let mut kept: u64 = 0;
     // an iteration for each old entry
     while 0 < rest {
-        let blockType = get(s, p, 4);
+        let e = entry(s, ByteOffset(p));
         p += 16;
         rest -= 1;
-        if blockType != CHECKSUM_BLOCK {
+        if !is_checksums(e) {
             kept += 1;
         }
     }
@@ -72,7 +73,7 @@ fn put_kept(buf: &mut [u8], used: u64, o: ByteOffset, at: ByteOffset, table: Byt
         let e = entry(part(buf, 0, used), ByteOffset(p));
         p += 16;
         left -= 1;
-        if e.blockType != CHECKSUM_BLOCK {
+        if !is_checksums(e) {
             records::put_entry(buf, ByteOffset(q), kept_entry(e, table));
             q += 16;
         }
@@ -87,15 +88,7 @@ fn put_block_entry(buf: &mut [u8], at: ByteOffset, block: ByteOffset, stored: u6
     if stored == 0 {
         return 0;
     }
-    records::put_entry(
-        buf,
-        at,
-        Entry {
-            blockType: DATA_BLOCK,
-            dataType: 1,
-            offset: block,
-        },
-    );
+    records::put_entry(buf, at, records::user_data_entry(b"DBLK", block));
     1
 }
 

@@ -1,10 +1,12 @@
-// Internal: what the programs that run cases print, on standard output.
+// Internal: what the programs that run cases print, on standard output; and letters, as their rows of numbers have them.
 ghost use Prim.Native.Nat.{_≤_};
 ghost use lib.ListN.{length};
 use format::Counted;
 use format::Located;
 use format::Refusal;
 use libc::STDOUT_FILENO;
+
+pub mod letters;
 
 pub fn text(s: &[u8]) {
     io::write_all(STDOUT_FILENO, s);

@@ -4,10 +4,10 @@ use mathlib.Core.Path.{_≡_, sym, ap, _∙_}
 use Prim.Native.Nat.{ℕ, _+_, _*_, _≤_}
 use native.Mathlib.Omega.{arith}
 use lib.ListN.{length, replicate, length-replicate}
-use Rattle.fields.specs.Bytes.{part, fromLe, overwrite}
+use Rattle.fields.specs.Bytes.{part, overwrite}
 use Rattle.fields.proofs.Overwrite.{length-overwrite, overwrite-then}
 use Rattle.format.specs.declared.Entry.{Entry}
-use Rattle.format.specs.Layouts.{tag, applicationLength, headerLength, headerBytes, entryLength, entryBytes, indexHeaderLength, indexHeader, indexBytes, tableHeaderLength, tableHeader, tableEntryLength, tableBytes}
+use Rattle.format.specs.Layouts.{DDT*, applicationLength, headerLength, headerBytes, entryLength, entryBytes, userDataEntry, indexHeaderLength, indexHeader, indexBytes, tableHeaderLength, tableHeader, tableEntryLength, tableBytes}
 use Rattle.format.specs.Creating.{createdIndexAt, createdUsed, createdEntries, createdBytes}
 use Rattle.format.proofs.Written.{length-headerBytes, length-entryBytes, length-tableHeader, length-tableBytes, length-indexHeader}
 use Rattle.records.proofs.Sealed.{sealed}
@@ -36,10 +36,10 @@ pub created-image : (s : List ℕ) (count : ℕ) (application : List ℕ) (major
     → s1 ≡ overwrite s 0 (headerBytes application major minor mediaType (createdIndexAt count) created written)
     → s2 ≡ overwrite s1 (headerLength + tableHeaderLength) (replicate (tableEntryLength * count) 0)
     → s3 ≡ overwrite s2 headerLength (tableHeader 0 count (part s2 (headerLength + tableHeaderLength) (tableEntryLength * count)))
-    → s4 ≡ overwrite s3 (createdIndexAt count + indexHeaderLength) (entryBytes (record { blockType = 0x2a544444; dataType = 1; offset = record { 0 = headerLength } }))
+    → s4 ≡ overwrite s3 (createdIndexAt count + indexHeaderLength) (entryBytes (userDataEntry DDT* headerLength))
     → s5 ≡ overwrite s4 (createdIndexAt count) (indexHeader 1 (part s4 (createdIndexAt count + indexHeaderLength) (entryLength * 1)))
     → s5 ≡ overwrite s 0 (createdBytes count application major minor mediaType created written)
-unfolding createdUsed createdIndexAt createdBytes tag fromLe
+unfolding createdUsed createdIndexAt createdBytes
 created-image s count application major minor mediaType created written s1 s2 s3 s4 s5 h e1 e2 e3 e4 e5 =
     let header : List ℕ = headerBytes application major minor mediaType (createdIndexAt count) created written in
     let table : List ℕ = tableBytes 0 count (replicate (tableEntryLength * count) 0) in

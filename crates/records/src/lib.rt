@@ -8,12 +8,13 @@ ghost use Prim.Native.Nat.{_+_, _*_, _≤_};
 ghost use lib.ListN.{length};
 ghost use Rattle.fields.specs.Bytes.{part, overwrite};
 ghost use Rattle.fields.specs.Layout.{num, raw, layout};
-ghost use Rattle.format.specs.Layouts.{headerLength, applicationLength, imageMajorAt, headerBytes, entryBytes, indexHeader, blockHeader, tableHeader};
+ghost use Rattle.format.specs.Layouts.{headerLength, applicationLength, imageMajorAt, headerBytes, entryBytes, userDataEntry, indexHeader, blockHeader, tableHeader};
 ghost use Rattle.format.specs.Writing.{setHeader};
 ghost use Rattle.format.specs.Creating.{createdUsed, createdBytes};
 use crc64::checksum;
 use fields::clear;
 use fields::copy;
+use fields::get;
 use fields::part;
 use fields::put;
 use format::APPLICATION;
@@ -101,6 +102,18 @@ pub fn put_entry(buf: &mut [u8], at: ByteOffset, e: Entry)
     put(buf, p + 8, 8, offset.0);
 }
 
+// An index entry for user data in a block with this identifier.
+pub fn user_data_entry(letters: &[u8; 4], offset: ByteOffset) -> Entry
+    ensures { λ r. ⌜ r ≡ userDataEntry (now (letters .entry)) (offset .0) ⌝ }
+{
+    let blockType = get(letters, 0, 4);
+    Entry {
+        blockType,
+        dataType: 1,
+        offset,
+    }
+}
+
 // The header's versions and mediaType: those of the image are 2.0.
 fn put_versions(buf: &mut [u8], major: u8, minor: u8, mediaType: u32)
     requires { ⌜ imageMajorAt + 8 ≤ length (now buf) ⌝ }
@@ -171,14 +184,7 @@ pub fn put_image(
     );
     clear(buf, CREATED_ENTRIES, 8 * count);
     seal_table(buf, ByteOffset(HEADER_LENGTH), 0, count);
-    put_entry(
-        buf,
-        ByteOffset(index + 20),
-        Entry {
-            blockType: 0x2a54_4444,
-            dataType: 1,
-            offset: ByteOffset(HEADER_LENGTH),
-        },
-    );
+    let e = user_data_entry(b"DDT*", ByteOffset(HEADER_LENGTH));
+    put_entry(buf, ByteOffset(index + 20), e);
     seal_index(buf, ByteOffset(index), 1);
 }

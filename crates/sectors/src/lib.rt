@@ -31,9 +31,6 @@ use index::is_user_data;
 use opening::Image;
 use opening::Opened;
 
-// The identifier 'DBLK', as the number that its letters make.
-const DATA_BLOCK: u64 = 0x4b4c_4244;
-
 // What finding a sector answers: its block and item.
 enum Found {
     At(Pointer),
@@ -56,9 +53,10 @@ pub struct Near {
 fn names_block(e: Entry, b: ByteOffset) -> bool
     ensures { λ r. ⌜ r ≡ (isUserData DBLK e and same (e .offset .0) (b .0)) ⌝ }
 {
-    if is_user_data(e, DATA_BLOCK) {
-        let offset = e.offset;
-        if offset.0 == b.0 {
+    // the offset first, in which most entries differ
+    let offset = e.offset;
+    if offset.0 == b.0 {
+        if is_user_data(e, b"DBLK") {
             return true;
         }
     }

@@ -4,13 +4,12 @@ use mathlib.Core.List.{List, [], _∷_, _++_, map}
 use Prim.Native.Nat.{ℕ}
 use lib.ListN.{length, take, replicate}
 use Rattle.crc64.specs.Crc.{crcOf}
-use Rattle.fields.specs.Bytes.{field, toLe, overwrite, equal}
-use Rattle.format.specs.declared.Entry.{Entry}
+use Rattle.fields.specs.Bytes.{part, field, toLe, overwrite, equal}
 use Rattle.format.specs.declared.Place.{Place}
 use Rattle.format.specs.declared.Placed.{Placed}
 use Rattle.format.specs.Tests.{same, _and_}
 use Rattle.format.specs.Refusals.{Answer, refused, accepted}
-use Rattle.format.specs.Layouts.{DBLK, DDT*, tag, indexOffset, headerBytes, indexBytes, blockBytes, tableBytes, decode}
+use Rattle.format.specs.Layouts.{ascii, DBLK, DDT*, indexOffset, headerBytes, userDataEntry, indexBytes, blockBytes, tableBytes, decode}
 use Rattle.format.specs.Opening.{opening, opened}
 use Rattle.format.specs.Reading.{tableEntry, read, locate}
 use Rattle.format.specs.Creating.{create}
@@ -46,14 +45,10 @@ hasTable img place shift es =
     and equal (tableEntry img t 0 ∷ tableEntry img t 1 ∷ tableEntry img t 2 ∷ []) es
 
 abbrev AAAA : List ℕ
-AAAA = 65 ∷ 65 ∷ 65 ∷ 65 ∷ []
+AAAA = ascii "AAAA"
 
 abbrev BBBB : List ℕ
-BBBB = 66 ∷ 66 ∷ 66 ∷ 66 ∷ []
-
--- an index entry for user data
-abbrev userData : List ℕ → ℕ → Entry
-userData letters o = record { blockType = tag letters; dataType = 1; offset = record { 0 = o } }
+BBBB = ascii "BBBB"
 
 abbrev threeEntries : ℕ → ℕ → ℕ → List ℕ
 threeEntries a b c = toLe 8 a ++ (toLe 8 b ++ toLe 8 c)
@@ -62,10 +57,10 @@ threeEntries a b c = toLe 8 a ++ (toLe 8 b ++ toLe 8 c)
 unfoldable pub shortP3 : List ℕ
 shortP3 =
     headerBytes (replicate 32 7) 1 2 3 423 4 7
-    ++ (tableBytes 0 3 (threeEntries 0 0 0) ++ (indexBytes (userData DDT* 72 ∷ [])
+    ++ (tableBytes 0 3 (threeEntries 0 0 0) ++ (indexBytes (userDataEntry DDT* 72 ∷ [])
     ++ (blockBytes 4 (AAAA ++ BBBB)
-    ++ (tableBytes 1 3 (threeEntries 362 0 363) ++ (indexBytes (userData DDT* 225 ∷ userData DBLK 181 ∷ [])
-    ++ (tableBytes 1 3 (threeEntries 362 362 363) ++ indexBytes (userData DDT* 350 ∷ userData DBLK 181 ∷ [])))))))
+    ++ (tableBytes 1 3 (threeEntries 362 0 363) ++ (indexBytes (userDataEntry DDT* 225 ∷ userDataEntry DBLK 181 ∷ [])
+    ++ (tableBytes 1 3 (threeEntries 362 362 363) ++ indexBytes (userDataEntry DDT* 350 ∷ userDataEntry DBLK 181 ∷ [])))))))
 
 unfoldable pub workedDisc : List Bool
 workedDisc =
@@ -90,7 +85,7 @@ workedDisc =
     -- P1: "Create, E = 3": table 104, index 177, used 213
     leaves 213 177 (p1 .result) ∷ hasTable i1 104 0 (0 ∷ 0 ∷ 0 ∷ [])
     -- P2: "Commit addresses 0, 2, size 4, "AAAABBBB"": block 213, table 257, index 330, used 382, shift 1, entries 426, 0, 427
-    ∷ leaves 382 330 (p2 .result) ∷ hasTable i2 257 1 (426 ∷ 0 ∷ 427 ∷ []) ∷ same (field i2 213 4) (tag DBLK)
+    ∷ leaves 382 330 (p2 .result) ∷ hasTable i2 257 1 (426 ∷ 0 ∷ 427 ∷ []) ∷ equal (part i2 213 4) DBLK
     -- P3: "Then commit address 1 "AAAA": no block", table 382, index 455, used 507, entries 426, 426, 427. And the listing's lines
     ∷ leaves 507 455 (p3 .result) ∷ hasTable i3 382 1 (426 ∷ 426 ∷ 427 ∷ [])
     ∷ liesAt 249 4 (locate i3 0) ∷ liesAt 249 4 (locate i3 1) ∷ liesAt 253 4 (locate i3 2)

@@ -7,9 +7,8 @@ use mathlib.Core.Logic.{inl, inr, Iff·rfl}
 use mathlib.Core.Path.{_≡_}
 use denote.Ref.{now}
 use Prim.Native.Nat.{_+_, _-_}
-use Rattle.fields.specs.Bytes.{fromLe}
-use Rattle.format.specs.Layouts.{DBLK, tag, entryLength, entryAt, entriesFrom}
-use Rattle.format.specs.Opening.{isType, isUserData, offsetsOf}
+use Rattle.format.specs.Layouts.{DBLK, entryLength, entryAt, entriesFrom}
+use Rattle.format.specs.Opening.{isUserData, offsetsOf}
 use Rattle.format.proofs.Tests.{not-iff, and-iff}
 use Rattle.format.proofs.Chains.{by}
 use Rattle.opening.specs.Answers.{contents}
@@ -20,20 +19,19 @@ use Rattle.checking.proofs.with_block.Tie as tie
 
 -- what the entry is for
 kind : (c : tie.After-is-user-data)
-    → c .is-user-data .result ≡ isUserData DBLK (entryAt (now (c .before .before .before .args .s)) (c .before .before .before .args .p .0))
-unfolding isUserData isType tag fromLe
-kind c = rw (c .before .entry .ensures) at (c .is-user-data .ensures)
+    → c .is-user-data .result ≡ isUserData DBLK (entryAt (now (c .before .before .before .before .args .s)) (c .before .before .before .before .args .p .0))
+kind c = rw (c .before .before .entry .ensures) at (c .is-user-data .ensures)
 
 -- its block is the next to be looked at
 next : (c : tie.After-is-user-data) → c .is-user-data .result ≡ true
-    → let a = c .before .before .before .args in
-    FirstLeft (now (a .s)) (contents (a .t)) (c .before .entry .result .offset .0 ∷ offsetsOf DBLK (entriesFrom (now (a .s)) (a .left - 1) (a .p .0 + entryLength))) (a .first)
+    → let a = c .before .before .before .before .args in
+    FirstLeft (now (a .s)) (contents (a .t)) (c .before .before .entry .result .offset .0 ∷ offsetsOf DBLK (entriesFrom (now (a .s)) (a .left - 1) (a .p .0 + entryLength))) (a .first)
 next c e =
-    let k = c .before .before .before .pre in
-    rw (c .before .entry .ensures) (block-entry _ _ _ _ (k .1) (k .3) (by (kind c) e))
+    let k = c .before .before .before .before .pre in
+    rw (c .before .before .entry .ensures) (block-entry _ _ _ _ (k .1) (k .3) (by (kind c) e))
 
 returns : tie.Need-returns
-returns c = let k = c .before .before .before .before .pre in other-entry _ _ _ _ (k .1) (k .3) (by (kind (c .before)) (not-true _ (c .if1 .taken)))
+returns c = let k = c .before .before .before .before .before .pre in other-entry _ _ _ _ (k .1) (k .3) (by (kind (c .before)) (not-true _ (c .if1 .taken)))
 
 returns-2 : tie.Need-returns-2
 returns-2 c =
@@ -42,7 +40,7 @@ returns-2 c =
 
 first-into-requires : tie.Need-first-into-requires
 first-into-requires c κs =
-    let k = c .before .before .before .before .before .before .before .before .before .before .pre in
+    let k = c .before .before .before .before .before .before .before .before .before .before .before .pre in
     (k .0, k .3 .within, by (c .before .is-damaged .ensures) (c .if3 .taken))
 
 returns-3 : tie.Need-returns-3

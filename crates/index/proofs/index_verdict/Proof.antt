@@ -1,11 +1,11 @@
 -- `index::index_verdict` meets its contract. Assumes nothing.
 use borrow.Author.Needs.{needs}
 use native.Mathlib.Omega.{arith}
-use Rattle.fields.specs.Bytes.{fromLe}
-use Rattle.format.specs.Layouts.{tag, entryCount}
-use Rattle.format.specs.Opening.{indexVerdict, lacks}
+use Rattle.format.specs.Layouts.{entryCount}
+use Rattle.format.specs.Opening.{indexVerdict}
 use Rattle.format.proofs.Tests.{below-true, below-iff, differs-true, differs-iff, or-iff, or-true-left, or-true-right}
-use Rattle.format.proofs.Chains.{stop, on, stop-last, on-last}
+use Rattle.format.proofs.Checks.{lacks-not}
+use Rattle.format.proofs.Chains.{by, stop, on, stop-last, on-last}
 use Rattle.index.proofs.index_verdict.Statement.{statement}
 use Rattle.index.proofs.index_verdict.Tie as tie
 
@@ -18,26 +18,29 @@ unfolding indexVerdict
 returns-2 c = stop _ (or-true-right _ _ (below-true _ _ (omega arith)))
 
 returns-3 : tie.Need-returns-3
-unfolding indexVerdict lacks tag fromLe
-returns-3 c = on _ (or-iff below-iff below-iff .1 (omega arith, omega arith)) (stop _ (differs-true _ _ (λ e. omega arith)))
+unfolding indexVerdict
+returns-3 c = on _ (or-iff below-iff below-iff .1 (omega arith, omega arith)) (stop _ (by (lacks-not _ _ _ (c .before .matches .ensures)) (c .if3 .taken)))
 
 returns-4 : tie.Need-returns-4
-unfolding indexVerdict lacks tag fromLe entryCount
+unfolding indexVerdict entryCount
 returns-4 c =
+    let m = c .before .before .before in
     on _ (or-iff below-iff below-iff .1 (omega arith, omega arith))
-    (on _ (differs-iff .1 (omega arith)) (stop _ (below-true _ _ (omega arith))))
+    (on _ (by (lacks-not _ _ _ (m .before .matches .ensures)) (m .if3 .left)) (stop _ (below-true _ _ (omega arith))))
 
 returns-5 : tie.Need-returns-5
-unfolding indexVerdict lacks tag fromLe entryCount
+unfolding indexVerdict entryCount
 returns-5 c =
+    let m = c .before .before .before .before .before .before .before in
     on _ (or-iff below-iff below-iff .1 (omega arith, omega arith))
-    (on _ (differs-iff .1 (omega arith)) (on _ (below-iff .1 (omega arith)) (stop-last (differs-true _ _ (λ e. c .if5 .taken (cc))))))
+    (on _ (by (lacks-not _ _ _ (m .before .matches .ensures)) (m .if3 .left)) (on _ (below-iff .1 (omega arith)) (stop-last (differs-true _ _ (λ e. c .if5 .taken (cc))))))
 
 returns-6 : tie.Need-returns-6
-unfolding indexVerdict lacks tag fromLe entryCount
+unfolding indexVerdict entryCount
 returns-6 c =
+    let m = c .before .before .before .before .before .before .before in
     on _ (or-iff below-iff below-iff .1 (omega arith, omega arith))
-    (on _ (differs-iff .1 (omega arith)) (on _ (below-iff .1 (omega arith)) (on-last _ (differs-iff .1 (cc)))))
+    (on _ (by (lacks-not _ _ _ (m .before .matches .ensures)) (m .if3 .left)) (on _ (below-iff .1 (omega arith)) (on-last _ (differs-iff .1 (cc)))))
 
 pub index-verdict-spec : {M : Type 1} → statement M
 index-verdict-spec =
@@ -46,6 +49,7 @@ index-verdict-spec =
     returns
     (λ c κs. search needs)
     returns-2
+    (λ c. search needs)
     (λ c κs. search needs)
     returns-3
     (λ c. search needs)

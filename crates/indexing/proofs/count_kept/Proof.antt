@@ -1,7 +1,9 @@
 -- `indexing::count_kept` meets its contract. The invariant: the entries kept so far and those among the entries that are left give what all give. Assumes nothing.
+use borrow.Author.Needs.{needs}
+use borrow.Author.Tests.{not-true, not-false}
 use native.Mathlib.Omega.{arith}
-use mathlib.Core.Path.{sym, _∙_}
-use Rattle.format.specs.Layouts.{entryCount, entryAt}
+use Rattle.format.specs.Layouts.{entryCount}
+use Rattle.format.proofs.Chains.{by}
 use Rattle.indexing.proofs.Turns.{Counting, count-starts, count-skips, count-keeps, count-ends}
 use Rattle.indexing.proofs.count_kept.Statement.{statement}
 use Rattle.indexing.proofs.count_kept.Tie as tie
@@ -17,12 +19,14 @@ unfolding entryCount
 loop-holds c = count-starts _ _ _ (c .get .ensures) (c .before .before .pre)
 
 loop-again : tie.Need-loop-again Inv-loop μ-loop
-unfolding entryAt
-loop-again c = count-keeps (c .before .before .before .loop .inv) (omega arith) (λ z. c .if1 .taken (c .before .get2 .ensures ∙ z))
+loop-again c =
+    let e = c .before .before in
+    count-keeps (e .before .before .loop .inv) (omega arith) (by (rw (e .entry .ensures) at (c .before .is-checksums .ensures)) (not-true _ (c .if1 .taken)))
 
 loop-again-2 : tie.Need-loop-again-2 Inv-loop μ-loop
-unfolding entryAt
-loop-again-2 c = count-skips (c .before .before .before .loop .inv) (omega arith) (sym (c .before .get2 .ensures) ∙ c .if1 .left)
+loop-again-2 c =
+    let e = c .before .before in
+    count-skips (e .before .before .loop .inv) (omega arith) (by (rw (e .entry .ensures) at (c .before .is-checksums .ensures)) (not-false _ (c .if1 .left)))
 
 returns : tie.Need-returns Inv-loop μ-loop
 returns c = (count-ends (c .before .loop .inv) (omega arith), omega (arith, c .before .loop .inv .few))
@@ -40,6 +44,7 @@ count-kept-spec =
     (λ c κs. omega arith)
     (λ c. omega arith)
     (λ c. omega arith)
+    (λ c κs. search needs)
     (λ c. omega arith)
     (λ c. omega arith)
     loop-again

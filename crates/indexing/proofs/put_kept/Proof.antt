@@ -1,9 +1,11 @@
 -- `indexing::put_kept` meets its contract. The invariant: the entries that are left, written over the present buffer, give what is asked, and the image is as it was. Assumes nothing.
+use borrow.Author.Tests.{not-true, not-false}
 use native.Mathlib.Omega.{arith}
 use mathlib.Core.Path.{ap, _∙_}
 use lib.ListN.{length}
 use Rattle.fields.proofs.Overwrite.{length-part}
 use Rattle.format.specs.Layouts.{entryCount}
+use Rattle.format.proofs.Chains.{by}
 use borrow.Author.Needs.{needs}
 use Rattle.indexing.proofs.Turns.{Putting, put-starts, put-skips, put-keeps, put-room, put-ends}
 use Rattle.indexing.proofs.put_kept.Statement.{statement}
@@ -31,28 +33,28 @@ put-entry-requires : tie.Need-put-entry-requires Inv-loop μ-loop
 put-entry-requires c κs =
     let q = c .before .before in
     let r = q .before .before in
-    put-room (r .before .before .before .before .loop .inv) (omega arith) (rw (r .before .part2 .ensures) at (r .entry .ensures)) (q .if1 .taken)
+    put-room (r .before .before .before .before .loop .inv) (omega arith) (rw (r .before .part2 .ensures) at (r .entry .ensures)) (by (q .before .is-checksums .ensures) (not-true _ (q .if1 .taken)))
 
 add-q : tie.Need-add-q Inv-loop μ-loop
 add-q c =
-    omega (
-      arith,
-      put-room (c .before .before .before .before .before .before .before .before .before .before .before .loop .inv) (omega arith) (rw (c .before .before .before .before .before .before .before .before .part2 .ensures) at (c .before .before .before .before .before .before .before .entry .ensures))
-          (c .before .before .before .before .before .if1 .taken),
-      c .before .before .before .before .before .before .before .before .before .before .before .loop .inv .long,
-    )
+    let q = c .before .before .before .before .before in
+    let r = q .before .before in
+    let l = r .before .before .before .before in
+    let fits = put-room (l .loop .inv) (omega arith) (rw (r .before .part2 .ensures) at (r .entry .ensures)) (by (q .before .is-checksums .ensures) (not-true _ (q .if1 .taken))) in
+    omega (arith, fits, l .loop .inv .long, l)
 
 loop-again : tie.Need-loop-again Inv-loop μ-loop
 loop-again c =
     let q = c .before .before .before .before .before in
     let r = q .before .before in
-    put-keeps (r .before .before .before .before .loop .inv) (omega arith) (rw (r .before .part2 .ensures) at (r .entry .ensures)) (q .if1 .taken)
-    (c .before .before .before .kept-entry .ensures) (c .before .before .put-entry .ensures)
+    put-keeps (r .before .before .before .before .loop .inv) (omega arith) (rw (r .before .part2 .ensures) at (r .entry .ensures))
+    (by (q .before .is-checksums .ensures) (not-true _ (q .if1 .taken))) (c .before .before .before .kept-entry .ensures) (c .before .before .put-entry .ensures)
 
 loop-again-2 : tie.Need-loop-again-2 Inv-loop μ-loop
 loop-again-2 c =
     let r = c .before .before in
-    put-skips (r .before .before .before .before .loop .inv) (omega arith) (rw (r .before .part2 .ensures) at (r .entry .ensures)) (c .if1 .left)
+    put-skips (r .before .before .before .before .loop .inv) (omega arith) (rw (r .before .part2 .ensures) at (r .entry .ensures))
+    (by (c .before .is-checksums .ensures) (not-false _ (c .if1 .left)))
 
 same-length : tie.Need-same-length Inv-loop μ-loop
 same-length c = c .before .loop .inv .long
@@ -75,6 +77,7 @@ put-kept-spec =
     entry-requires
     (λ c. omega arith)
     (λ c. omega arith)
+    (λ c κs. search needs)
     (λ c κs. search needs)
     put-entry-requires
     add-q
