@@ -1,5 +1,5 @@
 -- Laws of `toLe`, `fromLe` and `field`. Assumes nothing.
-use mathlib.Core.Path.{_≡_, refl, ap, _∙_}
+use mathlib.Core.Path.{_≡_, refl, sym, ap, _∙_}
 use mathlib.Core.List.{List, [], _∷_}
 use Prim.Native.Nat.{ℕ, zero, suc, _+_, _-_, _*_, _/_, _%_, _^_, _≤_, _<_}
 use native.Mathlib.Nat.{one-mul, mod-add-div, mod-eq-of-lt, div-lt-iff-lt-mul, pow-suc, pow-le-pow-right}
@@ -9,6 +9,7 @@ use lib.ListN.{length, getD}
 use lib.Pow.{pow-lt}
 use lib.Seq.{take-nil, drop-nil}
 use Rattle.fields.specs.Bytes.{part, fromLe, toLe, field}
+use Rattle.fields.proofs.Overwrite.{part-step, part-none}
 use Rattle.fields.proofs.Steps.{sub-step, sub-done}
 
 pub length-toLe : (k v : ℕ) → length (toLe k v) ≡ k
@@ -37,6 +38,16 @@ field-step (b ∷ bs) (suc at) k = field-step bs at k
 pub field-lt : (s : List ℕ) (at k : ℕ) → ((i : ℕ) → getD s i 0 < 256) → field s at k < 256 ^ k
 field-lt s at zero h = rw field-zero (lit< tt)
 field-lt s at (suc k) h = rw (field-step, pow-suc) (omega (arith, h at, field-lt s (suc at) k h))
+
+-- bytes that make the same number are the same
+pub field-same : (s t : List ℕ) (p q k : ℕ) → ((i : ℕ) → getD s i 0 < 256) → ((i : ℕ) → getD t i 0 < 256) → p + k ≤ length s → q + k ≤ length t
+    → field s p k ≡ field t q k → part s p k ≡ part t q k
+field-same s t p q zero hs ht a b e = part-none s p ∙ sym (part-none t q)
+field-same s t p q (suc k) hs ht a b e =
+    let sum : getD s p 0 + 256 * field s (suc p) k ≡ getD t q 0 + 256 * field t (suc q) k = sym (field-step s p k) ∙ e ∙ field-step t q k in
+    let low : getD s p 0 ≡ getD t q 0 = omega (arith, hs p, ht q) in
+    let rest : part s (suc p) k ≡ part t (suc q) k = field-same s t (suc p) (suc q) k hs ht (omega arith) (omega arith) (omega (arith, hs p, ht q)) in
+    part-step s p k (omega arith) ∙ ap (λ (x : ℕ). x ∷ part s (suc p) k) low ∙ ap (λ (l : List ℕ). getD t q 0 ∷ l) rest ∙ sym (part-step t q k (omega arith))
 
 -- ---- the iterations of the loops that write and read a number
 

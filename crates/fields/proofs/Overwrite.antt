@@ -8,7 +8,7 @@ use native.Mathlib.Nat.{add-assoc, add-zero}
 use native.Mathlib.Numerals.{add-one}
 use native.Mathlib.Omega.{arith}
 use lib.ListN.{length, take, drop, getD, set, length-take, length-drop, length-set}
-use lib.Seq.{sets, length-sets, set-out, set-comm, sets-eq, take-set-le, drop-set-lt, getD-set-other, set-getD, getD-take, getD-drop, ext-getD, take-at, drop-at, length-take-le, drop-cons}
+use lib.Seq.{sets, length-sets, set-out, set-comm, sets-eq, take-set-le, drop-set-lt, getD-set-other, set-getD, getD-take, getD-drop, ext-getD, take-at, drop-at, length-take-le, take-length, drop-cons}
 use Rattle.fields.specs.Bytes.{part, overwrite}
 
 -- ---- length, past the end, one after the other, nothing, one byte, the three pieces
@@ -107,6 +107,10 @@ part-step s at n h = ap (take (suc n)) (drop-cons s at 0 h)
 pub part-none : (s : List ℕ) (at : ℕ) → part s at 0 ≡ []
 unfolding part
 part-none s at = refl
+
+pub part-whole : (s : List ℕ) → part s 0 (length s) ≡ s
+unfolding part
+part-whole s = take-length s
 
 -- two lists have the same part, at places of their own, where its bytes agree
 pub part-alike : (s t : List ℕ) (p q n : ℕ) → p + n ≤ length s → q + n ≤ length t → ((i : ℕ) → i < n → getD s (p + i) 0 ≡ getD t (q + i) 0)

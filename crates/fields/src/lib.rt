@@ -103,3 +103,12 @@ pub fn matches(s: &[u8], at: u64, t: &[u8]) -> bool
     }
     true
 }
+
+// Whether the bytes of s from `at` are these letters, in that order; eight at most, which are compared at once, as numbers.
+pub fn spells(s: &[u8], at: u64, letters: &[u8]) -> bool
+    requires { ⌜ (at + length (now letters) ≤ length (now s)) × (length (now letters) ≤ 8) ⌝ }
+    ensures { λ r. ⌜ r ≡ equal (part (now (s .entry)) at (length (now (letters .entry)))) (now (letters .entry)) ⌝ }
+{
+    let k = letters.len() as u64;
+    get(s, at, k) == get(letters, 0, k)
+}

@@ -12,10 +12,10 @@ ghost use Rattle.format.specs.Opening.{lacks, headerVerdict, indexVerdict, entr
 ghost use Rattle.index.specs.Tables.{namedVerdict, oneAnswer, before, onlyOne};
 use crc64::checksum;
 use fields::get;
-use fields::matches;
 use fields::part;
 use fields::put;
 use fields::room;
+use fields::spells;
 use format::ByteOffset;
 use format::Entry;
 use format::HEADER_LENGTH;
@@ -41,10 +41,10 @@ fn unknown(s: &[u8]) -> bool
     requires { ⌜ 8 ≤ length (now s) ⌝ }
     ensures { λ r. ⌜ r ≡ (lacks (now (s .entry)) 0 AARUFRMT and lacks (now (s .entry)) 0 DICMFRMT) ⌝ }
 {
-    if matches(s, 0, b"AARUFRMT") {
+    if spells(s, 0, b"AARUFRMT") {
         return false;
     }
-    if matches(s, 0, b"DICMFRMT") {
+    if spells(s, 0, b"DICMFRMT") {
         return false;
     }
     true
@@ -79,7 +79,7 @@ pub fn index_verdict(s: &[u8], o: ByteOffset) -> Verdict
     if room(s, index) < 20 {
         return Verdict::Refuses(Refusal { number: 4, place });
     }
-    if !matches(s, index, b"IDX2") {
+    if !spells(s, index, b"IDX2") {
         return Verdict::Refuses(Refusal { number: 5, place });
     }
     let entries = get(s, index + 4, 8);
@@ -134,7 +134,7 @@ pub fn is_type(e: Entry, letters: &[u8; 4]) -> bool
 {
     let mut bytes = [0; 4];
     put(&mut bytes, 0, 4, e.blockType);
-    matches(&bytes, 0, letters)
+    spells(&bytes, 0, letters)
 }
 
 // The entry is for this kind of block, of user data.

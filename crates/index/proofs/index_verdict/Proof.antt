@@ -19,28 +19,28 @@ returns-2 c = stop _ (or-true-right _ _ (below-true _ _ (omega arith)))
 
 returns-3 : tie.Need-returns-3
 unfolding indexVerdict
-returns-3 c = on _ (or-iff below-iff below-iff .1 (omega arith, omega arith)) (stop _ (by (lacks-not _ _ _ (c .before .matches .ensures)) (c .if3 .taken)))
+returns-3 c = on _ (or-iff below-iff below-iff .1 (omega arith, omega arith)) (stop _ (by (lacks-not _ _ _ (c .before .spells .ensures)) (c .if3 .taken)))
 
 returns-4 : tie.Need-returns-4
 unfolding indexVerdict entryCount
 returns-4 c =
     let m = c .before .before .before in
     on _ (or-iff below-iff below-iff .1 (omega arith, omega arith))
-    (on _ (by (lacks-not _ _ _ (m .before .matches .ensures)) (m .if3 .left)) (stop _ (below-true _ _ (omega arith))))
+    (on _ (by (lacks-not _ _ _ (m .before .spells .ensures)) (m .if3 .left)) (stop _ (below-true _ _ (omega arith))))
 
 returns-5 : tie.Need-returns-5
 unfolding indexVerdict entryCount
 returns-5 c =
     let m = c .before .before .before .before .before .before .before in
     on _ (or-iff below-iff below-iff .1 (omega arith, omega arith))
-    (on _ (by (lacks-not _ _ _ (m .before .matches .ensures)) (m .if3 .left)) (on _ (below-iff .1 (omega arith)) (stop-last (differs-true _ _ (λ e. c .if5 .taken (cc))))))
+    (on _ (by (lacks-not _ _ _ (m .before .spells .ensures)) (m .if3 .left)) (on _ (below-iff .1 (omega arith)) (stop-last (differs-true _ _ (λ e. c .if5 .taken (cc))))))
 
 returns-6 : tie.Need-returns-6
 unfolding indexVerdict entryCount
 returns-6 c =
     let m = c .before .before .before .before .before .before .before in
     on _ (or-iff below-iff below-iff .1 (omega arith, omega arith))
-    (on _ (by (lacks-not _ _ _ (m .before .matches .ensures)) (m .if3 .left)) (on _ (below-iff .1 (omega arith)) (on-last _ (differs-iff .1 (cc)))))
+    (on _ (by (lacks-not _ _ _ (m .before .spells .ensures)) (m .if3 .left)) (on _ (below-iff .1 (omega arith)) (on-last _ (differs-iff .1 (cc)))))
 
 pub index-verdict-spec : {M : Type 1} → statement M
 index-verdict-spec =

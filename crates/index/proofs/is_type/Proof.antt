@@ -17,7 +17,7 @@ returns c =
     let p = c .before .before .before .before in
     let a = p .before .before .args in
     let n : length (now (a .letters)) ≡ 4 = search needs in
-    rw (p .put .ensures, n, part-same _ 0 4 (toLe 4 (a .e .blockType)) (length-toLe 4 (a .e .blockType)) (lit≤ tt)) at (c .matches .ensures)
+    rw (p .put .ensures, n, part-same _ 0 4 (toLe 4 (a .e .blockType)) (length-toLe 4 (a .e .blockType)) (lit≤ tt)) at (c .spells .ensures)
 
 pub is-type-spec : {M : Type 1} → statement M
 is-type-spec =

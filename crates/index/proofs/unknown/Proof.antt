@@ -10,15 +10,15 @@ use Rattle.index.proofs.unknown.Statement.{statement}
 use Rattle.index.proofs.unknown.Tie as tie
 
 returns : tie.Need-returns
-returns c = sym (and-iff Iff·rfl Iff·rfl .1 (inl (by (lacks-not _ _ _ (c .before .matches .ensures)) (ap not (c .if1 .taken)))))
+returns c = sym (and-iff Iff·rfl Iff·rfl .1 (inl (by (lacks-not _ _ _ (c .before .spells .ensures)) (ap not (c .if1 .taken)))))
 
 returns-2 : tie.Need-returns-2
-returns-2 c = sym (and-iff Iff·rfl Iff·rfl .1 (inr (by (lacks-not _ _ _ (c .before .matches2 .ensures)) (ap not (c .if2 .taken)))))
+returns-2 c = sym (and-iff Iff·rfl Iff·rfl .1 (inr (by (lacks-not _ _ _ (c .before .spells2 .ensures)) (ap not (c .if2 .taken)))))
 
 returns-3 : tie.Need-returns-3
 returns-3 c =
     let d = c .before .before .before in
-    sym (and-true _ _ (by (lacks-not _ _ _ (d .before .matches .ensures)) (ap not (d .if1 .left))) (by (lacks-not _ _ _ (c .before .matches2 .ensures)) (ap not (c .if2 .left))))
+    sym (and-true _ _ (by (lacks-not _ _ _ (d .before .spells .ensures)) (ap not (d .if1 .left))) (by (lacks-not _ _ _ (c .before .spells2 .ensures)) (ap not (c .if2 .left))))
 
 pub unknown-spec : {M : Type 1} → statement M
 unknown-spec =
