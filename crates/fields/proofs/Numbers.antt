@@ -4,9 +4,10 @@ use mathlib.Core.List.{List, [], _∷_}
 use Prim.Native.Nat.{ℕ, zero, suc, _+_, _-_, _*_, _/_, _%_, _^_, _≤_, _<_}
 use native.Mathlib.Nat.{one-mul, mod-add-div, mod-eq-of-lt, div-lt-iff-lt-mul, pow-suc, pow-le-pow-right}
 use native.Mathlib.Omega.{arith}
-use lib.Dec.{lit<}
+use lib.Dec.{T, ltb, lit<}
+use lib.Ieee.Fits.{and-l, and-r}
 use lib.ListN.{length, getD}
-use lib.Pow.{pow-lt}
+use lib.Pow.{pow-lt, areBytes}
 use lib.Seq.{take-nil, drop-nil}
 use Rattle.fields.specs.Bytes.{part, fromLe, toLe, field}
 use Rattle.fields.proofs.Overwrite.{part-step, part-none}
@@ -23,6 +24,15 @@ fromLe-toLe zero v h = omega arith
 fromLe-toLe (suc k) v h =
     ap (λ (n : ℕ). v % 256 + 256 * n) (fromLe-toLe k (v / 256) (div-lt-iff-lt-mul {k = 256} (lit< tt) .1 (rw pow-suc at h)))
     ∙ mod-add-div v 256
+
+pub toLe-fromLe : (l : List ℕ) → T (areBytes l) → toLe (length l) (fromLe l) ≡ l
+unfolding toLe fromLe
+toLe-fromLe [] h = refl
+toLe-fromLe (b ∷ bs) h =
+    let low : b < 256 = lit< (and-l (ltb b 256) (areBytes bs) h) in
+    let here : (b + 256 * fromLe bs) % 256 ≡ b = omega arith in
+    let rest : (b + 256 * fromLe bs) / 256 ≡ fromLe bs = omega arith in
+    rw (here, rest, toLe-fromLe bs (and-r (ltb b 256) (areBytes bs) h))
 
 pub field-zero : (s : List ℕ) (at : ℕ) → field s at 0 ≡ 0
 unfolding field part fromLe

@@ -11,7 +11,7 @@ use native.Mathlib.Omega.{arith}
 use lib.Dec.{lit<, lit≤}
 use lib.ListN.{length, getD, length-map}
 use lib.Pow.{pow-mono, pow-pos, high, low}
-use Rattle.fields.specs.Bytes.{part, fromLe, toLe}
+use Rattle.fields.specs.Bytes.{part, fromLe}
 use Rattle.fields.proofs.Holds.{Holds, holds-all, holds-left, holds-right, holds-number}
 use Rattle.format.specs.declared.Entry.{Entry}
 use Rattle.format.specs.declared.Pointer.{Pointer}
@@ -27,9 +27,9 @@ use Rattle.format.specs.Facts.{Identified, EntryOk, ItemOk}
 use Rattle.format.proofs.Tests.{never, same-true, same-iff, choose-true, choose-false}
 use Rattle.format.proofs.Lists.{Sized, all-append, all-map, all-get, length-flatten, getD-map}
 use Rattle.format.proofs.Checks.{PointerOk, SectorOk, AddressOk, Sound, read-20, read-21, read-bytes}
-use Rattle.format.proofs.Named.{user-data-on, user-data-true, user-data-false, offsets-yes, offsets-no, offsets-append, has-head, has-left, has-right}
+use Rattle.format.proofs.Named.{tag-bytes, identified-number, type-number, user-data-on, user-data-true, user-data-false, offsets-yes, offsets-no, offsets-append, has-head, has-left, has-right}
 use Rattle.format.proofs.Agree.{Agree, header-agree, entry-agree, item-agree, bytes-agree, block-low}
-use Rattle.format.proofs.Written.{EntryFits, identified-number, type-number, holds-piece, length-tableBytes, table-identified, table-entries, length-blockBytes, block-identified, block-size, block-items, item-written, length-indexBytes, Opens, opens-written}
+use Rattle.format.proofs.Written.{EntryFits, holds-piece, length-tableBytes, table-identified, table-entries, length-blockBytes, block-identified, block-size, block-items, item-written, length-indexBytes, Opens, opens-written}
 use Rattle.format.proofs.KeptEntries.{dblk-cksm, dblk-ddt, kept-all, kept-blocks, kept-table}
 use Rattle.format.proofs.Storing.{handedOr, stored-sized, entries-sized, length-entries, shift-fits, shift-least, Source, old, new, stored-ok, NewPointer, fresh, kept, new-pointer, length-newPointers, getD-newPointers, item-largest, largest-bound}
 use Rattle.format.proofs.Bytes.{field-fits, entries-fit}
@@ -60,9 +60,9 @@ block-entry-all b [] f = done
 block-entry-all b (i ∷ is) f = more (f (omega arith)) done
 
 block-no-table : (b : ℕ) (items : List (List ℕ)) → offsetsOf DDT* (newBlockEntry b items) ≡ []
-unfolding newBlockEntry offsetsOf tag fromLe toLe
+unfolding newBlockEntry offsetsOf
 block-no-table b [] = refl
-block-no-table b (i ∷ is) = offsets-no DDT* (userDataEntry DBLK b) [] (user-data-false DDT* (userDataEntry DBLK b) dblk-ddt)
+block-no-table b (i ∷ is) = offsets-no DDT* (userDataEntry DBLK b) [] (user-data-false DDT* (userDataEntry DBLK b) (λ q. dblk-ddt (sym (tag-bytes DBLK tt) ∙ q)))
 
 -- ---- the new block: item j of it
 record NewItem (y : List ℕ) (b : ℕ) (items : List (List ℕ)) (j : ℕ) : Type 0 where
@@ -74,7 +74,7 @@ record NewItem (y : List ℕ) (b : ℕ) (items : List (List ℕ)) (j : ℕ) : Ty
 
 new-item : (y : List ℕ) (b size : ℕ) (items : List (List ℕ)) → All (Sized size) items → Holds y b (newBlock size items) → size ≢ 0 → size ≤ largestSize
     → length y ≤ longestBuffer → (j : ℕ) → j < length items → NewItem y b items j
-unfolding newBlock newBlockEntry itemBytes placeOf tag fromLe toLe
+unfolding newBlock newBlockEntry itemBytes placeOf
 new-item y b size [] sz h pos small long j k = absurd (not-suc-le-zero k)
 new-item y b size (s ∷ ss) sz h pos small long j k = made
   where
@@ -109,7 +109,7 @@ new-item y b size (s ∷ ss) sz h pos small long j k = made
           fits = omega (arith, f);
           item = item-written y b size payload h pos small short (length items) whole j k;
           bytes = ap (λ n. part y (b + blockHeaderLength + j * n) n) es ∙ ap (part y (b + blockHeaderLength + j * size)) (sym ln) ∙ holds-all y (b + blockHeaderLength + j * size) (getD items j []) hi;
-          named = ap (has b) (offsets-yes DBLK (userDataEntry DBLK b) [] (user-data-true DBLK (userDataEntry DBLK b) (record { type = refl; userData = refl }))) ∙ has-head b b _ refl;
+          named = ap (has b) (offsets-yes DBLK (userDataEntry DBLK b) [] (user-data-true DBLK (userDataEntry DBLK b) (record { type = tag-bytes DBLK tt; userData = refl }))) ∙ has-head b b _ refl;
         }
 
 -- ---- a pointer that stands, in an image whose index has the entries es: it names an intact item, which holds these bytes

@@ -7,7 +7,7 @@ use Prim.Native.Nat.{ℕ, _+_, _*_, _≤_, _<_, zero-le}
 use native.Mathlib.Omega.{arith}
 use lib.Dec.{lit<, lit≤}
 use lib.ListN.{length, take, replicate, length-replicate, length-append}
-use Rattle.fields.specs.Bytes.{part, fromLe, toLe, field, overwrite}
+use Rattle.fields.specs.Bytes.{part, fromLe, field, overwrite}
 use Rattle.fields.proofs.Overwrite.{length-overwrite}
 use Rattle.fields.proofs.Holds.{Holds, holds-take, holds-overwrite, holds-part, holds-left, holds-right}
 use Rattle.fields.proofs.Records.{holds-num, holds-raw}
@@ -23,8 +23,8 @@ use Rattle.format.specs.Facts.{Identified, HeaderOk, EntryOk}
 use Rattle.format.proofs.Tests.{same-true}
 use Rattle.format.proofs.Lists.{all-take, all-drop, all-replicate}
 use Rattle.format.proofs.Checks.{Sound, create-ok}
-use Rattle.format.proofs.Named.{user-data-true, offsets-yes}
-use Rattle.format.proofs.Written.{EntryFits, identified-number, length-headerBytes, length-tableBytes, table-identified, table-entries, length-indexBytes, Opens, opens-written}
+use Rattle.format.proofs.Named.{tag-bytes, identified-number, user-data-true, offsets-yes}
+use Rattle.format.proofs.Written.{EntryFits, length-headerBytes, length-tableBytes, table-identified, table-entries, length-indexBytes, Opens, opens-written}
 use Rattle.format.proofs.Bytes.{bytes-overwrite, bytes-created}
 use Rattle.format.proofs.Buffers.{outcome-accepted}
 
@@ -109,8 +109,8 @@ module _ (count : ℕ) (application : List ℕ) (major minor mediaType creationT
         more (record { low = lit≤ tt; fits = fits; identifier = identified-number y headerLength DDT* (table-identified y headerLength 0 count zeros h-table) }) done
 
     only : offsetsOf DDT* createdEntries ≡ headerLength ∷ []
-    unfolding offsetsOf tag fromLe toLe
-    only = offsets-yes DDT* _ [] (user-data-true DDT* _ (record { type = refl; userData = refl }))
+    unfolding offsetsOf
+    only = offsets-yes DDT* _ [] (user-data-true DDT* _ (record { type = tag-bytes DDT* tt; userData = refl }))
 
     abbrev newOpened : Opened
     newOpened = record { table = headerLength; count = count; shift = 0 }

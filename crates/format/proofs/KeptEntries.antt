@@ -13,7 +13,7 @@ use Rattle.format.specs.Layouts.{DBLK, DDT*, CKSM, tag}
 use Rattle.format.specs.Opening.{isType, isUserData, offsetsOf}
 use Rattle.format.specs.Committing.{keptEntry, keptEntries}
 use Rattle.format.proofs.Tests.{never, choose-cases}
-use Rattle.format.proofs.Named.{type-on, type-off, user-data-on, user-data-true, user-data-false, offsets-yes, offsets-no, offsets-cons}
+use Rattle.format.proofs.Named.{tag-bytes, type-on, type-off, user-data-on, user-data-true, user-data-false, offsets-yes, offsets-no, offsets-cons}
 
 apart : {a b : List ℕ} → equal a b ≡ false → a ≢ b
 apart h e = never (equal-iff .1 e) h
@@ -36,8 +36,7 @@ dblk-cksm = omega arith
 
 -- an entry of another type has another number
 not-cksm : (e : Entry) → toLe 4 (e .blockType) ≢ CKSM → e .blockType ≢ tag CKSM
-unfolding tag fromLe toLe
-not-cksm e h q = h (ap (toLe 4) q)
+not-cksm e h q = h (ap (toLe 4) q ∙ tag-bytes CKSM tt)
 
 -- an entry with another offset is of the same kind
 abbrev pub moved : ℕ → Entry → Entry

@@ -1,19 +1,37 @@
--- What an index names: the offsets of its entries for one kind of block, of user data.
+-- Letters and the numbers that they make; what an index names: the offsets of its entries for one kind of block, of user data.
 use mathlib.Core.Bool.{true, false}
 use mathlib.Core.List.{List, [], _∷_, _++_}
 use mathlib.Core.Logic.{_≢_, _⊎_, inl, inr, _↔_, Iff·rfl, ⊎-elim}
-use mathlib.Core.Path.{_≡_, refl, ap, _∙_, subst}
-use Prim.Native.Nat.{ℕ}
+use mathlib.Core.Path.{_≡_, refl, sym, ap, _∙_, subst}
+use Prim.Native.Nat.{ℕ, _^_, _<_}
 use native.Mathlib.Omega.{arith}
-use Rattle.fields.specs.Bytes.{toLe}
+use lib.Dec.{T}
+use lib.ListN.{length}
+use lib.Pow.{areBytes}
+use Rattle.fields.specs.Bytes.{fromLe, toLe, field}
+use Rattle.fields.proofs.Numbers.{fromLe-toLe, toLe-fromLe}
 use Rattle.fields.proofs.Equal.{equal-iff}
 use Rattle.format.specs.declared.Entry.{Entry}
 use Rattle.format.specs.Tests.{choose}
 use Rattle.format.specs.Lists.{All, done, more, Any, here, there, Only, found, later}
+use Rattle.format.specs.Layouts.{tag}
 use Rattle.format.specs.Opening.{isType, isUserData, offsetsOf}
 use Rattle.format.specs.Reading.{has}
-use Rattle.format.specs.Facts.{UserData}
+use Rattle.format.specs.Facts.{Identified, UserData}
 use Rattle.format.proofs.Tests.{on-or-off, never, same-on, same-true, or-on, or-true-left, or-true-right, and-on, and-true, and-iff, choose-true, choose-false, choose-cases}
+
+-- ---- letters, as a number
+pub tag-bytes : (letters : List ℕ) → T (areBytes letters) → toLe (length letters) (tag letters) ≡ letters
+unfolding tag
+tag-bytes letters h = toLe-fromLe letters h
+
+pub identified-number : (y : List ℕ) (at : ℕ) (letters : List ℕ) → Identified y at letters → field y at (length letters) ≡ tag letters
+unfolding Identified field tag
+identified-number y at letters h = ap fromLe h
+
+pub type-number : {letters : List ℕ} (e : Entry) → e .blockType < 256 ^ 4 → UserData letters e → e .blockType ≡ tag letters
+unfolding tag
+type-number e h u = sym (fromLe-toLe 4 (e .blockType) h) ∙ ap fromLe (u .type)
 
 -- ---- one entry
 module _ (letters : List ℕ) (e : Entry) where

@@ -9,16 +9,15 @@ use lib.Dec.{lit<}
 use lib.ListN.{length, getD, length-append, length-map}
 use Rattle.crc64.specs.Crc.{crcOf}
 use Rattle.crc64.proofs.Bound.{crcOf-lt}
-use Rattle.fields.specs.Bytes.{part, field, fromLe}
-use Rattle.fields.proofs.Numbers.{fromLe-toLe}
+use Rattle.fields.specs.Bytes.{part, field}
 use Rattle.fields.proofs.Holds.{Holds, holds-all, holds-left, holds-right}
 use Rattle.fields.proofs.Records.{length-layout, holds-num, holds-raw}
 use Rattle.format.specs.declared.Entry.{Entry}
 use Rattle.format.specs.Lists.{All, done, more}
-use Rattle.format.specs.Layouts.{IDX2, DBLK, DDT*, tag, headerLength, applicationLength, headerBytes, entryCount, entryAt, entriesFrom, entries, entryBytes, indexHeader, indexBytes, sectorSize, blockLength, blockPayload, blockHeader, blockBytes, tableShift, tableCount, tableLength, tablePayload, tableHeader, tableBytes, tableHeaderLength, blockHeaderLength, indexHeaderLength, entryLength, tableEntryLength}
+use Rattle.format.specs.Layouts.{IDX2, DBLK, DDT*, headerLength, applicationLength, headerBytes, entryCount, entryAt, entriesFrom, entries, entryBytes, indexHeader, indexBytes, sectorSize, blockLength, blockPayload, blockHeader, blockBytes, tableShift, tableCount, tableLength, tablePayload, tableHeader, tableBytes, tableHeaderLength, blockHeaderLength, indexHeaderLength, entryLength, tableEntryLength}
 use Rattle.format.specs.Opening.{offsetsOf, tableAt, Opened, openedAt, opened}
 use Rattle.format.specs.Writing.{largestSize}
-use Rattle.format.specs.Facts.{Identified, HeaderOk, IndexOk, EntryOk, UserData, TableOk, ItemOk}
+use Rattle.format.specs.Facts.{Identified, HeaderOk, IndexOk, EntryOk, TableOk, ItemOk}
 use Rattle.format.proofs.Lists.{Sized, all-image, length-flatten}
 use Rattle.format.proofs.Checks.{tableAt-only, OpenOk}
 
@@ -39,16 +38,6 @@ holds-piece y n _ (more {a = l} {l = ls} e es) p h zero k =
 holds-piece y n _ (more {a = l} {l = ls} e es) p h (suc j) k =
     let z : p + suc j * n ≡ p + length l + j * n = rw e (omega arith) in
     rw z (holds-piece y n ls es (p + length l) (holds-right y p l (flatten ls) h refl) j (le-of-suc-le-suc k))
-
--- ---- an identifier, as a number
-pub identified-number : (y : List ℕ) (at : ℕ) (letters : List ℕ) → Identified y at letters → field y at (length letters) ≡ tag letters
-unfolding Identified field tag
-identified-number y at letters h = ap fromLe h
-
--- an entry's number is that of its letters
-pub type-number : {letters : List ℕ} (e : Entry) → e .blockType < 256 ^ 4 → UserData letters e → e .blockType ≡ tag letters
-unfolding tag
-type-number e h u = sym (fromLe-toLe 4 (e .blockType) h) ∙ ap fromLe (u .type)
 
 -- ---- table
 pub length-tableHeader : (s c : ℕ) (payload : List ℕ) → length (tableHeader s c payload) ≡ tableHeaderLength
