@@ -4,10 +4,9 @@ use mathlib.Core.List.{List, [], _∷_}
 use Prim.Native.Nat.{ℕ, zero, suc, _+_, _-_, _*_, _/_, _%_, _^_, _≤_, _<_}
 use native.Mathlib.Nat.{one-mul, mod-add-div, mod-eq-of-lt, div-lt-iff-lt-mul, pow-suc, pow-le-pow-right}
 use native.Mathlib.Omega.{arith}
-use lib.Dec.{T, ltb, lit<}
-use lib.Ieee.Fits.{and-l, and-r}
+use lib.Dec.{lit<}
 use lib.ListN.{length, getD}
-use lib.Pow.{pow-lt, areBytes}
+use lib.Pow.{pow-lt}
 use lib.Seq.{take-nil, drop-nil}
 use Rattle.fields.specs.Bytes.{part, fromLe, toLe, field}
 use Rattle.fields.proofs.Overwrite.{part-step, part-none}
@@ -25,15 +24,6 @@ fromLe-toLe (suc k) v h =
     ap (λ (n : ℕ). v % 256 + 256 * n) (fromLe-toLe k (v / 256) (div-lt-iff-lt-mul {k = 256} (lit< tt) .1 (rw pow-suc at h)))
     ∙ mod-add-div v 256
 
-pub toLe-fromLe : (l : List ℕ) → T (areBytes l) → toLe (length l) (fromLe l) ≡ l
-unfolding toLe fromLe
-toLe-fromLe [] h = refl
-toLe-fromLe (b ∷ bs) h =
-    let low : b < 256 = lit< (and-l (ltb b 256) (areBytes bs) h) in
-    let here : (b + 256 * fromLe bs) % 256 ≡ b = omega arith in
-    let rest : (b + 256 * fromLe bs) / 256 ≡ fromLe bs = omega arith in
-    rw (here, rest, toLe-fromLe bs (and-r (ltb b 256) (areBytes bs) h))
-
 pub field-zero : (s : List ℕ) (at : ℕ) → field s at 0 ≡ 0
 unfolding field part fromLe
 field-zero s at = refl
@@ -49,15 +39,20 @@ pub field-lt : (s : List ℕ) (at k : ℕ) → ((i : ℕ) → getD s i 0 < 256) 
 field-lt s at zero h = rw field-zero (lit< tt)
 field-lt s at (suc k) h = rw (field-step, pow-suc) (omega (arith, h at, field-lt s (suc at) k h))
 
--- bytes that make the same number are the same
+-- the bytes of the number that bytes make are those bytes
+pub toLe-field : (s : List ℕ) (at k : ℕ) → ((i : ℕ) → getD s i 0 < 256) → at + k ≤ length s → toLe k (field s at k) ≡ part s at k
+unfolding toLe
+toLe-field s at zero h l = sym (part-none s at)
+toLe-field s at (suc k) h l =
+    let v : field s at (suc k) ≡ getD s at 0 + 256 * field s (suc at) k = field-step s at k in
+    let low : field s at (suc k) % 256 ≡ getD s at 0 = omega (arith, h at) in
+    let rest : field s at (suc k) / 256 ≡ field s (suc at) k = omega (arith, h at) in
+    rw (low, rest, toLe-field s (suc at) k h (omega arith)) (sym (part-step s at k (omega arith)))
+
+-- so bytes that make the same number are the same
 pub field-same : (s t : List ℕ) (p q k : ℕ) → ((i : ℕ) → getD s i 0 < 256) → ((i : ℕ) → getD t i 0 < 256) → p + k ≤ length s → q + k ≤ length t
     → field s p k ≡ field t q k → part s p k ≡ part t q k
-field-same s t p q zero hs ht a b e = part-none s p ∙ sym (part-none t q)
-field-same s t p q (suc k) hs ht a b e =
-    let sum : getD s p 0 + 256 * field s (suc p) k ≡ getD t q 0 + 256 * field t (suc q) k = sym (field-step s p k) ∙ e ∙ field-step t q k in
-    let low : getD s p 0 ≡ getD t q 0 = omega (arith, hs p, ht q) in
-    let rest : part s (suc p) k ≡ part t (suc q) k = field-same s t (suc p) (suc q) k hs ht (omega arith) (omega arith) (omega (arith, hs p, ht q)) in
-    part-step s p k (omega arith) ∙ ap (λ (x : ℕ). x ∷ part s (suc p) k) low ∙ ap (λ (l : List ℕ). getD t q 0 ∷ l) rest ∙ sym (part-step t q k (omega arith))
+field-same s t p q k hs ht a b e = sym (toLe-field s p k hs a) ∙ ap (toLe k) e ∙ toLe-field t q k ht b
 
 -- ---- the iterations of the loops that write and read a number
 

@@ -27,12 +27,12 @@ use Rattle.format.specs.Facts.{Identified, EntryOk, ItemOk}
 use Rattle.format.proofs.Tests.{never, same-true, same-iff, choose-true, choose-false}
 use Rattle.format.proofs.Lists.{Sized, all-append, all-map, all-get, length-flatten, getD-map}
 use Rattle.format.proofs.Checks.{PointerOk, SectorOk, AddressOk, Sound, read-20, read-21, read-bytes}
-use Rattle.format.proofs.Named.{tag-bytes, identified-number, type-number, user-data-on, user-data-true, user-data-false, offsets-yes, offsets-no, offsets-append, has-head, has-left, has-right}
+use Rattle.format.proofs.Named.{identified-number, type-number, user-data-on, user-data-true, user-data-false, offsets-yes, offsets-no, offsets-append, has-head, has-left, has-right}
 use Rattle.format.proofs.Agree.{Agree, header-agree, entry-agree, item-agree, bytes-agree, block-low}
 use Rattle.format.proofs.Written.{EntryFits, holds-piece, length-tableBytes, table-identified, table-entries, length-blockBytes, block-identified, block-size, block-items, item-written, length-indexBytes, Opens, opens-written}
 use Rattle.format.proofs.KeptEntries.{dblk-cksm, dblk-ddt, kept-all, kept-blocks, kept-table}
 use Rattle.format.proofs.Storing.{handedOr, stored-sized, entries-sized, length-entries, shift-fits, shift-least, Source, old, new, stored-ok, NewPointer, fresh, kept, new-pointer, length-newPointers, getD-newPointers, item-largest, largest-bound}
-use Rattle.format.proofs.Bytes.{field-fits, entries-fit}
+use Rattle.format.proofs.Bytes.{field-fits, entries-fit, tag-bytes}
 
 -- ---- a pointer, encoded and decoded
 decode-encode : (s : ℕ) (p : Pointer) → p .item .0 < 2 ^ s → decode s (encode s p) ≡ p

@@ -1,20 +1,22 @@
--- Lists of bytes: their fields fit, and what is written is bytes again.
+-- Lists of bytes: their fields fit and are laid out as they stood, and what is written is bytes again.
 use mathlib.Core.List.{List, [], _∷_, flatten}
 use mathlib.Core.Option.{Option, none, some}
+use mathlib.Core.Path.{_≡_, sym, ap, _∙_}
 use Prim.Native.Nat.{ℕ, zero, suc, _+_, _*_, _/_, _^_, _≤_, _<_}
 use native.Mathlib.Nat.{mod-lt, zero-lt-suc}
+use native.Mathlib.Omega.{arith}
 use lib.Dec.{T, ltb, lit<}
 use lib.Ieee.Fits.{and-l, and-r}
 use lib.ListN.{length, getD}
 use lib.Pow.{areBytes}
-use Rattle.fields.specs.Bytes.{toLe, field, overwrite}
+use Rattle.fields.specs.Bytes.{part, fromLe, toLe, field, overwrite}
 use Rattle.fields.specs.Layout.{Field, num, raw, layout}
-use Rattle.fields.proofs.Numbers.{field-lt}
-use Rattle.fields.proofs.Overwrite.{overwrite-split}
+use Rattle.fields.proofs.Numbers.{field-lt, toLe-field}
+use Rattle.fields.proofs.Overwrite.{overwrite-split, part-whole}
 use Rattle.format.specs.declared.Entry.{Entry}
 use Rattle.format.specs.declared.Pointer.{Pointer}
 use Rattle.format.specs.Lists.{All, done, more, IsBytes}
-use Rattle.format.specs.Layouts.{AARUFRMT, IDX2, DBLK, DDT*, entryLength, tableEntryLength, headerBytes, entryAt, entriesFrom, entryBytes, indexHeader, indexBytes, blockHeader, blockBytes, tableHeader, tableBytes, encode}
+use Rattle.format.specs.Layouts.{AARUFRMT, IDX2, DBLK, DDT*, tag, entryLength, tableEntryLength, headerBytes, entryAt, entriesFrom, entryBytes, indexHeader, indexBytes, blockHeader, blockBytes, tableHeader, tableBytes, encode}
 use Rattle.format.specs.Opening.{opened}
 use Rattle.format.specs.Creating.{createdEntries, createdBytes}
 use Rattle.format.specs.Committing.{pieces, tableEntryBytes, newTable, newBlock, appendedFor, storedFor, appended, appendedBytes}
@@ -30,6 +32,10 @@ bytes-get (more h hs) (suc i) = bytes-get hs i
 
 pub field-fits : {x : List ℕ} → IsBytes x → (at k : ℕ) → field x at k < 256 ^ k
 field-fits {x} h at k = field-lt x at k (bytes-get h)
+
+-- and have their bytes
+pub field-bytes : {x : List ℕ} → IsBytes x → (at k : ℕ) → at + k ≤ length x → toLe k (field x at k) ≡ part x at k
+field-bytes {x} h at k l = toLe-field x at k (bytes-get h) l
 
 pub entries-fit : (x : List ℕ) → IsBytes x → (k p : ℕ) → All EntryFits (entriesFrom x k p)
 unfolding entriesFrom entryAt
@@ -48,11 +54,18 @@ unfolding toLe
 bytes-toLe zero v = done
 bytes-toLe (suc k) v = more (mod-lt v (zero-lt-suc 255)) (bytes-toLe k (v / 256))
 
--- ---- records: their numbers are bytes by themselves
+-- ---- literals
 is-bytes : (l : List ℕ) → T (areBytes l) → IsBytes l
 is-bytes [] h = done
 is-bytes (b ∷ bs) h = more (lit< (and-l (ltb b 256) (areBytes bs) h)) (is-bytes bs (and-r (ltb b 256) (areBytes bs) h))
 
+-- letters come back from the number that they make
+pub tag-bytes : (letters : List ℕ) → T (areBytes letters) → toLe (length letters) (tag letters) ≡ letters
+unfolding tag field
+tag-bytes letters h =
+    ap (λ (l : List ℕ). toLe (length letters) (fromLe l)) (sym (part-whole letters)) ∙ field-bytes (is-bytes letters h) 0 (length letters) (omega arith) ∙ part-whole letters
+
+-- ---- records: their numbers are bytes by themselves
 abbrev RawBytes : List Field → Type 0
 RawBytes [] = Unit {0}
 RawBytes (num k v ∷ fs) = RawBytes fs

@@ -33,7 +33,7 @@ facts : {A B C : Type 0} → A ↔ B → (B → C) → (C → B) → A ↔ C
 facts h f g = Iff·trans h (f, g)
 
 -- ---- opening
-lacks-iff : (img : List ℕ) (at : ℕ) (letters : List ℕ) → (lacks img at letters ≡ false) ↔ Identified img at letters
+pub lacks-iff : (img : List ℕ) (at : ℕ) (letters : List ℕ) → (lacks img at letters ≡ false) ↔ Identified img at letters
 unfolding lacks Identified
 lacks-iff img at letters = Iff·trans not-iff equal-iff
 

@@ -23,9 +23,9 @@ use Rattle.format.specs.Facts.{Identified, HeaderOk, EntryOk}
 use Rattle.format.proofs.Tests.{same-true}
 use Rattle.format.proofs.Lists.{all-take, all-drop, all-replicate}
 use Rattle.format.proofs.Checks.{Sound, create-ok}
-use Rattle.format.proofs.Named.{tag-bytes, identified-number, user-data-true, offsets-yes}
+use Rattle.format.proofs.Named.{identified-number, user-data-true, offsets-yes}
 use Rattle.format.proofs.Written.{EntryFits, length-headerBytes, length-tableBytes, table-identified, table-entries, length-indexBytes, Opens, opens-written}
-use Rattle.format.proofs.Bytes.{bytes-overwrite, bytes-created}
+use Rattle.format.proofs.Bytes.{bytes-overwrite, bytes-created, tag-bytes}
 use Rattle.format.proofs.Buffers.{outcome-accepted}
 
 fromLe-zeros : (l : List ℕ) → All (λ (b : ℕ). b ≡ 0) l → fromLe l ≡ 0

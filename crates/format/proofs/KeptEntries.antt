@@ -13,7 +13,8 @@ use Rattle.format.specs.Layouts.{DBLK, DDT*, CKSM, tag}
 use Rattle.format.specs.Opening.{isType, isUserData, offsetsOf}
 use Rattle.format.specs.Committing.{keptEntry, keptEntries}
 use Rattle.format.proofs.Tests.{never, choose-cases}
-use Rattle.format.proofs.Named.{tag-bytes, type-on, type-off, user-data-on, user-data-true, user-data-false, offsets-yes, offsets-no, offsets-cons}
+use Rattle.format.proofs.Bytes.{tag-bytes}
+use Rattle.format.proofs.Named.{type-on, type-off, user-data-on, user-data-true, user-data-false, offsets-yes, offsets-no, offsets-cons}
 
 apart : {a b : List ℕ} → equal a b ≡ false → a ≢ b
 apart h e = never (equal-iff .1 e) h

@@ -12,6 +12,7 @@ pub mod KeptEntries
 pub mod Addresses
 pub mod Storing
 pub mod Bytes
+pub mod Letters
 pub mod Appended
 pub mod Buffers
 pub mod Committed

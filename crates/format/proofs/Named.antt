@@ -5,11 +5,9 @@ use mathlib.Core.Logic.{_≢_, _⊎_, inl, inr, _↔_, Iff·rfl, ⊎-elim}
 use mathlib.Core.Path.{_≡_, refl, sym, ap, _∙_, subst}
 use Prim.Native.Nat.{ℕ, _^_, _<_}
 use native.Mathlib.Omega.{arith}
-use lib.Dec.{T}
 use lib.ListN.{length}
-use lib.Pow.{areBytes}
 use Rattle.fields.specs.Bytes.{fromLe, toLe, field}
-use Rattle.fields.proofs.Numbers.{fromLe-toLe, toLe-fromLe}
+use Rattle.fields.proofs.Numbers.{fromLe-toLe}
 use Rattle.fields.proofs.Equal.{equal-iff}
 use Rattle.format.specs.declared.Entry.{Entry}
 use Rattle.format.specs.Tests.{choose}
@@ -21,10 +19,6 @@ use Rattle.format.specs.Facts.{Identified, UserData}
 use Rattle.format.proofs.Tests.{on-or-off, never, same-on, same-true, or-on, or-true-left, or-true-right, and-on, and-true, and-iff, choose-true, choose-false, choose-cases}
 
 -- ---- letters, as a number
-pub tag-bytes : (letters : List ℕ) → T (areBytes letters) → toLe (length letters) (tag letters) ≡ letters
-unfolding tag
-tag-bytes letters h = toLe-fromLe letters h
-
 pub identified-number : (y : List ℕ) (at : ℕ) (letters : List ℕ) → Identified y at letters → field y at (length letters) ≡ tag letters
 unfolding Identified field tag
 identified-number y at letters h = ap fromLe h
@@ -39,7 +33,7 @@ module _ (letters : List ℕ) (e : Entry) where
   unfolding isType
   type-on h = equal-iff .0 h
 
-  type-true : toLe 4 (e .blockType) ≡ letters → isType letters e ≡ true
+  pub type-true : toLe 4 (e .blockType) ≡ letters → isType letters e ≡ true
   unfolding isType
   type-true h = equal-iff .1 h
 

@@ -1,4 +1,5 @@
 -- The demands, as the claims that proofs/ proves of these definitions.
+use mathlib.Core.Bool.{true, false}
 use mathlib.Core.List.{List, [], _∷_}
 use mathlib.Core.Logic.{_≢_, _⊎_, _↔_}
 use mathlib.Core.Path.{_≡_}
@@ -11,8 +12,8 @@ use Rattle.format.specs.declared.Placed.{Placed}
 use Rattle.format.specs.declared.Refusal.{Refusal}
 use Rattle.format.specs.Lists.{All, Any, Only, IsBytes}
 use Rattle.format.specs.Refusals.{Answer, refused, accepted}
-use Rattle.format.specs.Layouts.{DBLK, DDT*, CKSM, tag, indexOffset, indexHeaderLength, entryCount, entryLength, entries, blockHeaderLength, sectorSize, tableHeaderLength, tableShift, tableCount, tableEntryLength}
-use Rattle.format.specs.Opening.{tableAt, opened, sectorCount}
+use Rattle.format.specs.Layouts.{DBLK, DDT*, CKSM, tag, indexOffset, indexHeaderLength, entryCount, entryLength, entryAt, entries, blockHeaderLength, sectorSize, tableHeaderLength, tableShift, tableCount, tableEntryLength}
+use Rattle.format.specs.Opening.{lacks, isType, tableAt, opened, sectorCount}
 use Rattle.format.specs.Reading.{tableEntryAt, pointerAt, read, locate}
 use Rattle.format.specs.Answers.{bytesRead}
 use Rattle.format.specs.Writing.{placed}
@@ -77,6 +78,14 @@ pub record Demand1Refusals : Type 0 where
       RefusesBy committingNumber (PlaceFor img (indexOffset img) (λ a. a < opened img (indexOffset img) .count)) (commit buffer used addresses size sectors time .result)
   pub rollingBack : (buffer : List ℕ) (used offset time : ℕ)
       → RefusesBy rollingBackNumber (PlaceFor (take used buffer) offset NoSector) (rollback buffer used offset time .result)
+
+-- ---- 6/13: the test of an identifier "says yes exactly if the bytes are those letters in that order", at a place and in an index entry
+pub record TestsLetters (img : List ℕ) (letters : List ℕ) : Type 0 where
+  pub atPlace : (at : ℕ) → (lacks img at letters ≡ false) ↔ (part img at (length letters) ≡ letters)
+  pub inEntry : (p : ℕ) → p + entryLength ≤ length img → (isType letters (entryAt img p) ≡ true) ↔ (part img p 4 ≡ letters)
+
+abbrev pub LettersTested : Type 0
+LettersTested = (img : List ℕ) → IsBytes img → (letters : List ℕ) → TestsLetters img letters
 
 -- ---- Demand 2, reading: in an image that opens, a sector is given exactly if its table entry names an item of an indexed, intact,
 -- unpacked data block, and then it is that item's bytes.
