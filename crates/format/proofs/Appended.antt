@@ -30,7 +30,7 @@ use Rattle.format.proofs.Checks.{PointerOk, SectorOk, AddressOk, Sound,
 use Rattle.format.proofs.Named.{identified-number, type-number, user-data-on, user-data-true, user-data-false, offsets-yes, offsets-no, offsets-append, has-head, has-left, has-right}
 use Rattle.format.proofs.Agree.{Agree, header-agree, entry-agree, item-agree, bytes-agree, block-low}
 use Rattle.format.proofs.Written.{EntryFits, holds-piece, length-tableBytes, table-identified, table-entries, length-blockBytes, block-identified, block-size, block-items, item-written, length-indexBytes, Opens, opens-written}
-use Rattle.format.proofs.KeptEntries.{dblk-cksm, dblk-ddt, kept-all, kept-blocks, kept-table}
+use Rattle.format.proofs.KeptEntries.{cksm-dblk, dblk-ddt, not-cksm, kept-all, kept-blocks, kept-table}
 use Rattle.format.proofs.Storing.{handedOr, stored-sized, entries-sized, length-entries, shift-fits, shift-least, Source, old, new, stored-ok, NewPointer, fresh, kept, new-pointer, length-newPointers, getD-newPointers, item-largest, largest-bound}
 use Rattle.format.proofs.Bytes.{field-fits, entries-fit, tag-bytes}
 
@@ -456,5 +456,5 @@ module _ (x : List ℕ) (o : ℕ) (addresses : List ℕ) (size : ℕ) (sectors :
           sound = sound-new;
           reads = reads-new;
           past = λ a k. read-20 y newIndexAt (opens-new .ok) a (rw (opens-new .found) k);
-          stale = rw (opens-new .named) (all-append (all-map (λ e k. k .1) kept-fit) (block-entry-all (length x) items (λ n. dblk-cksm)));
+          stale = rw (opens-new .named) (all-append (all-map (λ e k. k .1) kept-fit) (block-entry-all (length x) items (λ n. not-cksm (userDataEntry DBLK (length x)) (λ q. cksm-dblk (sym q ∙ tag-bytes DBLK tt)))));
         }

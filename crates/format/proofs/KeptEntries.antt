@@ -4,8 +4,7 @@ use mathlib.Core.List.{List, [], _∷_, map}
 use mathlib.Core.Logic.{_≢_}
 use mathlib.Core.Path.{_≡_, refl, sym, ap, _∙_}
 use Prim.Native.Nat.{ℕ}
-use native.Mathlib.Omega.{arith}
-use Rattle.fields.specs.Bytes.{fromLe, toLe, equal}
+use Rattle.fields.specs.Bytes.{toLe, equal}
 use Rattle.fields.proofs.Equal.{equal-iff}
 use Rattle.format.specs.declared.Entry.{Entry}
 use Rattle.format.specs.Lists.{All, done, more}
@@ -23,7 +22,7 @@ cksm-ddt : CKSM ≢ DDT*
 unfolding equal
 cksm-ddt = apart refl
 
-cksm-dblk : CKSM ≢ DBLK
+pub cksm-dblk : CKSM ≢ DBLK
 unfolding equal
 cksm-dblk = apart refl
 
@@ -31,12 +30,8 @@ pub dblk-ddt : DBLK ≢ DDT*
 unfolding equal
 dblk-ddt = apart refl
 
-pub dblk-cksm : tag DBLK ≢ tag CKSM
-unfolding tag fromLe
-dblk-cksm = omega arith
-
 -- an entry of another type has another number
-not-cksm : (e : Entry) → toLe 4 (e .blockType) ≢ CKSM → e .blockType ≢ tag CKSM
+pub not-cksm : (e : Entry) → toLe 4 (e .blockType) ≢ CKSM → e .blockType ≢ tag CKSM
 not-cksm e h q = h (ap (toLe 4) q ∙ tag-bytes CKSM tt)
 
 -- an entry with another offset is of the same kind

@@ -186,7 +186,7 @@ const ROLLBACK_ROWS: [[u64; 5]; 39] = [
     [SET, INDEX + 12, 8, 0, 0], // crc64
     [ROLLBACK, 382, INDEX, 8, 0],
     [CRC, INDEX + 12, INDEX + 20, 32, 0],
-    [SET, BLOCK, 1, 0x58, 0], // XBLK
+    [SET, BLOCK, 1, b'X' as u64, 0], // XBLK
     [ROLLBACK, 382, INDEX, 8, 0],
     [SET, BLOCK, 4, DBLK, 0], // identifier
     [SET, TABLE + 41, 8, 0, 0], // crc64
