@@ -10,28 +10,30 @@ static uint8_t buffer[4096]; /* the image is its first `used` bytes */
 static void show(const char *when, uint64_t used)
 {
     uint64_t sectors = 0, place;
-    uint32_t number = aaru_open(buffer, used, &sectors, &place);
+    int64_t lowest = 0;
+    uint32_t number = aaru_sector_count(buffer, used, &sectors, &lowest, &place);
 
     printf("%s: %" PRIu64 " bytes\n", when, used);
     if (number != 0) {
         printf("  refused with %" PRIu32 " at byte %" PRIu64 "\n", number, place);
         return;
     }
-    for (uint64_t address = 0; address < sectors; address++) {
+    for (uint64_t entry = 0; entry < sectors; entry++) {
+        int64_t address = lowest + (int64_t)entry;
         uint64_t start, size;
 
         number = aaru_locate(buffer, used, address, &start, &size, &place);
         if (number == 0)
-            printf("  %" PRIu64 " \"%.*s\" at %" PRIu64 "\n", address, (int)size, (const char *)buffer + start, start);
+            printf("  %" PRId64 " \"%.*s\" at %" PRIu64 "\n", address, (int)size, (const char *)buffer + start, start);
         else
-            printf("  %" PRIu64 " refused with %" PRIu32 "\n", address, number);
+            printf("  %" PRId64 " refused with %" PRIu32 "\n", address, number);
     }
 }
 
 int main(void)
 {
     const uint8_t application[64] = "t\0a\0k\0e\0s"; /* in UTF-16 */
-    const uint64_t first[] = {0, 2}, second[] = {1}, falling[] = {2, 1};
+    const int64_t first[] = {0, 2}, second[] = {1}, falling[] = {2, 1};
     const uint8_t a_and_b[] = {'A', 'A', 'A', 'A', 'B', 'B', 'B', 'B'};
     uint64_t used, empty, take1, take2, index, start, size, place;
     uint32_t number;

@@ -5,7 +5,7 @@ use std::collections::HashMap;
 /// A commit's arguments besides the buffer.
 pub struct Commit<'a> {
     pub used: u64,
-    pub addresses: &'a [u64],
+    pub addresses: &'a [i64],
     pub size: u64,
     pub sectors: &'a [u8],
     pub time: u64,
@@ -50,7 +50,7 @@ impl Commit<'_> {
     /// Opening's numbers, 20, the sectors' numbers.
     fn open<'b>(&self, image: &'b [u8]) -> Result<Disc<'b>, Refused> {
         let disc = Disc::open(image)?;
-        if self.addresses.iter().any(|a| *a >= disc.count() as u64) {
+        if self.addresses.iter().any(|a| *a as u64 >= disc.count() as u64) {
             return Err(20);
         }
         disc.check_sectors()?;
@@ -70,7 +70,7 @@ impl Commit<'_> {
     ) -> impl Iterator<Item = Option<Pointer>> + 'b {
         let mut k = 0;
         disc.pointers().enumerate().map(move |(a, old)| {
-            if self.addresses.get(k) != Some(&(a as u64)) {
+            if self.addresses.get(k) != Some(&(a as i64)) {
                 return old;
             }
             k += 1;

@@ -95,7 +95,7 @@ fn check_small(random: &mut Random) {
     let (mut buffer, mut used) = check(&vec![7; room], |form, b| (form.create)(b, count));
     for time in 0..6 {
         let size = 1 + random.next() % 3;
-        let addresses: Vec<_> = (0..=count).filter(|_| random.next() % 20 < 7).collect();
+        let addresses: Vec<_> = (0..=count as i64).filter(|_| random.next() % 20 < 7).collect();
         let mut sectors = random.bytes(addresses.len() * size as usize);
         sectors.iter_mut().for_each(|b| *b %= 2);
         let c = Commit {
@@ -112,9 +112,9 @@ fn check_small(random: &mut Random) {
 
 /// What is measured: the sectors of a disc, and new ones for some of its addresses.
 struct Input {
-    addresses: Vec<u64>,
+    addresses: Vec<i64>,
     sectors: Vec<u8>,
-    some: Vec<u64>,
+    some: Vec<i64>,
     new: Vec<u8>,
 }
 
@@ -129,7 +129,7 @@ fn random_sectors(random: &mut Random, count: usize, alike: usize) -> Vec<u8> {
 
 impl Input {
     fn new(random: &mut Random, alike: usize) -> Self {
-        let addresses: Vec<_> = (0..SECTORS as u64).collect();
+        let addresses: Vec<_> = (0..SECTORS as i64).collect();
         Self {
             some: addresses.iter().step_by(SECTORS / NEW).copied().collect(),
             addresses,

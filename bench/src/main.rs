@@ -3,6 +3,7 @@ mod checksums; // the checksum, measured
 mod commit; // committing in Rust
 mod committing; // creating and committing, measured
 mod disc; // an image in Rust
+mod kinds; // opening and reading the two kinds of table, measured
 mod reading; // opening and reading, measured
 mod rust; // checksums in Rust
 
@@ -31,5 +32,6 @@ fn main() {
     let mut random = Random(0x9E37_79B9_7F4A_7C15);
     checksums::measure(&mut random);
     reading::measure(&mut random);
+    kinds::measure(&mut random);
     committing::measure(&mut random);
 }

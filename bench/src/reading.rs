@@ -22,7 +22,7 @@ fn image(random: &mut Random, sectors: u64, written: usize, size: usize, each: u
     let records = 8 * sectors as usize + 16 * commits + 1000;
     let mut buffer = vec![0; 1000 + written * size + (commits + 1) * records];
     let mut used = aaru::create(&mut buffer, &about).expect("created").used;
-    let addresses: Vec<_> = (0..written as u64).collect();
+    let addresses: Vec<_> = (0..written as i64).collect();
     for addresses in addresses.chunks(each) {
         let sectors = random.bytes(addresses.len() * size);
         let placed = aaru::commit(&mut buffer, used, addresses, size as u64, &sectors, 1);
@@ -33,28 +33,28 @@ fn image(random: &mut Random, sectors: u64, written: usize, size: usize, each: u
 }
 
 /// Where the sector at an address ends, or, of no address, how many sectors there are; or the refusal.
-type Read = fn(&[u8], Option<u64>) -> Result<u64, u32>;
+type Read = fn(&[u8], Option<i64>) -> Result<u64, u32>;
 
-fn ours(image: &[u8], address: Option<u64>) -> Result<u64, u32> {
+fn ours(image: &[u8], address: Option<i64>) -> Result<u64, u32> {
     match address {
-        None => aaru::open(image),
+        None => aaru::sector_count(image).map(|s| s.count),
         Some(a) => aaru::read(image, a).map(|s| s.start + s.bytes.len() as u64),
     }
     .map_err(|refusal| refusal.number)
 }
 
-fn rust(image: &[u8], address: Option<u64>) -> Result<u64, u32> {
+fn rust(image: &[u8], address: Option<i64>) -> Result<u64, u32> {
     let disc = Disc::open(image)?;
     let Some(a) = address else {
         return Ok(disc.count() as u64);
     };
-    let sector = disc.read(a)?;
+    let sector = disc.read(a as u64)?;
     let start = sector.as_ptr() as usize - image.as_ptr() as usize;
     Ok((start + sector.len()) as u64)
 }
 
 /// Microseconds a call, ours and Rust's: the median of repetitions in which they take turns.
-fn times(image: &[u8], address: Option<u64>, calls: u32) -> [f64; 2] {
+fn times(image: &[u8], address: Option<i64>, calls: u32) -> [f64; 2] {
     let forms: [Read; 2] = [ours, rust];
     let mut times = [const { Vec::new() }; 2];
     for _ in 0..REPETITIONS {
@@ -76,7 +76,7 @@ pub fn measure(random: &mut Random) {
     let blocks = image(random, 1024, 1024, 16, 1);
     for image in [&small, &bank, &empty, &blocks] {
         let addresses = (0..9000).step_by(7).map(Some);
-        for address in addresses.chain([None, Some(u64::MAX)]) {
+        for address in addresses.chain([None, Some(-1)]) {
             assert_eq!(ours(image, address), rust(image, address));
         }
     }

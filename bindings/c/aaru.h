@@ -20,7 +20,8 @@
  * x86-64, no call takes more than 20 KiB of stack.
  *
  * Checks of the image, made by each call that opens one, in this order. The place is 0 for 1, 2 and 3; for 4, 5, 6, 9 and 10 the index's offset as
- * it was read, or handed to aaru_rollback, even past the end; for 7 and 8 that of the index entry; for 11 to 14 the table's offset.
+ * it was read, or handed to aaru_rollback, even past the end; for 7 and 8 that of the index entry; for 11 to 14 the table's offset; for 70 to 72 it
+ * is 0. A table is of one of two kinds, by its identifier: 'DDT*', with entries of 8 bytes, or 'DDT2', with entries of 4 bytes.
  *    1  `used` is below 104
  *    2  the header's identifier is neither 'AARUFRMT' nor 'DICMFRMT'
  *    3  the image's major version is not 2
@@ -30,17 +31,23 @@
  *    6  the checksum of the index's entries is wrong
  *    7  an entry's offset is below 104, or offset + 4 lies past the end } for each entry
  *    8  the four bytes there differ from the entry's blockType          } in turn
- *    9  no entry is for a 'DDT*' table of data type 1
+ *    9  no entry is for a table, of either kind, of data type 1
  *   10  more than one is
- *   11  the table's header (49 bytes) runs past the end
+ *   11  the table's header (49 bytes; 82 of 'DDT2') runs past the end
  *   13  the table is compressed
- *   12  the table's type is not 1, its shift is over 32, its length is not 8 x entries, or cmpLength is not length
+ *   70  'DDT2': levels is not 1
+ *   71  'DDT2': sizeType is not 0
+ *   72  'DDT2': negative and overflow together exceed blocks
+ *   12  the table's type is not 1, its shift or alignment is over 32, its length is not 8 x entries (4 x entries of 'DDT2'), or cmpLength is not
+ *       length
  *   11  the table's payload runs past the end
  *   14  either checksum of the table is wrong
  *
- * Checks of a sector, in this order. The place is that of the table entry for 22, the block's offset for 23 to 27, and 0 for 20 and 21.
- *   20  the address is not below the number of sectors
- *   21  the sector is not written
+ * Addresses are signed. The lowest is 0 for 'DDT*' and minus the header's `negative` for 'DDT2'; the others follow it.
+ * Checks of a sector, in this order. The place is that of the table entry for 22, the block's offset for 23 to 27, and 0 for 20, 21 and 73.
+ *   20  the address is below the lowest one, or not below the lowest one + the number of sectors
+ *   21  the sector is not written: its entry is 0, or for 'DDT2' has status 0 (not dumped)
+ *   73  'DDT2': the entry's status is neither 0 nor 1 (dumped)
  *   22  no index entry for a 'DBLK' block of data type 1 has the byte offset that the table entry names
  *   23  the block's header (36 bytes) runs past the end
  *   24  the block is compressed
@@ -49,7 +56,8 @@
  *   26  the item number is not below length / sector size
  *   27  either checksum of the block is wrong
  *
- * The other checks, 30 to 35, are of what the caller hands in, not of the image: their place is 0.
+ * The other checks, 30 to 35, are of what the caller hands in, not of the image: their place is 0. So is that of
+ *   74  the image's table, for aaru_rollback the one that the index at its offset names, is a 'DDT2': only 'DDT*' is written
  */
 #ifndef AARU_H
 #define AARU_H
@@ -62,17 +70,17 @@ extern "C" {
 #endif
 
 /*
- * How many sectors the image has: `*sectors`.
- * Refused with: 1 to 14, as above.
+ * How many sectors the image has, `*sectors`, and its lowest address, `*lowest`: its addresses are `*lowest` and those that follow it.
+ * Refused with: 1 to 14 and 70 to 72, as above.
  */
-uint32_t aaru_open(const uint8_t *image, size_t used, uint64_t *sectors, uint64_t *place);
+uint32_t aaru_sector_count(const uint8_t *image, size_t used, uint64_t *sectors, int64_t *lowest, uint64_t *place);
 
 /*
  * Where the sector at an address lies: it is the `*size` bytes of the image from `*start` on, which lie inside it. Sectors of one disc may differ
  * in size.
- * Refused with: 1 to 14, then 20 to 27, as above.
+ * Refused with: 1 to 14 and 70 to 72, then 20 to 27 and 73, as above.
  */
-uint32_t aaru_locate(const uint8_t *image, size_t used, uint64_t address, uint64_t *start, uint64_t *size, uint64_t *place);
+uint32_t aaru_locate(const uint8_t *image, size_t used, int64_t address, uint64_t *start, uint64_t *size, uint64_t *place);
 
 /*
  * Makes a new image at the start of the buffer, of `sectors` sectors that are not written: 189 + 8 x sectors bytes. Later bytes of the buffer stay
@@ -101,13 +109,14 @@ uint32_t aaru_create(uint8_t *buffer, size_t length, uint64_t sectors, const uin
  *   30  `sector_size` is 0 or over 65,536, or there are over 65,536 addresses
  *   33  `sectors_length` is not address_count x sector_size
  *   34  the addresses do not rise strictly
- *    1 to 14, as above
- *   20  an address is not below the number of sectors
+ *    1 to 14 and 70 to 72, as above
+ *   74  as above
+ *   20  an address is negative or not below the number of sectors
  *   22 to 27, as above: every sector of the disc is checked, by rising address, and the first that is refused other than with 21 gives its number
  *      and place
  *   35  the new image would not fit into the buffer
  */
-uint32_t aaru_commit(uint8_t *buffer, size_t length, uint64_t used, const uint64_t *addresses, size_t address_count, uint64_t sector_size,
+uint32_t aaru_commit(uint8_t *buffer, size_t length, uint64_t used, const int64_t *addresses, size_t address_count, uint64_t sector_size,
                      const uint8_t *sectors, size_t sectors_length, uint64_t time, uint64_t *new_used, uint64_t *index, uint64_t *place);
 
 /*
@@ -118,7 +127,8 @@ uint32_t aaru_commit(uint8_t *buffer, size_t length, uint64_t used, const uint64
  * Refused with, in this order:
  *   31  the buffer is longer than 4,294,967,296 bytes
  *   32  `used` exceeds the buffer's length
- *    1 to 14, as above, with `offset` in place of the header's indexOffset
+ *    1 to 14 and 70 to 72, as above, with `offset` in place of the header's indexOffset
+ *   74  as above
  */
 uint32_t aaru_rollback(uint8_t *buffer, size_t length, uint64_t used, uint64_t offset, uint64_t time, uint64_t *new_used, uint64_t *index,
                        uint64_t *place);

@@ -1,10 +1,16 @@
 //! The C interface as `bindings/c/aaru.h` declares it. Nothing checks these lines against that file or the library.
 extern "C" {
-    pub fn aaru_open(image: *const u8, used: usize, sectors: *mut u64, place: *mut u64) -> u32;
+    pub fn aaru_sector_count(
+        image: *const u8,
+        used: usize,
+        sectors: *mut u64,
+        lowest: *mut i64,
+        place: *mut u64,
+    ) -> u32;
     pub fn aaru_locate(
         image: *const u8,
         used: usize,
-        address: u64,
+        address: i64,
         start: *mut u64,
         size: *mut u64,
         place: *mut u64,
@@ -28,7 +34,7 @@ extern "C" {
         buffer: *mut u8,
         length: usize,
         used: u64,
-        addresses: *const u64,
+        addresses: *const i64,
         address_count: usize,
         sector_size: u64,
         sectors: *const u8,

@@ -10,7 +10,7 @@
 //! let made = aaru::create(&mut buffer, &about)?;
 //! let take = aaru::commit(&mut buffer, made.used, &[0, 5], 4, b"AAAABBBB", 1)?;
 //! let image = &buffer[..take.used as usize];
-//! assert_eq!(aaru::open(image)?, 16);
+//! assert_eq!(aaru::sector_count(image)?.count, 16);
 //! assert_eq!(aaru::read(image, 5)?.bytes, b"BBBB");
 //! assert_eq!(aaru::read(image, 1).unwrap_err().number, 21); // not written
 //! let refusal = aaru::rollback(&mut buffer, take.used, 104, 2).unwrap_err();
@@ -71,18 +71,33 @@ fn answer<T>(number: u32, place: u64, value: T) -> Result<T, Refusal> {
     }
 }
 
-/// How many sectors the image has. Refused with 1 to 14.
-pub fn open(image: &[u8]) -> Result<u64, Refusal> {
-    let (mut sectors, mut place) = (0, 0);
-    // SAFETY: the slice is valid for its length, and the numbers are not part of it.
-    let number = unsafe { ffi::aaru_open(image.as_ptr(), image.len(), &mut sectors, &mut place) };
-    answer(number, place, sectors)
+/// The addresses of an image: how many there are, and the lowest; the others follow it.
+#[derive(Clone, Copy, Debug, PartialEq, Eq)]
+pub struct AddressRange {
+    pub count: u64,
+    pub lowest: i64,
 }
 
-/// The sector at an address. Refused with 1 to 14, 20 to 27.
-pub fn read(image: &[u8], address: u64) -> Result<Sector<'_>, Refusal> {
+/// How many sectors the image has, and which address is the lowest. Refused with 1 to 14, 70 to 72.
+pub fn sector_count(image: &[u8]) -> Result<AddressRange, Refusal> {
+    let (mut range, mut place) = (AddressRange { count: 0, lowest: 0 }, 0);
+    // SAFETY: the slice is valid for its length, and the numbers are not part of it.
+    let number = unsafe {
+        ffi::aaru_sector_count(
+            image.as_ptr(),
+            image.len(),
+            &mut range.count,
+            &mut range.lowest,
+            &mut place,
+        )
+    };
+    answer(number, place, range)
+}
+
+/// The sector at an address. Refused with 1 to 14, 70 to 72, 20 to 27, 73.
+pub fn read(image: &[u8], address: i64) -> Result<Sector<'_>, Refusal> {
     let (mut start, mut size, mut place) = (0, 0, 0);
-    // SAFETY: as for `open`.
+    // SAFETY: as for `sector_count`.
     let number = unsafe {
         ffi::aaru_locate(
             image.as_ptr(),
@@ -125,11 +140,11 @@ pub fn create(buffer: &mut [u8], about: &Creation) -> Result<Placed, Refusal> {
 }
 
 /// Commits sectors of `sector_size` bytes, which stand one after another in `sectors`, to rising addresses. Refused with 1 to 14, 20, 22 to 27,
-/// 30 to 35.
+/// 30 to 35, 70 to 72, 74.
 pub fn commit(
     buffer: &mut [u8],
     used: u64,
-    addresses: &[u64],
+    addresses: &[i64],
     sector_size: u64,
     sectors: &[u8],
     time: u64,
@@ -155,7 +170,7 @@ pub fn commit(
     answer(number, place, placed)
 }
 
-/// Makes the disc read as right after the call that answered `offset` as its index. Refused with 1 to 14, 31, 32.
+/// Makes the disc read as right after the call that answered `offset` as its index. Refused with 1 to 14, 31, 32, 70 to 72, 74.
 pub fn rollback(buffer: &mut [u8], used: u64, offset: u64, time: u64) -> Result<Placed, Refusal> {
     let (mut placed, mut place) = (Placed { used: 0, index: 0 }, 0);
     // SAFETY: as for `create`.

@@ -7,6 +7,7 @@ ghost use Rattle.format.specs.Creating.{create};
 ghost use Rattle.format.specs.Committing.{commit};
 ghost use Rattle.format.specs.RollingBack.{rollback};
 ghost use Rattle.format.specs.Answers.{counted, located, bytesRead, answered};
+pub use format::AddressRange;
 pub use format::ByteOffset;
 use format::CREATED_ENTRIES;
 pub use format::Counted;
@@ -19,18 +20,18 @@ pub use format::Updated;
 use format::Verdict;
 use opening::Opening;
 
-// How many sectors the image has, or why it does not open: 1 to 14.
+// How many sectors the image has and which address is the lowest, or why it does not open: 1 to 14, 70 to 72.
 pub fn sector_count(image: &[u8]) -> Counted
     ensures { λ r. ⌜ counted r ≡ sectorCount (now (image .entry)) ⌝ }
 {
     let opened = opening::open(image);
     match opened {
         Opening::Refused(r) => Counted::Refused(r),
-        Opening::Opens(t) => Counted::Sectors(opening::count(t)),
+        Opening::Opens(t) => Counted::Sectors(opening::range(t)),
     }
 }
 
-// Where the sector at address a lies in the image, or why it can't be read: 1 to 14, 20 to 27. Beside opening it costs at
+// Where the sector at address a lies in the image, or why it can't be read: opening's numbers, 20 to 27, 73. Beside opening it costs at
 // most one pass over the index and one over the sector's block.
 pub fn locate(image: &[u8], a: SectorAddress) -> Located
     ensures { λ r. ⌜ located r ≡ locate (now (image .entry)) (a .0) ⌝ }
@@ -89,7 +90,7 @@ pub fn create(
 }
 
 // Commits sectors of `size` bytes, which stand one after another in `sectors`, to the addresses of the list: these read as handed in
-// from then on, every other as before. Or says why it can't: 31, 32, 30, 33, 34, opening's numbers, 20, the refusal of the first sector of
+// from then on, every other as before. Or says why it can't: 31, 32, 30, 33, 34, opening's numbers, 74, 20, the refusal of the first sector of
 // the disc that is refused other than with 21, 35. The answer is the new `used`, and where the new index stands. No byte changes below the
 // old `used` but the header's indexOffset and lastWrittenTime, and none from the new one on.
 //
@@ -99,7 +100,7 @@ pub fn create(
 pub fn commit(
     buffer: &mut [u8],
     used: u64,
-    addresses: &[u64],
+    addresses: &[i64],
     size: u64,
     sectors: &[u8],
     time: u64,
@@ -118,7 +119,7 @@ pub fn commit(
 }
 
 // Makes the index at `offset` the disc's: where a creation or a commit answered that offset, the disc reads as right after that call. Or
-// says why it can't: 31, 32, 1 to 3, then opening's numbers 4 to 14 with this offset in place of the header's. It sets the header's
+// says why it can't: 31, 32, 1 to 3, then opening's other numbers with this offset in place of the header's, 74. It sets the header's
 // indexOffset and lastWrittenTime alone. The answer is `used` and the offset. Linear in the index's and the table's bytes.
 pub fn rollback(buffer: &mut [u8], used: u64, offset: ByteOffset, time: u64) -> Updated
     ensures { λ r. ⌜ answered r (now (buffer .exit)) ≡ rollback (now (buffer .entry)) used (offset .0) time ⌝ }
@@ -127,7 +128,7 @@ pub fn rollback(buffer: &mut [u8], used: u64, offset: ByteOffset, time: u64) -> 
     if let Verdict::Refuses(r) = v {
         return Updated::Refused(r);
     }
-    let w = opening::open_verdict(fields::part(buffer, 0, used), offset);
+    let w = opening::writable_verdict(fields::part(buffer, 0, used), offset);
     if let Verdict::Refuses(r) = w {
         return Updated::Refused(r);
     }

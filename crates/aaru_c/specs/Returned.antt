@@ -2,6 +2,8 @@
 -- buffer.
 use mathlib.Core.List.{List}
 use Prim.Native.Nat.{ℕ}
+use lib.IntN.{ℤ}
+use Rattle.format.specs.declared.AddressRange.{AddressRange}
 use Rattle.format.specs.declared.Place.{Place}
 use Rattle.format.specs.declared.Placed.{Placed}
 use Rattle.format.specs.Refusals.{Answer, refused, accepted}
@@ -18,6 +20,10 @@ pub record Returned (A : Type 0) : Type 0 where
 unfoldable pub returned : {A : Type 0} → Answer A → A → ℕ → Returned A
 returned (accepted a) values place = record { number = 0; values = a; place = place }
 returned (refused r) values place = record { number = r .number; values = values; place = r .place .0 }
+
+-- the values of aaru_sector_count
+abbrev pub countAndLowest : ℕ → ℤ → AddressRange
+countAndLowest count lowest = record { count = count; lowest = record { 0 = lowest } }
 
 -- the values of aaru_locate; those of a call that writes are `placed` of format/specs/Writing
 abbrev pub startAndSize : ℕ → ℕ → Place

@@ -10,7 +10,7 @@ ghost use Rattle.format.specs.Committing.{commit};
 ghost use Rattle.format.specs.RollingBack.{rollback};
 ghost use Rattle.format.specs.Writing.{placed};
 ghost use Rattle.format.specs.Answers.{updated};
-ghost use Rattle.aaru_c.specs.Returned.{returned, startAndSize, left};
+ghost use Rattle.aaru_c.specs.Returned.{returned, countAndLowest, startAndSize, left};
 use aaru::ByteOffset;
 use aaru::Counted;
 use aaru::Located;
@@ -26,15 +26,23 @@ fn refused(r: Refusal, place: &mut u64) -> u32
     r.number
 }
 
-// How many sectors the image has.
+// How many sectors the image has, and which address is the lowest.
 #[no_mangle]
-pub extern "C" fn aaru_open(image: &[u8], sectors: &mut u64, place: &mut u64) -> u32
-    ensures { λ r. ⌜ record { number = r; values = now (sectors .exit); place = now (place .exit) } ≡ returned (sectorCount (now (image .entry))) (now (sectors .entry)) (now (place .entry)) ⌝ }
+pub extern "C" fn aaru_sector_count(
+    image: &[u8],
+    sectors: &mut u64,
+    lowest: &mut i64,
+    place: &mut u64,
+) -> u32
+    ensures { λ r. ⌜ record { number = r; values = countAndLowest (now (sectors .exit)) (now (lowest .exit)); place = now (place .exit) } ≡ returned (sectorCount (now (image .entry))) (countAndLowest (now (sectors .entry)) (now (lowest .entry))) (now (place .entry)) ⌝ }
 {
     let answer = aaru::sector_count(image);
     match answer {
-        Counted::Sectors(n) => {
-            *sectors = n;
+        Counted::Sectors(s) => {
+            *sectors = s.count;
+            let first = s.lowest;
+            let address = first.0;
+            *lowest = address;
             0
         }
         Counted::Refused(r) => refused(r, place),
@@ -45,7 +53,7 @@ pub extern "C" fn aaru_open(image: &[u8], sectors: &mut u64, place: &mut u64) ->
 #[no_mangle]
 pub extern "C" fn aaru_locate(
     image: &[u8],
-    address: u64,
+    address: i64,
     start: &mut u64,
     size: &mut u64,
     place: &mut u64,
@@ -112,7 +120,7 @@ pub extern "C" fn aaru_create(
 pub extern "C" fn aaru_commit(
     buffer: &mut [u8],
     used: u64,
-    addresses: &[u64],
+    addresses: &[i64],
     sectorSize: u64,
     sectors: &[u8],
     time: u64,

@@ -1,27 +1,34 @@
 -- What a commit appends, by what its passes found: where it stands, and what the commit leaves. Assumes nothing.
 use mathlib.Core.Bool.{false}
 use mathlib.Core.List.{List, [], _∷_, _++_, append-assoc}
+use mathlib.Core.Logic.{Iff·rfl}
 use mathlib.Core.Option.{Option}
 use mathlib.Core.Path.{_≡_, refl, sym, ap, _∙_, subst}
 use Prim.Native.Nat.{ℕ, _+_, _*_, _≤_, _<_}
 use native.Mathlib.Omega.{arith}
 use lib.ListN.{length, take, length-append}
+use lib.IntN.{ℤ}
 use lib.Seq.{length-take-le}
 use Rattle.fields.specs.Bytes.{part, overwrite}
 use Rattle.fields.proofs.Overwrite.{length-overwrite, overwrite-then, take-overwrite}
 use Rattle.format.specs.declared.Placed.{Placed}
 use Rattle.format.specs.declared.Pointer.{Pointer}
+use Rattle.format.specs.declared.TableKind.the-variants.{First}
+use Rattle.format.specs.declared.Verdict.the-variants.{Passes}
+use Rattle.format.specs.Lists.{All, done, more}
 use Rattle.format.specs.declared.Updated.the-variants as update
 use Rattle.format.specs.Layouts.{headerLength, indexOffset, entryCount, entries, indexBytes, entryLength, blockHeaderLength, tableHeaderLength, tableHeader, tableBytes, tableEntryLength}
 use Rattle.format.specs.Refusals.{refusal}
 use Rattle.format.specs.Opening.{Opened, opened}
 use Rattle.format.specs.Writing.{mostAddresses, longestBuffer, placed, setHeader}
-use Rattle.format.specs.Committing.{anyOutside, pieces, Stored, storedFor, pointersFor, largestItem, shiftFor, newBlock, newBlockEntry, newTable, keptEntries, Appended, tableStart, indexStart, usedAfter, appendedFor, appended, appendedBytes, append, commitVerdict, commit}
+use Rattle.format.specs.Committing.{anyOutside, entryNumbers, sectorsVerdict, pieces, Stored, storedFor, pointersFor, largestItem, shiftFor, newBlock, newBlockEntry, newTable, keptEntries, Appended, tableStart, indexStart, usedAfter, appendedFor, appended, appendedBytes, append, commitVerdict, commit}
 use Rattle.format.specs.Answers.{answered}
-use Rattle.format.proofs.Tests.{below-true, below-iff}
+use Rattle.format.proofs.Tests.{below-true, below-iff, or-iff}
 use Rattle.format.proofs.Chains.{stop-last, on-last, goes}
 use Rattle.format.proofs.Answers.{outcome-stops, outcome-done}
-use Rattle.format.proofs.Checks.{OpenOk, ArgumentsOk, DiscOk, arguments-ok, disc-ok}
+use Rattle.format.proofs.Checks.{OpenOk, ArgumentsOk, DiscOk, arguments-ok, disc-ok, first-flat, second-iff}
+use Rattle.format.proofs.Numbers.{inside-number}
+use Rattle.format.proofs.Addresses.{numbers-rise, length-numbers}
 use Rattle.format.proofs.Refusals.{row-passes, then-rest}
 use Rattle.format.proofs.Storing.{stored-few, stored-sized, length-pieces, length-newPointers, length-entries}
 use Rattle.format.proofs.Appended.{shift-small}
@@ -138,13 +145,25 @@ module _ {buf : List ℕ} {used : ℕ} {t : Opened} {addresses : List ℕ} {size
       (omega (arith, d .stores .entries, many)) e₁ (rw (d .counted) at e₂) (rw (c ∙ sym many) at e₃)
       ∙ ap (λ m. overwrite buf used (newBlock size items ++ tableBytes m (length ps) (tableEntriesBytes m ps))) (d .least)
 
+-- the numbers of addresses that are inside are below the count
+numbers-inside : (t : Opened) (l : List ℤ) → anyOutside t l ≡ false → All (λ (n : ℕ). n < t .count) (entryNumbers t l)
+unfolding entryNumbers anyOutside
+numbers-inside t [] h = done
+numbers-inside t (a ∷ l) h =
+    let r = or-iff Iff·rfl Iff·rfl .0 h in
+    more (inside-number t a (r .0) .inside) (numbers-inside t l (r .1))
+
 -- ---- a commit all of whose checks but 35 have passed
-module _ (buf : List ℕ) (used : ℕ) (t : Opened) (addresses : List ℕ) (size : ℕ) (sectors : List ℕ) (passed : Passed buf used t addresses size sectors) where
+module _ (buf : List ℕ) (used : ℕ) (t : Opened) (addresses : List ℤ) (size : ℕ) (sectors : List ℕ) (passed : Passed buf used t addresses size sectors) where
   abbrev img : List ℕ
   img = take used buf
 
+  -- by the numbers of their table entries
+  abbrev numbers : List ℕ
+  numbers = entryNumbers t addresses
+
   abbrev st : Stored
-  st = storedBy img t addresses size sectors
+  st = storedBy img t numbers size sectors
 
   arguments : ArgumentsOk buf used addresses size sectors
   arguments = arguments-ok buf used addresses size sectors .0 (passed .arguments)
@@ -158,25 +177,41 @@ module _ (buf : List ℕ) (used : ℕ) (t : Opened) (addresses : List ℕ) (size
   pub length-img : length img ≡ used
   length-img = length-take-le used buf (arguments .bufferOk .inside)
 
-  inside : anyOutside (t .count) addresses ≡ false
+  pub inside : anyOutside t addresses ≡ false
   inside = rw opened-as at (disc .inside)
 
+  -- the table is of the first kind, and so the lowest address is 0
+  pub first : t .kind ≡ First
+  first = rw opened-as at (disc .sound .first)
+
+  lowest : t .negative ≡ 0
+  lowest = rw opened-as at (first-flat img (indexOffset img) (disc .sound .first) .0)
+
+  many : length numbers ≡ length addresses
+  many = length-numbers t addresses
+
+  sectors-pass : sectorsVerdict img (entries img (indexOffset img)) t ≡ Passes
+  sectors-pass =
+      sym (then-rest _ _ (row-passes _ (refusal 20 0) inside))
+      ∙ sym (then-rest _ _ (row-passes _ (refusal 74 0) (second-iff (t .kind) .1 first)))
+      ∙ sym (disc-opened img t addresses (passed .opens)) ∙ passed .disc
+
   -- what the two passes ask for
-  pub commits : Commits img t addresses size sectors
+  pub commits : Commits img t numbers size sectors
   commits =
       record {
-        checked = (passed .opens, sym (then-rest _ _ (row-passes _ (refusal 20 0) inside)) ∙ sym (disc-opened img t addresses (passed .opens)) ∙ passed .disc);
+        checked = (passed .opens, sectors-pass);
         short = omega (arith, length-img, arguments .bufferOk .inside, arguments .bufferOk .long);
-        rises = arguments .rises;
-        inside = inside;
-        few = arguments .few;
+        rises = numbers-rise t lowest addresses inside (arguments .rises);
+        inside = numbers-inside t addresses inside;
+        few = rw many (arguments .few);
         pos = arguments .pos;
         small = arguments .small;
-        whole = arguments .whole;
+        whole = rw many (arguments .whole);
       }
 
   abbrev added : Appended
-  added = appended img (indexOffset img) addresses size sectors
+  added = appended img (indexOffset img) numbers size sectors
 
   abbrev at : Layout
   at = layoutFor img t size (length (st .items))
@@ -189,23 +224,23 @@ module _ (buf : List ℕ) (used : ℕ) (t : Opened) (addresses : List ℕ) (size
 
   -- the largest item number of the new table, with the disc opened as u
   abbrev largest : Opened → ℕ
-  largest u = largestItem (pointersBy img u addresses size sectors)
+  largest u = largestItem (pointersBy img u numbers size sectors)
 
   items-few : length (st .items) ≤ mostAddresses
-  items-few = omega (arith, stored-few img t (length img) (pieces (length addresses) size sectors) [], length-pieces (length addresses) size sectors, arguments .few)
+  items-few = omega (arith, stored-few img t (length img) (pieces (length numbers) size sectors) [], length-pieces (length numbers) size sectors, many, arguments .few)
 
   -- ---- where there is room, the block and the table can be written
   module _ (room : at .end ≤ length buf) where
-    stores : Stores buf used t addresses size sectors (at .table .0 + tableHeaderLength) (shiftFor (largest t))
+    stores : Stores buf used t numbers size sectors (at .table .0 + tableHeaderLength) (shiftFor (largest t))
     unfolding layoutFor storedFor pointersFor
     stores =
-        let few = subst (λ (u : Opened). length (storedBy img u addresses size sectors .items) ≤ longestBuffer) (sym opened-as) (omega (arith, items-few)) in
+        let few = subst (λ (u : Opened). length (storedBy img u numbers size sectors .items) ≤ longestBuffer) (sym opened-as) (omega (arith, items-few)) in
         record {
           commits = commits;
           short = arguments .bufferOk .long;
           items = omega (arith, length-img, block-room (length (st .items)) size);
           entries = omega arith;
-          low = subst (λ (u : Opened). shiftFor (largest u) ≤ 32) opened-as (shift-small img (indexOffset img) addresses size sectors (disc .sound) (commits .short) few);
+          low = subst (λ (u : Opened). shiftFor (largest u) ≤ 32) opened-as (shift-small img (indexOffset img) numbers size sectors (disc .sound) (commits .short) few);
         }
 
     indexes : (b : List ℕ) → length b ≡ length buf → take used b ≡ img
@@ -222,19 +257,19 @@ module _ (buf : List ℕ) (used : ℕ) (t : Opened) (addresses : List ℕ) (size
 
   -- ---- the buffer once the index and the header's fields are written too
   index-start : indexStart used added ≡ at .index .0
-  index-start = subst (λ n. indexStart n added ≡ at .index .0) length-img (indexStart-is img t addresses size sectors opened-as (arguments .whole))
+  index-start = subst (λ n. indexStart n added ≡ at .index .0) length-img (indexStart-is img t numbers size sectors opened-as (commits .whole))
 
   used-after : usedAfter used added ≡ at .end
-  used-after = subst (λ n. usedAfter n added ≡ at .end) length-img (usedAfter-is img t addresses size sectors opened-as (arguments .whole))
+  used-after = subst (λ n. usedAfter n added ≡ at .end) length-img (usedAfter-is img t numbers size sectors opened-as (commits .whole))
 
-  all-written : (time : ℕ) {b₁ b₂ b₃ : List ℕ} → b₁ ≡ overwrite buf used (newBlock size (st .items) ++ newTable (pointersBy img t addresses size sectors))
+  all-written : (time : ℕ) {b₁ b₂ b₃ : List ℕ} → b₁ ≡ overwrite buf used (newBlock size (st .items) ++ newTable (pointersBy img t numbers size sectors))
       → b₂ ≡ overwrite b₁ (at .index .0) (indexBytes (newEntries (take used b₁) (indexOffset img) (at .table .0) (length (st .items))))
       → b₃ ≡ setHeader b₂ (at .index .0) time → b₃ ≡ setHeader (overwrite buf used (appendedBytes added)) (indexStart used added) time
   unfolding appendedBytes indexStart tableStart
   all-written time {b₁} {b₂} {b₃} e₁ e₂ e₃ =
-      let is-block : added .block ≡ newBlock size (st .items) = block-is img t addresses size sectors opened-as (arguments .whole) in
-      let is-table : added .table ≡ newTable (pointersBy img t addresses size sectors) = newTable-is img t addresses size sectors opened-as (arguments .whole) in
-      let is-index : added .index ≡ indexBytes (newEntries img (indexOffset img) (at .table .0) (length (st .items))) = index-is img t addresses size sectors opened-as (arguments .whole) in
+      let is-block : added .block ≡ newBlock size (st .items) = block-is img t numbers size sectors opened-as (commits .whole) in
+      let is-table : added .table ≡ newTable (pointersBy img t numbers size sectors) = newTable-is img t numbers size sectors opened-as (commits .whole) in
+      let is-index : added .index ≡ indexBytes (newEntries img (indexOffset img) (at .table .0) (length (st .items))) = index-is img t numbers size sectors opened-as (commits .whole) in
       let f₁ : b₁ ≡ overwrite buf used (added .block ++ added .table) = e₁ ∙ sym (ap (λ l. overwrite buf used (l ++ added .table)) is-block ∙ ap (λ l. overwrite buf used (newBlock size (st .items) ++ l)) is-table) in
       let kept : take used b₁ ≡ img = ap (take used) f₁ ∙ take-overwrite buf used (added .block ++ added .table) used (omega arith) in
       let start : at .index .0 ≡ used + length (added .block ++ added .table) = sym index-start ∙ rw length-append (omega arith) in
@@ -249,21 +284,23 @@ module _ (buf : List ℕ) (used : ℕ) (t : Opened) (addresses : List ℕ) (size
   no-room : (time : ℕ) → length buf < at .end → answered (update.Refused (refusal 35 0)) buf ≡ commit buf used addresses size sectors time
   unfolding commit append commitVerdict
   no-room time h =
-      outcome-stops buf _ _
-      (goes (sym (passed .arguments)) (goes (sym (passed .disc)) (stop-last (below-true _ _ (omega (arith, used-after))))))
+      rw opened-as
+      (outcome-stops buf _ _
+      (goes (sym (passed .arguments)) (goes (sym (passed .disc)) (stop-last (below-true _ _ (omega (arith, used-after)))))))
 
   accepted-commit : (time : ℕ) {p : Placed} {after : List ℕ} → at .end ≤ length buf → p ≡ placed (at .end) (at .index .0)
       → after ≡ setHeader (overwrite buf used (appendedBytes added)) (indexStart used added) time
       → answered (update.To p) after ≡ commit buf used addresses size sectors time
   unfolding commit append commitVerdict
   accepted-commit time h e f =
-      outcome-done buf (goes (sym (passed .arguments)) (goes (sym (passed .disc)) (on-last _ (below-iff .1 (omega (arith, used-after))))))
-      (e ∙ sym (ap (λ n. placed n (indexStart used added)) used-after ∙ ap (λ n. placed (at .end) n) index-start)) f
+      rw opened-as
+      (outcome-done buf (goes (sym (passed .arguments)) (goes (sym (passed .disc)) (on-last _ (below-iff .1 (omega (arith, used-after))))))
+      (e ∙ sym (ap (λ n. placed n (indexStart used added)) used-after ∙ ap (λ n. placed (at .end) n) index-start)) f)
 
 -- ---- by its plan
-module _ {buf : List ℕ} {used : ℕ} {t : Opened} {addresses : List ℕ} {size : ℕ} {sectors : List ℕ} {plan : Planned}
-    (passed : Passed buf used t addresses size sectors) (planned : plan ≡ planFor (take used buf) t addresses size sectors) where
-  stored-planned : plan .stored ≡ length (storedBy (take used buf) t addresses size sectors .items)
+module _ {buf : List ℕ} {used : ℕ} {t : Opened} {addresses : List ℤ} {size : ℕ} {sectors : List ℕ} {plan : Planned}
+    (passed : Passed buf used t addresses size sectors) (planned : plan ≡ planFor (take used buf) t (entryNumbers t addresses) size sectors) where
+  stored-planned : plan .stored ≡ length (storedBy (take used buf) t (entryNumbers t addresses) size sectors .items)
   unfolding planFor
   stored-planned = ap (λ (p : Planned). p .stored) planned
 
@@ -276,25 +313,25 @@ module _ {buf : List ℕ} {used : ℕ} {t : Opened} {addresses : List ℕ} {size
       no-room buf used t addresses size sectors passed time (rw (ap (λ (l : Layout). l .end) (e ∙ ap (layoutFor (take used buf) t size) stored-planned)) at h)
 
 -- ---- all of it, as planned and laid out
-module _ {buf : List ℕ} {used : ℕ} {t : Opened} {addresses : List ℕ} {size : ℕ} {sectors : List ℕ} {plan : Planned} {place : Layout}
+module _ {buf : List ℕ} {used : ℕ} {t : Opened} {addresses : List ℤ} {size : ℕ} {sectors : List ℕ} {plan : Planned} {place : Layout}
     (f : Fits buf used t addresses size sectors plan place) where
-  stored-is : plan .stored ≡ length (storedBy (take used buf) t addresses size sectors .items)
+  stored-is : plan .stored ≡ length (storedBy (take used buf) t (entryNumbers t addresses) size sectors .items)
   stored-is = stored-planned (f .passed) (f .planned)
 
-  largest-is : plan .largest .0 ≡ largestItem (pointersBy (take used buf) t addresses size sectors)
+  largest-is : plan .largest .0 ≡ largestItem (pointersBy (take used buf) t (entryNumbers t addresses) size sectors)
   unfolding planFor
   largest-is = ap (λ (p : Planned). p .largest .0) (f .planned)
 
-  place-is : place ≡ layoutFor (take used buf) t size (length (storedBy (take used buf) t addresses size sectors .items))
+  place-is : place ≡ layoutFor (take used buf) t size (length (storedBy (take used buf) t (entryNumbers t addresses) size sectors .items))
   place-is = f .laid ∙ ap (layoutFor (take used buf) t size) stored-is
 
-  room : layoutFor (take used buf) t size (length (storedBy (take used buf) t addresses size sectors .items)) .end ≤ length buf
+  room : layoutFor (take used buf) t size (length (storedBy (take used buf) t (entryNumbers t addresses) size sectors .items)) .end ≤ length buf
   room = rw (ap (λ (l : Layout). l .end) place-is) at (f .room)
 
-  pub fits-data : {shift : ℕ} → shift ≡ shiftFor (plan .largest .0) → Data buf used t addresses size sectors (place .table .0) shift (plan .stored)
+  pub fits-data : {shift : ℕ} → shift ≡ shiftFor (plan .largest .0) → Data buf used t (entryNumbers t addresses) size sectors (place .table .0) shift (plan .stored)
   unfolding layoutFor
   fits-data {shift} e =
-      let least : shift ≡ shiftFor (largestItem (pointersBy (take used buf) t addresses size sectors)) = e ∙ ap shiftFor largest-is in
+      let least : shift ≡ shiftFor (largestItem (pointersBy (take used buf) t (entryNumbers t addresses) size sectors)) = e ∙ ap shiftFor largest-is in
       let l : place .table .0 ≡ length (take used buf) + blockLengthFor (plan .stored) size = ap (λ (p : Layout). p .table .0) (f .laid) in
       record {
         stores = rw (least, ap (λ (p : Layout). p .table .0) place-is) (stores buf used t addresses size sectors (f .passed) room);
@@ -304,24 +341,24 @@ module _ {buf : List ℕ} {used : ℕ} {t : Opened} {addresses : List ℕ} {size
       }
 
   pub fits-index : {b : List ℕ} {o : ℕ} → o ≡ indexOffset (take used buf)
-      → b ≡ overwrite buf used (newBlock size (storedBy (take used buf) t addresses size sectors .items) ++ newTable (pointersBy (take used buf) t addresses size sectors))
+      → b ≡ overwrite buf used (newBlock size (storedBy (take used buf) t (entryNumbers t addresses) size sectors .items) ++ newTable (pointersBy (take used buf) t (entryNumbers t addresses) size sectors))
       → Indexes b used o (place .index .0) (place .table .0) (place .kept) (plan .stored)
   fits-index {b} {o} e w =
       rw (e, place-is, stored-is)
       (indexes buf used t addresses size sectors (f .passed) room b (ap length w ∙ length-overwrite buf used _) (ap (take used) w ∙ take-overwrite buf used _ used (omega arith)))
 
   pub fits-written : (time : ℕ) {b₁ b₂ b₃ : List ℕ} {o : ℕ} → o ≡ indexOffset (take used buf)
-      → b₁ ≡ overwrite buf used (newBlock size (storedBy (take used buf) t addresses size sectors .items) ++ newTable (pointersBy (take used buf) t addresses size sectors))
+      → b₁ ≡ overwrite buf used (newBlock size (storedBy (take used buf) t (entryNumbers t addresses) size sectors .items) ++ newTable (pointersBy (take used buf) t (entryNumbers t addresses) size sectors))
       → b₂ ≡ overwrite b₁ (place .index .0) (indexBytes (newEntries (take used b₁) o (place .table .0) (plan .stored)))
       → b₃ ≡ setHeader b₂ (place .index .0) time
-      → b₃ ≡ setHeader (overwrite buf used (appendedBytes (appended (take used buf) (indexOffset (take used buf)) addresses size sectors)))
-      (indexStart used (appended (take used buf) (indexOffset (take used buf)) addresses size sectors)) time
+      → b₃ ≡ setHeader (overwrite buf used (appendedBytes (appended (take used buf) (indexOffset (take used buf)) (entryNumbers t addresses) size sectors)))
+      (indexStart used (appended (take used buf) (indexOffset (take used buf)) (entryNumbers t addresses) size sectors)) time
   fits-written time e e₁ e₂ e₃ =
       all-written buf used t addresses size sectors (f .passed) time e₁ (rw (e, place-is, stored-is) at e₂) (rw place-is at e₃)
 
   pub fits-answers : (time : ℕ) {after : List ℕ}
-      → after ≡ setHeader (overwrite buf used (appendedBytes (appended (take used buf) (indexOffset (take used buf)) addresses size sectors)))
-      (indexStart used (appended (take used buf) (indexOffset (take used buf)) addresses size sectors)) time
+      → after ≡ setHeader (overwrite buf used (appendedBytes (appended (take used buf) (indexOffset (take used buf)) (entryNumbers t addresses) size sectors)))
+      (indexStart used (appended (take used buf) (indexOffset (take used buf)) (entryNumbers t addresses) size sectors)) time
       → answered (update.To (placed (place .end) (place .index .0))) after ≡ commit buf used addresses size sectors time
   fits-answers time e =
       accepted-commit buf used t addresses size sectors (f .passed) time room (ap (λ (l : Layout). placed (l .end) (l .index .0)) place-is) e

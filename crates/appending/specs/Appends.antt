@@ -3,11 +3,12 @@ use mathlib.Core.List.{List, []}
 use mathlib.Core.Path.{_≡_}
 use Prim.Native.Nat.{ℕ, zero, suc, _+_, _*_, _≤_}
 use lib.ListN.{length, take}
+use lib.IntN.{ℤ}
 use Rattle.format.specs.declared.Verdict.the-variants.{Passes}
 use Rattle.format.specs.Refusals.{accepted}
 use Rattle.format.specs.Layouts.{indexOffset, indexHeaderLength, entryLength, entries, blockHeaderLength, blockHeader, tableHeaderLength, tableEntryLength}
 use Rattle.format.specs.Opening.{Opened, opening}
-use Rattle.format.specs.Committing.{argumentsVerdict, discVerdict, largestItem, shiftFor, keptEntries}
+use Rattle.format.specs.Committing.{argumentsVerdict, discVerdict, entryNumbers, largestItem, shiftFor, keptEntries}
 use Rattle.indexing.specs.Entries.{newEntries}
 use Rattle.planning.specs.declared.Planned.{Planned}
 use Rattle.planning.specs.Plans.{storedBy, planFor, pointersBy}
@@ -15,7 +16,7 @@ use Rattle.storing.specs.Stores.{Stores}
 use Rattle.appending.specs.declared.Layout.{Layout}
 
 -- all checks but 35 have passed, and the image is opened as t
-pub record Passed (buf : List ℕ) (used : ℕ) (t : Opened) (addresses : List ℕ) (size : ℕ) (sectors : List ℕ) : Type 0 where
+pub record Passed (buf : List ℕ) (used : ℕ) (t : Opened) (addresses : List ℤ) (size : ℕ) (sectors : List ℕ) : Type 0 where
   pub arguments : argumentsVerdict buf used addresses size sectors ≡ Passes
   pub opens : opening (take used buf) ≡ accepted t
   pub disc : discVerdict (take used buf) (indexOffset (take used buf)) addresses ≡ Passes
@@ -50,8 +51,8 @@ pub record Data (buf : List ℕ) (used : ℕ) (t : Opened) (addresses : List ℕ
   pub least : shift ≡ shiftFor (largestItem (pointersBy (take used buf) t addresses size sectors))
 
 -- all of it can be written, as planned and laid out
-pub record Fits (buf : List ℕ) (used : ℕ) (t : Opened) (addresses : List ℕ) (size : ℕ) (sectors : List ℕ) (plan : Planned) (at : Layout) : Type 0 where
+pub record Fits (buf : List ℕ) (used : ℕ) (t : Opened) (addresses : List ℤ) (size : ℕ) (sectors : List ℕ) (plan : Planned) (at : Layout) : Type 0 where
   pub passed : Passed buf used t addresses size sectors
-  pub planned : plan ≡ planFor (take used buf) t addresses size sectors
+  pub planned : plan ≡ planFor (take used buf) t (entryNumbers t addresses) size sectors
   pub laid : at ≡ layoutFor (take used buf) t size (plan .stored)
   pub room : at .end ≤ length buf

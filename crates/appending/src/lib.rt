@@ -3,17 +3,19 @@
 //
 // Cost: beside the checks, two searches for each handed-in sector, one by `planning` and one by `storing`; else linear in what is
 // read and written.
+ghost use mathlib.Core.Bool.{false};
 ghost use mathlib.Core.List.{_++_};
 ghost use mathlib.Core.Path.{_≡_};
 ghost use Prim.Native.Nat.{ℕ, _+_, _*_, _≤_};
 ghost use lib.ListN.{length, take};
 ghost use Rattle.fields.specs.Bytes.{part, overwrite};
+ghost use Rattle.format.specs.declared.TableKind.the-variants.{First};
 ghost use Rattle.format.specs.declared.Verdict.the-variants.{Passes};
 ghost use Rattle.format.specs.Refusals.{accepted};
 ghost use Rattle.format.specs.Layouts.{indexOffset, blockHeaderLength};
 ghost use Rattle.format.specs.Opening.{opening};
 ghost use Rattle.format.specs.Writing.{largestSize, mostAddresses, longestBuffer, setHeader};
-ghost use Rattle.format.specs.Committing.{argumentsVerdict, newBlock, newTable, indexStart, appended, appendedBytes, commit};
+ghost use Rattle.format.specs.Committing.{argumentsVerdict, anyOutside, entryNumbers, newBlock, newTable, indexStart, appended, appendedBytes, commit};
 ghost use Rattle.format.specs.Answers.{answered};
 ghost use Rattle.opening.specs.Answers.{contents};
 ghost use Rattle.indexing.specs.Entries.{blockEntry};
@@ -61,7 +63,7 @@ fn block_entries(stored: u64) -> u64
 
 // Where what is appended to the image will stand, if so many sectors are stored.
 fn lay_out(s: &[u8], t: Opened, size: u64, stored: u64) -> Layout
-    requires { ⌜ (opening (now s) ≡ accepted (contents t)) × (length (now s) ≤ longestBuffer) × (stored ≤ mostAddresses) × (size ≤ largestSize) ⌝ }
+    requires { ⌜ (opening (now s) ≡ accepted (contents t)) × (length (now s) ≤ longestBuffer) × (stored ≤ mostAddresses) × (size ≤ largestSize) × (contents t .kind ≡ First) ⌝ }
     ensures { λ r. ⌜ r ≡ layoutFor (now (s .entry)) (contents t) size stored ⌝ }
 {
     let kept = indexing::count_kept(s, ByteOffset(get(s, INDEX_OFFSET, 8)));
@@ -92,16 +94,16 @@ fn put_data(
     buf: &mut [u8],
     used: u64,
     t: Opened,
-    addresses: &[u64],
+    addresses: &[i64],
     size: u64,
     sectors: &[u8],
     table: ByteOffset,
     shift: u64,
     stored: u64,
 )
-    requires { ⌜ Data (now buf) used (contents t) (now addresses) size (now sectors) (table .0) shift stored ⌝ }
-    ensures { λ _. ⌜ now (buf .exit) ≡ overwrite (now (buf .entry)) used (newBlock size (storedBy (take used (now (buf .entry))) (contents t) (now (addresses .entry)) size (now (sectors .entry)) .items)
-        ++ newTable (pointersBy (take used (now (buf .entry))) (contents t) (now (addresses .entry)) size (now (sectors .entry)))) ⌝ }
+    requires { ⌜ Data (now buf) used (contents t) (entryNumbers (contents t) (now addresses)) size (now sectors) (table .0) shift stored × (anyOutside (contents t) (now addresses) ≡ false) ⌝ }
+    ensures { λ _. ⌜ now (buf .exit) ≡ overwrite (now (buf .entry)) used (newBlock size (storedBy (take used (now (buf .entry))) (contents t) (entryNumbers (contents t) (now (addresses .entry))) size (now (sectors .entry)) .items)
+        ++ newTable (pointersBy (take used (now (buf .entry))) (contents t) (entryNumbers (contents t) (now (addresses .entry))) size (now (sectors .entry)))) ⌝ }
 {
     storing::put_entries(
         buf,
@@ -122,7 +124,7 @@ fn put_all(
     buf: &mut [u8],
     used: u64,
     t: Opened,
-    addresses: &[u64],
+    addresses: &[i64],
     size: u64,
     sectors: &[u8],
     time: u64,
@@ -130,8 +132,8 @@ fn put_all(
     at: Layout,
 )
     requires { ⌜ Fits (now buf) used (contents t) (now addresses) size (now sectors) plan at ⌝ }
-    ensures { λ _. ⌜ now (buf .exit) ≡ setHeader (overwrite (now (buf .entry)) used (appendedBytes (appended (take used (now (buf .entry))) (indexOffset (take used (now (buf .entry)))) (now (addresses .entry)) size (now (sectors .entry)))))
-        (indexStart used (appended (take used (now (buf .entry))) (indexOffset (take used (now (buf .entry)))) (now (addresses .entry)) size (now (sectors .entry)))) time ⌝ }
+    ensures { λ _. ⌜ now (buf .exit) ≡ setHeader (overwrite (now (buf .entry)) used (appendedBytes (appended (take used (now (buf .entry))) (indexOffset (take used (now (buf .entry)))) (entryNumbers (contents t) (now (addresses .entry))) size (now (sectors .entry)))))
+        (indexStart used (appended (take used (now (buf .entry))) (indexOffset (take used (now (buf .entry)))) (entryNumbers (contents t) (now (addresses .entry))) size (now (sectors .entry)))) time ⌝ }
 {
     let o = ByteOffset(get(part(buf, 0, used), INDEX_OFFSET, 8));
     let table = at.table;
@@ -148,7 +150,7 @@ fn append(
     buf: &mut [u8],
     used: u64,
     t: Opened,
-    addresses: &[u64],
+    addresses: &[i64],
     size: u64,
     sectors: &[u8],
     time: u64,
@@ -170,12 +172,12 @@ fn append(
     Updated::To(Placed { used: end, index })
 }
 
-// A commit to a disc that opened as t, whose arguments passed: 20, the sectors' numbers but 21, 35.
+// A commit to a disc that opened as t, whose arguments passed: 74, 20, the sectors' numbers but 21, 35.
 pub fn commit(
     buf: &mut [u8],
     used: u64,
     t: Opened,
-    addresses: &[u64],
+    addresses: &[i64],
     size: u64,
     sectors: &[u8],
     time: u64,

@@ -2,50 +2,78 @@
 use mathlib.Core.Bool.{Bool, true, false}
 use mathlib.Core.List.{List, [], _∷_}
 use mathlib.Core.Path.{_≡_, refl, sym, ap, _∙_}
-use Prim.Native.Nat.{ℕ, suc, _+_, _-_, _≤_, _<_}
+use Prim.Native.Nat.{ℕ, suc, _+_, _-_, _^_, _≤_, _<_}
 use native.Mathlib.Omega.{arith}
+use lib.IntN.{ℤ, pos, negsuc}
 use lib.ListN.{length, drop, getD, length-drop}
 use lib.Seq.{drop-cons}
-use Rattle.format.specs.Tests.{below, _and_}
-use Rattle.format.specs.Committing.{rising}
-use Rattle.format.proofs.Tests.{below-true, below-iff}
+use lib.Signed.{ltZ, leZ, mag}
+use borrow.Author.Tests.{ltb-true, leb-true, leb-false, lt-ltb, le-ltb}
+use Rattle.fields.proofs.Signs.{again, read-back}
+use Rattle.format.specs.Tests.{lessThan, _and_}
+use Rattle.format.specs.Committing.{risingBy, rising}
 
-unfoldable pub remaining : List ℕ → ℕ → Bool
+-- ---- the order of signed numbers
+le-nlt : (x y : ℤ) → leZ x y ≡ true → ltZ y x ≡ false
+le-nlt (pos a) (pos b) e = le-ltb b a (leb-true a b e)
+le-nlt (pos a) (negsuc b) e = sym e
+le-nlt (negsuc a) (pos b) e = refl
+le-nlt (negsuc a) (negsuc b) e = le-ltb a b (leb-true b a e)
+
+nle-lt : (x y : ℤ) → leZ x y ≡ false → ltZ y x ≡ true
+nle-lt (pos a) (pos b) e = lt-ltb b a (leb-false a b e)
+nle-lt (pos a) (negsuc b) e = refl
+nle-lt (negsuc a) (pos b) e = sym e
+nle-lt (negsuc a) (negsuc b) e = lt-ltb a b (leb-false b a e)
+
+-- ---- the loop
+unfoldable pub remaining : List ℤ → ℕ → Bool
 remaining l k = rising (drop (k - 1) l)
 
--- at an iteration there are two addresses to compare
-two : (l : List ℕ) (k : ℕ) → (0 < k) × (k < length l) → remaining l k ≡ (below (getD l (k - 1) 0) (getD l k 0) and rising (drop k l))
-unfolding remaining rising
-two l k h =
-    let e : suc (k - 1) ≡ k = omega arith in
-    let a : drop (k - 1) l ≡ getD l (k - 1) 0 ∷ drop k l = drop-cons l (k - 1) 0 (omega arith) ∙ ap (λ (n : ℕ). getD l (k - 1) 0 ∷ drop n l) e in
-    let b : drop k l ≡ getD l k 0 ∷ drop (suc k) l = drop-cons l k 0 (h .1) in
-    rw (a, b)
-
 -- no two are left
-short : (l : List ℕ) → length l ≤ 1 → rising l ≡ true
-unfolding rising
+short : (l : List ℤ) → length l ≤ 1 → rising l ≡ true
+unfolding risingBy
 short [] h = refl
 short (a ∷ []) h = refl
 short (a ∷ b ∷ l) h = absurd (omega arith)
 
-pub rising-start : (l : List ℕ) → remaining l 1 ≡ rising l
+pub rising-start : (l : List ℤ) → remaining l 1 ≡ rising l
 unfolding remaining
 rising-start l = refl
 
-module _ (l : List ℕ) (k : ℕ) (left : remaining l k ≡ rising l) where
-  -- the second is not above the first
-  pub rising-stops : (0 < k) × (k < length l) × (getD l k 0 ≤ getD l (k - 1) 0) → false ≡ rising l
-  unfolding _and_
-  rising-stops h = sym (two l k (h .0, h .1) ∙ ap (λ (b : Bool). b and rising (drop k l)) (below-iff .1 (h .2))) ∙ left
+module _ (l : List ℤ) (k : ℕ) (left : remaining l k ≡ rising l) where
+  abbrev x : ℤ
+  x = getD l (k - 1) (pos 0)
 
-  -- it is: on to the next
-  pub rising-goes : (0 < k) × (k < length l) × (getD l (k - 1) 0 < getD l k 0) → remaining l (k + 1) ≡ rising l
-  unfolding remaining _and_
-  rising-goes h =
-      let e : k + 1 - 1 ≡ k = omega arith in
-      ap (λ (n : ℕ). rising (drop n l)) e
-      ∙ sym (two l k (h .0, h .1) ∙ ap (λ (b : Bool). b and rising (drop k l)) (below-true _ _ (h .2))) ∙ left
+  abbrev y : ℤ
+  y = getD l k (pos 0)
+
+  module _ (low : 0 < k) (inside : k < length l) where
+    -- at an iteration there are two addresses to compare
+    two : remaining l k ≡ (ltZ x y and rising (drop k l))
+    unfolding remaining risingBy lessThan
+    two =
+        let e : suc (k - 1) ≡ k = omega arith in
+        let a : drop (k - 1) l ≡ x ∷ drop k l = drop-cons l (k - 1) (pos 0) (omega arith) ∙ ap (λ (n : ℕ). x ∷ drop n l) e in
+        let b : drop k l ≡ y ∷ drop (suc k) l = drop-cons l k (pos 0) inside in
+        rw (a, b)
+
+    module _ (f : mag x < 2 ^ 63) (g : mag y < 2 ^ 63) where
+      test : leZ (again y) (again x) ≡ leZ y x
+      test = rw (read-back x f, read-back y g)
+
+      -- the second is not above the first
+      pub rising-stops : leZ (again y) (again x) ≡ true → false ≡ rising l
+      unfolding _and_
+      rising-stops t = sym (two ∙ ap (λ (b : Bool). b and rising (drop k l)) (le-nlt y x (sym test ∙ t))) ∙ left
+
+      -- it is: on to the next
+      pub rising-goes : leZ (again y) (again x) ≡ false → remaining l (k + 1) ≡ rising l
+      unfolding remaining _and_
+      rising-goes t =
+          let e : k + 1 - 1 ≡ k = omega arith in
+          ap (λ (n : ℕ). rising (drop n l)) e
+          ∙ sym (two ∙ ap (λ (b : Bool). b and rising (drop k l)) (nle-lt y x (sym test ∙ t))) ∙ left
 
   pub rising-done : length l ≤ k → true ≡ rising l
   unfolding remaining

@@ -77,13 +77,15 @@ fn size_refused(size: u64, count: u64) -> bool
 }
 
 // Whether the addresses are strictly rising.
-fn is_rising(addresses: &[u64]) -> bool
+fn is_rising(addresses: &[i64]) -> bool
     ensures { λ r. ⌜ r ≡ rising (now (addresses .entry)) ⌝ }
 {
     let mut k: usize = 1;
     // an iteration for each address but the first, up to the first that is not above the one before it
     while k < addresses.len() {
-        if addresses[k] <= addresses[k - 1] {
+        let x = addresses[k - 1];
+        let y = addresses[k];
+        if y <= x {
             return false;
         }
         k += 1;
@@ -95,7 +97,7 @@ fn is_rising(addresses: &[u64]) -> bool
 pub fn commit_verdict(
     buffer: &[u8],
     used: u64,
-    addresses: &[u64],
+    addresses: &[i64],
     size: u64,
     sectors: &[u8],
 ) -> Verdict

@@ -4,6 +4,7 @@ ghost use Prim.Native.Nat.{_+_, _≤_};
 use printing::letters::AARUFRMT;
 use printing::letters::DBLK;
 use printing::letters::DDT;
+use printing::letters::DDT2;
 use printing::letters::IDX2;
 
 // Where the header is.
@@ -21,12 +22,22 @@ const TB: u64 = 3;
 
 const DB: u64 = 4;
 
-const WIDTHS: [[u64; 13]; 5] = [
+// Of a table of the second kind: its header up to `start`, the rest of it, and five entries.
+const TH: u64 = 5;
+
+const TS: u64 = 6;
+
+const TE: u64 = 7;
+
+const WIDTHS: [[u64; 13]; 8] = [
     [8, 8, 8, 8, 8, 8, 8, 8, 8, 0, 0, 0, 0],
     [1, 1, 1, 1, 4, 8, 8, 8, 0, 0, 0, 0, 0],
     [4, 8, 8, 4, 4, 8, 4, 4, 8, 0, 0, 0, 0],
     [4, 2, 2, 1, 8, 8, 8, 8, 8, 8, 8, 8, 0],
     [4, 2, 2, 4, 4, 4, 8, 8, 4, 4, 0, 0, 0],
+    [4, 2, 2, 1, 1, 8, 2, 8, 2, 8, 0, 0, 0],
+    [1, 1, 1, 1, 8, 8, 8, 8, 8, 0, 0, 0, 0],
+    [4, 4, 4, 4, 4, 0, 0, 0, 0, 0, 0, 0, 0],
 ];
 
 // The sectors' bytes.
@@ -59,6 +70,10 @@ const T4: u64 = 0x848a_dd10_6b19_e596;
 const I5: u64 = 0xfed0_f595_f30d_fc62;
 
 const T5: u64 = 0x6bde_8ce2_ae9b_9109;
+
+const I6: u64 = 0x40ae_3ad8_e2cf_c69a;
+
+const T6: u64 = 0x7977_783a_9519_389d;
 
 // A disc is rows of a record's kind, its place and its numbers. What of the header no read looks at is what `format`'s worked
 // disc has.
@@ -103,6 +118,35 @@ const BLOCK_LAST: [[u64; 15]; 5] = [
     [DB, 229, DBLK, 1, 0, 4, 8, 8, AB, AB, AAAA, BBBB, 0, 0, 0],
 ];
 
+// A table of the second kind (11/13): index 104, block 156, and the table last, at 200; negative 1, blocks 5, overflow 1, alignment 2, dataShift 1. What
+// is not looked at is 9. Its entries are for address -1, item 1 of the block at 39 x 4; 0, not dumped; 1, item 0; 2, a status of 2; 3, item 1 of a block
+// at 40 x 4, which no index entry names.
+const SECOND: [[u64; 15]; 7] = [
+    [ID, 0, AARUFRMT, S7, S7, S7, S7, S7, S7, S7, S7, 0, 0, 0, 0],
+    [HD, 72, 2, 0, 1, 2, 3, 104, 4, 5, 0, 0, 0, 0, 0],
+    [IX, 104, IDX2, 2, I6, DDT2, 1, 200, DBLK, 1, 156, 0, 0, 0, 0],
+    [DB, 156, DBLK, 1, 0, 4, 8, 8, AB, AB, AAAA, BBBB, 0, 0, 0],
+    [TH, 200, DDT2, 1, 0, 1, 9, 9, 1, 5, 1, 9, 0, 0, 0],
+    [TS, 238, 2, 1, 9, 0, 5, 20, 20, T6, T6, 0, 0, 0, 0],
+    [
+        TE,
+        282,
+        0x1000_004f,
+        0x4e,
+        0x1000_004e,
+        0x2000_004e,
+        0x1000_0051,
+        0,
+        0,
+        0,
+        0,
+        0,
+        0,
+        0,
+        0,
+    ],
+];
+
 // Writes a field of the record that starts there: 01's "at", the width and the number.
 pub fn set(image: &mut [u8; 512], start: u64, at: u64, width: u64, number: u64)
     requires { ⌜ start + at + width ≤ 512 ⌝ }
@@ -135,7 +179,7 @@ fn records(image: &mut [u8; 512], rows: &[[u64; 15]]) {
         let row = rows[i];
         let kind = row[0] as usize;
         i += 1;
-        if kind < 5 {
+        if kind < 8 {
             let widths = WIDTHS[kind];
             record(image, &widths, &row);
         }
@@ -162,4 +206,8 @@ pub fn table_last(image: &mut [u8; 512]) {
 
 pub fn block_last(image: &mut [u8; 512]) {
     records(image, &BLOCK_LAST);
+}
+
+pub fn second(image: &mut [u8; 512]) {
+    records(image, &SECOND);
 }

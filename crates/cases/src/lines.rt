@@ -82,8 +82,9 @@ pub fn disc_lines(name: &[u8], image: &[u8; 512], used: u64)
         text(name);
         number(b", address ", address);
         text(b": ");
-        place(image, used, SectorAddress(address));
-        quoted(image, used, SectorAddress(address));
+        let a = printing::address(address);
+        place(image, used, a);
+        quoted(image, used, a);
         text(b"\n");
         address += 1;
     }

@@ -1,6 +1,7 @@
 // What the listing program prints for inputs of every kind, below a line with the input's name.
 use super::disc::HEADER;
 use super::disc::p3;
+use super::disc::second;
 use super::disc::set;
 use printing::text;
 
@@ -8,7 +9,7 @@ use printing::text;
 fn listing_lines(name: &[u8], input: &[u8]) {
     text(name);
     text(b":\n");
-    let mut out = [0u8; 139264];
+    let mut out = [0u8; 311296];
     let n = listing::list(input, &mut out);
     text(&out[..n]);
 }
@@ -33,4 +34,6 @@ pub fn all(image: &mut [u8; 512]) {
     listing_lines(b"P4", fields::part(image, 0, 507));
     set(image, HEADER, 72, 1, 3); // image major
     listing_lines(b"P4, major version 3", fields::part(image, 0, 507));
+    second(image);
+    listing_lines(b"a table of the second kind", fields::part(image, 0, 302));
 }

@@ -11,6 +11,7 @@ mod script; // cases as rows of numbers
 mod worked_disc; // P1 to P5, P9, P10
 mod opening_cases; // checks 1 to 14
 mod reading_cases; // checks 20 to 27
+mod second_cases; // tables of the second kind
 mod listing_cases; // the text of the listing program
 
 // All 64 bits one: where a checksum starts, and the largest number of 8 bytes.
@@ -105,5 +106,6 @@ fn main() {
     worked_disc::all(&mut image);
     opening_cases::all(&mut image);
     reading_cases::all(&mut image);
+    second_cases::all(&mut image);
     listing_cases::all(&mut image);
 }

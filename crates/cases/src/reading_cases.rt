@@ -8,6 +8,7 @@ use super::script::CRC;
 use super::script::FRESH;
 use super::script::PLACE;
 use super::script::run;
+use printing::MINUS;
 
 // Where the records of `block_last` are, and how many bytes it has, as `table_last` does.
 const INDEX: u64 = 104;
@@ -24,7 +25,7 @@ const ADDRESS_ROWS: [[u64; 3]; 5] = [
     [WHOLE, PLACE, 3],
     [WHOLE, PLACE, 0x1_0000_0000],
     [WHOLE, PLACE, 0x2000_0000_0000_0000],
-    [WHOLE, PLACE, ONES],
+    [WHOLE, PLACE, MINUS + 1],
     [WHOLE, PLACE, 1],
 ];
 
@@ -36,7 +37,7 @@ fn address_cases(disc: &[u8; 512]) {
         b"20 before 21, address 3\n\
           20, address 2^32\n\
           20, address 2^61\n\
-          20, address 2^64 - 1\n\
+          20, address -1\n\
           21 before 22, not written\n",
         &ADDRESS_ROWS,
     );

@@ -4,7 +4,6 @@ ghost use Prim.Native.Nat.{_+_, _≤_};
 ghost use lib.ListN.{length};
 use super::lines::count;
 use super::lines::place;
-use format::SectorAddress;
 use printing::line;
 use printing::text;
 
@@ -20,7 +19,7 @@ pub const FRESH: [u64; 3] = [0, 32, 0];
 // [used, COUNT, 0]: prints the case's name, and the sector count of the image's first `used` bytes, or the refusal.
 pub const COUNT: u64 = 40;
 
-// [used, PLACE, address]: prints the case's name, and a sector's place and size, or the refusal.
+// [used, PLACE, address]: prints the case's name, and a sector's place and size, or the refusal. MINUS + n is address -n.
 pub const PLACE: u64 = 41;
 
 // Writes the checksum of the n bytes from `start`.
@@ -53,7 +52,7 @@ fn answer(image: &[u8; 512], used: u64, word: u64, address: u64) {
         if word == COUNT {
             count(image, used);
         } else {
-            place(image, used, SectorAddress(address));
+            place(image, used, printing::address(address));
         }
     }
 }

@@ -8,7 +8,7 @@ use Rattle.format.specs.declared.Pointer.{Pointer}
 use Rattle.format.specs.declared.Refusal.{Refusal}
 use Rattle.format.specs.declared.Verdict.{Verdict}
 use Rattle.format.specs.declared.Verdict.the-variants.{Passes, Refuses}
-use Rattle.format.specs.Refusals.{_then_}
+use Rattle.format.specs.Refusals.{refusal, _then_}
 use Rattle.format.specs.Layouts.{sectorSize, blockLength}
 use Rattle.format.specs.Opening.{Opened}
 use Rattle.format.specs.Reading.{tableEntryAt, notWritten, pointerAt, has, blockVerdict}
@@ -17,13 +17,19 @@ use Rattle.format.proofs.Tests.{not-iff, atLeast-iff, and-iff, choose-true, cho
 use Rattle.format.proofs.Refusals.{row-iff, then-iff}
 use Rattle.format.proofs.Checks.{block-ok}
 use Rattle.format.proofs.Chains.{on-last}
-use Rattle.checking.specs.Checked.{indexed, formVerdict, wrongSum, onlyAfter, damaged, mark, addressVerdict}
+use Rattle.checking.specs.Checked.{indexed, formVerdict, entryForm, wrongSum, onlyAfter, damaged, mark, addressVerdict}
 
 -- ---- a pointer, but for the checksums
 pub form-ok : (img : List ℕ) (at : ℕ) (p : Pointer) → (formVerdict img at p ≡ Passes)
     ↔ ((has (p .block .0) (indexed img) ≡ true) × (BlockOk img (p .block .0) × (p .item .0 < blockLength img (p .block .0) / sectorSize img (p .block .0))))
 unfolding formVerdict
 form-ok img at p = then-iff (row-iff _ not-iff) (then-iff (block-ok img (p .block .0)) (row-iff _ atLeast-iff))
+
+-- a table entry: what passes points into a well-formed block that is indexed
+pub entry-form-ok : (img : List ℕ) (t : Opened) (n : ℕ) → entryForm img t n ≡ Passes
+    → (has (pointerAt img t n .block .0) (indexed img) ≡ true) × BlockOk img (pointerAt img t n .block .0)
+unfolding entryForm
+entry-form-ok img t n e = let k = then-iff (row-iff (refusal 73 0) Iff·rfl) (form-ok img (tableEntryAt t n) (pointerAt img t n)) .0 e .1 in (k .0, k .1 .0)
 
 -- ---- a damaged block
 module _ (img : List ℕ) (b : ℕ) where
@@ -38,7 +44,7 @@ module _ (img : List ℕ) (b : ℕ) where
 -- ---- an address
 module _ (img : List ℕ) (t : Opened) where
   pub written : (left : List ℕ) (a : ℕ) → notWritten img t a ≡ false
-      → addressVerdict img t left a ≡ (formVerdict img (tableEntryAt t a) (pointerAt img t a) then mark img left (pointerAt img t a .block .0))
+      → addressVerdict img t left a ≡ (entryForm img t a then mark img left (pointerAt img t a .block .0))
   unfolding addressVerdict
   written left a e = choose-false _ _ _ e
 
@@ -47,10 +53,10 @@ module _ (img : List ℕ) (t : Opened) where
   not-written left a e = choose-true _ _ _ e
 
   -- while all blocks are still to be looked at, the form alone
-  pub form-only : (a : ℕ) → notWritten img t a ≡ false → addressVerdict img t (indexed img) a ≡ formVerdict img (tableEntryAt t a) (pointerAt img t a)
+  pub form-only : (a : ℕ) → notWritten img t a ≡ false → addressVerdict img t (indexed img) a ≡ entryForm img t a
   unfolding _then_
-  form-only a e = written (indexed img) a e ∙ alone (tableEntryAt t a) (pointerAt img t a) _ refl
+  form-only a e = written (indexed img) a e ∙ alone _ refl
     where
-      alone : (at : ℕ) (p : Pointer) (v : Verdict) → formVerdict img at p ≡ v → (v then mark img (indexed img) (p .block .0)) ≡ v
-      alone at p Passes q = sym (on-last _ (and-iff not-iff Iff·rfl .1 (inl (form-ok img at p .0 q .0))))
-      alone at p (Refuses r) q = refl
+      alone : (v : Verdict) → entryForm img t a ≡ v → (v then mark img (indexed img) (pointerAt img t a .block .0)) ≡ v
+      alone Passes q = sym (on-last _ (and-iff not-iff Iff·rfl .1 (inl (entry-form-ok img t a q .0))))
+      alone (Refuses r) q = refl

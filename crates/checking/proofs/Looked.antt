@@ -10,14 +10,14 @@ use Rattle.format.specs.Tests.{same, _and_}
 use Rattle.format.specs.Refusals.{refusal, row, _then_}
 use Rattle.format.specs.Layouts.{DBLK, entryLength, entryAt, entriesFrom}
 use Rattle.format.specs.Opening.{isUserData, offsetsOf, Opened}
-use Rattle.format.specs.Reading.{tableEntryAt, notWritten, pointerAt, has}
+use Rattle.format.specs.Reading.{notWritten, pointerAt, has}
 use Rattle.format.proofs.Tests.{on-or-off, never, not-iff, same-on, same-iff, or-rest, and-iff, and-true, choose-true, choose-false}
 use Rattle.format.proofs.Refusals.{then-rest, then-stays, row-refuses}
 use Rattle.format.proofs.Chains.{on-last, ends}
 use Rattle.format.proofs.Named.{has-head}
 use Rattle.index.proofs.Entries.{offsets-next}
 use Rattle.checking.specs.declared.First.{First}
-use Rattle.checking.specs.Checked.{formVerdict, damaged, mark, addressVerdict, FirstLeft, FirstFrom}
+use Rattle.checking.specs.Checked.{entryForm, damaged, mark, addressVerdict, FirstLeft, FirstFrom}
 use Rattle.checking.proofs.Firsts.{first-at, first-same}
 use Rattle.checking.proofs.Forms.{written, not-written}
 
@@ -27,10 +27,10 @@ module _ (img : List ℕ) (t : Opened) where
   Into b a = (notWritten img t a ≡ false) × (pointerAt img t a .block .0 ≡ b)
 
   module _ (b : ℕ) (left : List ℕ) where
-    into : (l : List ℕ) (a : ℕ) → Into b a → addressVerdict img t l a ≡ (formVerdict img (tableEntryAt t a) (pointerAt img t a) then mark img l b)
-    into l a i = written img t l a (i .0) ∙ ap (λ (q : ℕ). formVerdict img (tableEntryAt t a) (pointerAt img t a) then mark img l q) (i .1)
+    into : (l : List ℕ) (a : ℕ) → Into b a → addressVerdict img t l a ≡ (entryForm img t a then mark img l b)
+    into l a i = written img t l a (i .0) ∙ ap (λ (q : ℕ). entryForm img t a then mark img l q) (i .1)
 
-    into-before : (a : ℕ) → Into b a → addressVerdict img t (b ∷ left) a ≡ formVerdict img (tableEntryAt t a) (pointerAt img t a)
+    into-before : (a : ℕ) → Into b a → addressVerdict img t (b ∷ left) a ≡ entryForm img t a
     into-before a i = into (b ∷ left) a i ∙ sym (ends _ (on-last _ (and-iff not-iff Iff·rfl .1 (inl (has-head b b left refl)))))
 
     elsewhere : (a : ℕ) → ¬ Into b a → addressVerdict img t (b ∷ left) a ≡ addressVerdict img t left a
@@ -40,7 +40,7 @@ module _ (img : List ℕ) (t : Opened) where
         other : notWritten img t a ≡ false → addressVerdict img t (b ∷ left) a ≡ addressVerdict img t left a
         other e =
             written img t (b ∷ left) a e
-            ∙ ap (λ (h : Bool). formVerdict img (tableEntryAt t a) (pointerAt img t a) then row (not h and damaged img (pointerAt img t a .block .0)) (refusal 27 (pointerAt img t a .block .0)))
+            ∙ ap (λ (h : Bool). entryForm img t a then row (not h and damaged img (pointerAt img t a .block .0)) (refusal 27 (pointerAt img t a .block .0)))
             (or-rest _ (same-iff .1 (λ q. away (e, sym q))))
             ∙ sym (written img t left a e)
 
@@ -80,8 +80,8 @@ module _ (img : List ℕ) (t : Opened) where
   -- ---- one index entry more
   module _ (left p : ℕ) {first : First} (h : 0 < left) (f : FirstFrom img t left p first) where
     pub other-entry : isUserData DBLK (entryAt img p) ≡ false → FirstFrom img t (left - 1) (p + entryLength) first
-    other-entry e = subst (λ (l : List ℕ). FirstLeft img t l first) (offsets-next DBLK img left p h ∙ choose-false _ _ _ e) f
+    other-entry e = subst (λ (l : List ℕ). FirstLeft img t l first) (offsets-next (isUserData DBLK) img left p h ∙ choose-false _ _ _ e) f
 
     pub block-entry : isUserData DBLK (entryAt img p) ≡ true
         → FirstLeft img t (entryAt img p .offset .0 ∷ offsetsOf DBLK (entriesFrom img (left - 1) (p + entryLength))) first
-    block-entry e = subst (λ (l : List ℕ). FirstLeft img t l first) (offsets-next DBLK img left p h ∙ choose-true _ _ _ e) f
+    block-entry e = subst (λ (l : List ℕ). FirstLeft img t l first) (offsets-next (isUserData DBLK) img left p h ∙ choose-true _ _ _ e) f

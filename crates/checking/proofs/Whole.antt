@@ -1,7 +1,7 @@
 -- Once all blocks are looked at, the first address that is refused is that of the definition.
 use mathlib.Core.Bool.{Bool, true, not}
 use mathlib.Core.List.{List, []}
-use mathlib.Core.Logic.{⊎-elim}
+use mathlib.Core.Logic.{⊎-elim, Iff·rfl}
 use mathlib.Core.Path.{_≡_, refl, sym, ap, _∙_, subst}
 use Prim.Native.Nat.{ℕ, _≤_, _<_}
 use Rattle.format.specs.declared.Pointer.{Pointer}
@@ -11,15 +11,15 @@ use Rattle.format.specs.declared.Verdict.the-variants.{Passes, Refuses}
 use Rattle.format.specs.Tests.{same, _and_, choose}
 use Rattle.format.specs.Refusals.{refusal, row, _then_}
 use Rattle.format.specs.Layouts.{DBLK, indexOffset, entries}
-use Rattle.format.specs.Opening.{Opened}
-use Rattle.format.specs.Reading.{tableEntryAt, notWritten, pointerAt, has, blockVerdict, itemVerdict, pointerVerdict, sectorVerdict}
+use Rattle.format.specs.Opening.{isUserData, Opened}
+use Rattle.format.specs.Reading.{tableEntryAt, notWritten, unknownStatus, pointerAt, has, blockVerdict, itemVerdict, pointerVerdict, sectorVerdict}
 use Rattle.format.specs.Committing.{otherThan21, sectorsVerdict}
-use Rattle.format.proofs.Tests.{on-or-off}
-use Rattle.format.proofs.Refusals.{then-assoc}
-use Rattle.format.proofs.Checks.{pointer-not-21, keeps-others, sector-21, sector-pointer}
+use Rattle.format.proofs.Tests.{on-or-off, never}
+use Rattle.format.proofs.Refusals.{row-iff, then-rest, then-assoc}
+use Rattle.format.proofs.Checks.{keeps-others, sector-21, gives-21}
 use Rattle.index.proofs.Entries.{offsets-done}
 use Rattle.checking.specs.declared.First.{First}
-use Rattle.checking.specs.Checked.{indexed, formVerdict, onlyAfter, damaged, mark, addressVerdict, FirstLeft, FirstFrom}
+use Rattle.checking.specs.Checked.{indexed, formVerdict, entryForm, onlyAfter, damaged, mark, addressVerdict, FirstLeft, FirstFrom, FirstRefused}
 use Rattle.checking.proofs.Firsts.{first-same, first-refusal}
 use Rattle.checking.proofs.Forms.{written, not-written}
 
@@ -36,15 +36,18 @@ module _ (img : List ℕ) (t : Opened) where
       ∙ ap (λ (v : Verdict). row (not (has (q .block .0) (indexed img))) (refusal 22 at) then v) (then-assoc _ _ _ ∙ only-after (blockVerdict img (q .block .0)) _ _ _)
 
   address-whole : (a : ℕ) → a < t .count → addressVerdict img t [] a ≡ otherThan21 (sectorVerdict img (entries img (indexOffset img)) t a)
-  unfolding otherThan21 same choose
+  unfolding otherThan21 same choose entryForm sectorVerdict
   address-whole a l =
-      ⊎-elim (λ e. not-written img t [] a e ∙ sym (ap otherThan21 (sector-21 img _ t a l e)))
-      (λ e. written img t [] a e ∙ pointer-whole (tableEntryAt t a) (pointerAt img t a)
-      ∙ sym (ap otherThan21 (sector-pointer img _ t a l e) ∙ keeps-others _ (pointer-not-21 img _ _ (pointerAt img t a))))
+      ⊎-elim (λ e. not-written img t [] a e ∙ sym (ap otherThan21 (sector-21 img _ t a e)))
+      (λ e. written img t [] a e
+      ∙ then-assoc _ _ _ ∙ ap (λ (v : Verdict). row (unknownStatus img t a) (refusal 73 0) then v) (pointer-whole (tableEntryAt t a) (pointerAt img t a))
+      ∙ sym (keeps-others _ (λ g. never (gives-21 img (entries img (indexOffset img)) t a .0 g) e) ∙ then-rest _ _ (row-iff (refusal 21 0) Iff·rfl .1 e)))
       (on-or-off (notWritten img t a))
 
-  pub all-looked-at : (left p : ℕ) {first : First} → left ≤ 0 → FirstFrom img t left p first
-      → first .verdict ≡ sectorsVerdict img (entries img (indexOffset img)) t
-  unfolding sectorsVerdict
+  pub all-looked-at : (left p : ℕ) {first : First} → left ≤ 0 → FirstFrom img t left p first → FirstRefused img t first
   all-looked-at left p {first} h f =
-      sym (first-refusal _ _ _ (first-same _ _ _ address-whole (subst (λ (l : List ℕ). FirstLeft img t l first) (offsets-done DBLK img left p h) f)))
+      first-same _ _ _ address-whole (subst (λ (l : List ℕ). FirstLeft img t l first) (offsets-done (isUserData DBLK) img left p h) f)
+
+  pub first-verdict : {first : First} → FirstRefused img t first → first .verdict ≡ sectorsVerdict img (entries img (indexOffset img)) t
+  unfolding sectorsVerdict
+  first-verdict f = sym (first-refusal _ _ _ f)

@@ -12,7 +12,8 @@ use Rattle.format.specs.Tests.{atLeast, _and_, choose}
 use Rattle.format.specs.Refusals.{refusal, row, _then_}
 use Rattle.format.specs.Layouts.{DBLK, indexOffset, entries, entriesFrom, sectorSize, blockLength, blockCmpCrc64, blockCrc64, blockPayload}
 use Rattle.format.specs.Opening.{sumsDiffer, offsetsOf, Opened}
-use Rattle.format.specs.Reading.{tableEntryAt, notWritten, pointerAt, has, blockVerdict}
+use Rattle.format.specs.Reading.{tableEntryAt, notWritten, unknownStatus, pointerAt, has, blockVerdict, sectorVerdict}
+use Rattle.format.specs.Committing.{otherThan21}
 use Rattle.format.specs.Facts.{BlockOk}
 use Rattle.checking.specs.declared.First.{First}
 
@@ -27,6 +28,10 @@ formVerdict img at p =
     row (not (has b (indexed img))) (refusal 22 at)
     then blockVerdict img b
     then row (atLeast (p .item .0) (blockLength img b / sectorSize img b)) (refusal 26 b)
+
+-- table entry n, which is written, but for its block's checksums: 73, and the form of what it points to
+unfoldable pub entryForm : List ℕ → Opened → ℕ → Verdict
+entryForm img t n = row (unknownStatus img t n) (refusal 73 0) then formVerdict img (tableEntryAt t n) (pointerAt img t n)
 
 -- what a caller knows of a block: nothing, by 0, or that the index names it and that it passes all checks of a block before that of its
 -- checksums
@@ -53,8 +58,7 @@ mark img left b = row (not (has b left) and damaged img b) (refusal 27 b)
 -- an address while the blocks `left` are still to be looked at: all checks but that of their checksums, 21 left out
 unfoldable pub addressVerdict : List ℕ → Opened → List ℕ → ℕ → Verdict
 addressVerdict img t left a =
-    let p = pointerAt img t a in
-    choose (notWritten img t a) Passes (formVerdict img (tableEntryAt t a) p then mark img left (p .block .0))
+    choose (notWritten img t a) Passes (entryForm img t a then mark img left (pointerAt img t a .block .0))
 
 -- the first of `count` addresses that a check refuses, and how; the count where there is none
 pub record IsFirst (check : ℕ → Verdict) (count : ℕ) (first : First) : Type 0 where
@@ -70,3 +74,7 @@ FirstLeft img t left first = IsFirst (addressVerdict img t left) (t .count) firs
 -- the same, while these index entries are still to be looked at
 abbrev pub FirstFrom : List ℕ → Opened → ℕ → ℕ → First → Type 0
 FirstFrom img t left p first = FirstLeft img t (offsetsOf DBLK (entriesFrom img left p)) first
+
+-- the first address that is refused other than with 21
+abbrev pub FirstRefused : List ℕ → Opened → First → Type 0
+FirstRefused img t first = IsFirst (λ (a : ℕ). otherThan21 (sectorVerdict img (entries img (indexOffset img)) t a)) (t .count) first

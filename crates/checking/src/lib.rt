@@ -1,4 +1,4 @@
-// Internal: the checks that a commit makes of an opened disc: 20 of its addresses, then all sectors by rising address, of which the
+// Internal: the checks that a commit makes of an opened disc: 74 of its table (11/13), 20 of its addresses, then all sectors by rising address, of which the
 // first that is refused other than with 21 gives its refusal.
 //
 // Cost, with E addresses and I index entries: each data block that the index names is summed once at most, however often it is named. To
@@ -12,13 +12,14 @@ ghost use lib.ListN.{length};
 ghost use Rattle.format.specs.Refusals.{accepted};
 ghost use Rattle.format.specs.Layouts.{indexOffset, entryLength, entries};
 ghost use Rattle.format.specs.Opening.{opening};
-ghost use Rattle.format.specs.Reading.{has};
+ghost use Rattle.format.specs.Reading.{has, pointerAt};
 ghost use Rattle.format.specs.Committing.{anyOutside, sectorsVerdict, discVerdict};
 ghost use Rattle.opening.specs.Answers.{contents, held};
-ghost use Rattle.checking.specs.Checked.{indexed, formVerdict, Formed, damaged, FirstLeft, FirstFrom};
+ghost use Rattle.checking.specs.Checked.{indexed, formVerdict, entryForm, Formed, damaged, FirstLeft, FirstFrom, FirstRefused};
 use fields::get;
 use fields::part;
 use format::ByteOffset;
+use format::EntryNumber;
 use format::INDEX_OFFSET;
 use format::Pointer;
 use format::Refusal;
@@ -28,19 +29,19 @@ use opening::Image;
 use opening::Opened;
 
 // The first address that is refused, and how; the number of addresses where none is.
-struct First {
-    address: SectorAddress,
-    verdict: Verdict,
+pub struct First {
+    pub address: EntryNumber,
+    pub verdict: Verdict,
 }
 
-// Whether an address of the list is not below the count.
-fn any_outside(count: u64, addresses: &[u64]) -> bool
-    ensures { λ r. ⌜ r ≡ anyOutside count (now (addresses .entry)) ⌝ }
+// Whether an address of the list has no table entry.
+fn any_outside(t: Opened, addresses: &[i64]) -> bool
+    ensures { λ r. ⌜ r ≡ anyOutside (contents t) (now (addresses .entry)) ⌝ }
 {
     let mut k: usize = 0;
     // an iteration for each address, up to the first that is outside
     while k < addresses.len() {
-        if count <= addresses[k] {
+        if opening::is_outside(t, SectorAddress(addresses[k])) {
             return true;
         }
         k += 1;
@@ -68,6 +69,18 @@ fn form_verdict(s: &[u8], t: Opened, place: ByteOffset, p: Pointer, known: ByteO
     Verdict::Refuses(Refusal { number: 22, place })
 }
 
+// Table entry n, which is written and encodes p, but for its block's checksums: 73, then checks 22 to 26.
+fn entry_form(s: &[u8], t: Opened, n: EntryNumber, p: Pointer, known: ByteOffset) -> Verdict
+    requires { ⌜ (opening (now s) ≡ accepted (contents t)) × (n .0 < contents t .count) × (p ≡ pointerAt (now s) (contents t) (n .0)) × Formed (now s) (known .0) ⌝ }
+    ensures { λ r. ⌜ r ≡ entryForm (now (s .entry)) (contents t) (n .0) ⌝ }
+{
+    if opening::is_unknown(t, opening::table_entry(s, t, n)) {
+        let place = ByteOffset(0);
+        return Verdict::Refuses(Refusal { number: 73, place });
+    }
+    form_verdict(s, t, opening::entry_place(t, n), p, known)
+}
+
 // The first address that is refused other than with 21, by all checks but that of the checksums.
 fn first_form(s: &[u8], t: Opened) -> First
     requires { ⌜ opening (now s) ≡ accepted (contents t) ⌝ }
@@ -78,11 +91,11 @@ fn first_form(s: &[u8], t: Opened) -> First
     let mut a: u64 = 0;
     // an iteration for each address, up to the first that is refused
     while a < count {
-        let here = SectorAddress(a);
+        let here = EntryNumber(a);
         a += 1;
         if !opening::not_written(s, t, here) {
             let p = opening::pointer_at(s, t, here);
-            let v = form_verdict(s, t, opening::entry_place(t, here), p, known);
+            let v = entry_form(s, t, here, p, known);
             if let Verdict::Refuses(r) = v {
                 return First {
                     address: here,
@@ -93,7 +106,7 @@ fn first_form(s: &[u8], t: Opened) -> First
         }
     }
     First {
-        address: SectorAddress(count),
+        address: EntryNumber(count),
         verdict: Verdict::Passes,
     }
 }
@@ -107,7 +120,7 @@ fn is_damaged(s: &[u8], b: ByteOffset) -> bool
         return false;
     }
     let block = b.0;
-    opening::sums_differ(
+    tables::sums_differ(
         part(s, block + 36, get(s, block + 16, 4)),
         get(s, block + 20, 8),
         get(s, block + 28, 8),
@@ -123,7 +136,7 @@ fn first_into(s: &[u8], t: Opened, b: ByteOffset, first: First) -> First
     let mut a: u64 = 0;
     // an iteration for each address below, up to the first that points into the block
     while a < limit.0 {
-        let here = SectorAddress(a);
+        let here = EntryNumber(a);
         a += 1;
         if !opening::not_written(s, t, here) {
             let p = opening::pointer_at(s, t, here);
@@ -162,10 +175,10 @@ fn with_block(s: &[u8], t: Opened, p: ByteOffset, left: u64, first: First) -> Fi
     first
 }
 
-// All sectors by rising address: the first refusal other than 21.
-fn sectors_verdict(s: &[u8], t: Opened) -> Verdict
+// All sectors by rising address: the first that is refused other than with 21.
+pub fn first_refused(s: &[u8], t: Opened) -> First
     requires { ⌜ opening (now s) ≡ accepted (contents t) ⌝ }
-    ensures { λ r. ⌜ r ≡ sectorsVerdict (now (s .entry)) (entries (now (s .entry)) (indexOffset (now (s .entry)))) (contents t) ⌝ }
+    ensures { λ r. ⌜ FirstRefused (now (s .entry)) (contents t) r ⌝ }
 {
     let mut first = first_form(s, t);
     let index = get(s, INDEX_OFFSET, 8);
@@ -177,15 +190,28 @@ fn sectors_verdict(s: &[u8], t: Opened) -> Verdict
         p += 16;
         left -= 1;
     }
+    first
+}
+
+// Its refusal.
+pub fn sectors_verdict(s: &[u8], t: Opened) -> Verdict
+    requires { ⌜ opening (now s) ≡ accepted (contents t) ⌝ }
+    ensures { λ r. ⌜ r ≡ sectorsVerdict (now (s .entry)) (entries (now (s .entry)) (indexOffset (now (s .entry)))) (contents t) ⌝ }
+{
+    let first = first_refused(s, t);
     first.verdict
 }
 
-// A commit's checks of the disc that opened as t: 20, then all sectors.
-fn disc_verdict_at(s: &[u8], t: Opened, addresses: &[u64]) -> Verdict
+// A commit's checks of the disc that opened as t: 74, 20, then all sectors.
+fn disc_verdict_at(s: &[u8], t: Opened, addresses: &[i64]) -> Verdict
     requires { ⌜ opening (now s) ≡ accepted (contents t) ⌝ }
     ensures { λ r. ⌜ r ≡ discVerdict (now (s .entry)) (indexOffset (now (s .entry))) (now (addresses .entry)) ⌝ }
 {
-    if any_outside(opening::count(t), addresses) {
+    let v = opening::kind_verdict(t);
+    if let Verdict::Refuses(r) = v {
+        return Verdict::Refuses(r);
+    }
+    if any_outside(t, addresses) {
         let place = ByteOffset(0);
         return Verdict::Refuses(Refusal { number: 20, place });
     }
@@ -193,7 +219,7 @@ fn disc_verdict_at(s: &[u8], t: Opened, addresses: &[u64]) -> Verdict
 }
 
 // Over an opened image, which it takes apart.
-pub fn disc_verdict<'a, 'b>(image: Image<'a>, addresses: &'b [u64]) -> Verdict
+pub fn disc_verdict<'a, 'b>(image: Image<'a>, addresses: &'b [i64]) -> Verdict
     requires { ⌜ opening (now (image .bytes)) ≡ accepted (held image) ⌝ }
     ensures { λ r. ⌜ r ≡ discVerdict (now (image .entry .bytes)) (indexOffset (now (image .entry .bytes))) (now (addresses .entry)) ⌝ }
 {
@@ -201,7 +227,7 @@ pub fn disc_verdict<'a, 'b>(image: Image<'a>, addresses: &'b [u64]) -> Verdict
 }
 
 // Makes the opened image and hands it on.
-pub fn disc_verdict_of(s: &[u8], t: Opened, addresses: &[u64]) -> Verdict
+pub fn disc_verdict_of(s: &[u8], t: Opened, addresses: &[i64]) -> Verdict
     requires { ⌜ opening (now s) ≡ accepted (contents t) ⌝ }
     ensures { λ r. ⌜ r ≡ discVerdict (now (s .entry)) (indexOffset (now (s .entry))) (now (addresses .entry)) ⌝ }
 {

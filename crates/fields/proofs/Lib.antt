@@ -5,3 +5,4 @@ pub mod Holds
 pub mod Records
 pub mod Equal
 pub mod Compare
+pub mod Signs

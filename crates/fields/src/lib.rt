@@ -1,8 +1,9 @@
 // Internal: bytes in a lent slice. Little-endian numbers are read and written; runs of bytes are taken, copied, cleared
-// and compared. Offsets and counts are u64, as in the format.
+// and compared. Offsets and counts are u64, as in the format. And how large a signed number is.
 ghost use mathlib.Core.Path.{_≡_};
 ghost use Prim.Native.Nat.{_+_, _-_, _≤_};
 ghost use lib.ListN.{length, replicate};
+ghost use lib.IntN.{natAbs};
 ghost use Rattle.fields.specs.Bytes.{part, field, toLe, overwrite, equal};
 
 // How many bytes lie from `at` to the end, none if `at` is past it. A test for "past the end" by `room` adds nothing that
@@ -41,6 +42,17 @@ pub fn get(s: &[u8], at: u64, k: u64) -> u64
         i -= 1;
     }
     acc
+}
+
+// The number in the two bytes from `at`, the lower first: `get` of 2 bytes, as a type that says how large it can be.
+pub fn get_short(s: &[u8], at: u64) -> u16
+    requires { ⌜ at + 2 ≤ length (now s) ⌝ }
+    ensures { λ r. ⌜ r ≡ field (now (s .entry)) at 2 ⌝ }
+{
+    let p = at as usize;
+    let low = s[p];
+    let high = s[p + 1];
+    (high as u16) * 256 + (low as u16)
 }
 
 // Writes the k lowest bytes of v at `at`, the lowest first.
@@ -111,4 +123,15 @@ pub fn spells(s: &[u8], at: u64, letters: &[u8]) -> bool
 {
     let k = letters.len() as u64;
     get(s, at, k) == get(letters, 0, k)
+}
+
+// How far x is from 0. The least number of all has no negative of its type, so 1 is added behind the sign.
+pub fn magnitude(x: i64) -> u64
+    ensures { λ r. ⌜ r ≡ natAbs x ⌝ }
+{
+    if x < 0 {
+        let below = (-1 - x) as u64;
+        return below + 1;
+    }
+    x as u64
 }

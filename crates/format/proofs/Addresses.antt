@@ -3,22 +3,28 @@ use mathlib.Core.Bool.{true, false}
 use mathlib.Core.List.{List, [], _∷_}
 use mathlib.Core.Logic.{_≢_, Iff·rfl}
 use mathlib.Core.Option.{none, some}
-use mathlib.Core.Path.{_≡_, refl, _∙_}
+use mathlib.Core.Path.{_≡_, refl, sym, ap, _∙_}
 use Prim.Native.Nat.{ℕ, zero, suc, _≤_, _<_}
 use native.Mathlib.Nat.{not-suc-le-zero, le-of-suc-le-suc}
 use native.Mathlib.Omega.{arith}
-use lib.ListN.{length, getD}
+use lib.ListN.{length, getD, length-map}
+use lib.IntN.{ℤ, pos}
 use Rattle.format.specs.Lists.{All, done, more}
-use Rattle.format.specs.Committing.{rising, anyOutside, given}
-use Rattle.format.proofs.Tests.{below-on, atLeast-iff, same-true, same-iff, or-iff, and-on, choose-true, choose-false}
+use Rattle.format.specs.Tests.{below, lessThan}
+use Rattle.format.specs.Opening.{Opened}
+use Rattle.format.specs.Reading.{outside, entryNumber}
+use Rattle.format.specs.Committing.{risingBy, rising, anyOutside, entryNumbers, given}
+use Rattle.format.proofs.Lists.{getD-map}
+use Rattle.format.proofs.Numbers.{inside-flat}
+use Rattle.format.proofs.Tests.{below-on, same-true, same-iff, or-iff, and-on, and-true, choose-true, choose-false}
 
-rising-tail : (a : ℕ) (l : List ℕ) → rising (a ∷ l) ≡ true → rising l ≡ true
-unfolding rising
+rising-tail : (a : ℕ) (l : List ℕ) → risingBy below (a ∷ l) ≡ true → risingBy below l ≡ true
+unfolding risingBy
 rising-tail a [] h = refl
 rising-tail a (b ∷ l) h = and-on _ _ h .1
 
-rising-below : (a : ℕ) (l : List ℕ) (i : ℕ) → rising (a ∷ l) ≡ true → i < length l → a < getD l i 0
-unfolding rising
+rising-below : (a : ℕ) (l : List ℕ) (i : ℕ) → risingBy below (a ∷ l) ≡ true → i < length l → a < getD l i 0
+unfolding risingBy
 rising-below a [] i h k = absurd (not-suc-le-zero k)
 rising-below a (b ∷ l) zero h k = below-on _ _ (and-on _ _ h .0)
 rising-below a (b ∷ l) (suc i) h k =
@@ -28,7 +34,7 @@ rising-below a (b ∷ l) (suc i) h k =
     omega arith
 
 -- an address of the list
-pub given-named : {A : Type 0} (d : A) (l : List ℕ) (ys : List A) (i : ℕ) → rising l ≡ true → i < length l → i < length ys
+pub given-named : {A : Type 0} (d : A) (l : List ℕ) (ys : List A) (i : ℕ) → risingBy below l ≡ true → i < length l → i < length ys
     → given l ys (getD l i 0) ≡ some (getD ys i d)
 unfolding given
 given-named d [] ys i h k m = absurd (not-suc-le-zero k)
@@ -46,10 +52,44 @@ given-other _ ys a done = refl
 given-other _ [] a (more h hs) = refl
 given-other _ (y ∷ ys) a (more {a = b} {l = l} h hs) = choose-false _ _ _ (same-iff .1 h) ∙ given-other l ys a hs
 
--- an address past the count is another
-pub outside-other : (n a : ℕ) (l : List ℕ) → anyOutside n l ≡ false → n ≤ a → All (λ (b : ℕ). b ≢ a) l
+-- ---- the numbers of their table entries
+pub inside-each : (t : Opened) (l : List ℤ) → anyOutside t l ≡ false → All (λ (a : ℤ). outside t a ≡ false) l
 unfolding anyOutside
-outside-other n a [] h k = done
-outside-other n a (b ∷ l) h k =
-    let (lt, r) = or-iff atLeast-iff Iff·rfl .0 h in
-    more (λ (e : b ≡ a). absurd (omega arith)) (outside-other n a l r k)
+inside-each t [] h = done
+inside-each t (a ∷ l) h = let r = or-iff Iff·rfl Iff·rfl .0 h in more (r .0) (inside-each t l (r .1))
+
+pub length-numbers : (t : Opened) (l : List ℤ) → length (entryNumbers t l) ≡ length l
+unfolding entryNumbers
+length-numbers t l = length-map l (entryNumber t)
+
+-- an address of the list
+pub number-at : (t : Opened) (l : List ℤ) (i : ℕ) → i < length l → getD (entryNumbers t l) i 0 ≡ entryNumber t (getD l i (pos 0))
+unfolding entryNumbers
+number-at t l i h = getD-map (entryNumber t) l i (pos 0) 0 h
+
+-- where the lowest address is 0, addresses that are inside are these numbers, which rise too
+module _ (t : Opened) (flat : t .negative ≡ 0) where
+  less-below : (n m : ℕ) → lessThan (pos n) (pos m) ≡ below n m
+  unfolding lessThan below
+  less-below n m = refl
+
+  pub numbers-rise : (l : List ℤ) → anyOutside t l ≡ false → rising l ≡ true → risingBy below (entryNumbers t l) ≡ true
+  unfolding risingBy entryNumbers anyOutside
+  numbers-rise [] h r = refl
+  numbers-rise (a ∷ []) h r = refl
+  numbers-rise (a ∷ b ∷ l) h r =
+      let i = or-iff Iff·rfl Iff·rfl .0 h in
+      let j = or-iff Iff·rfl Iff·rfl .0 (i .1) in
+      let q = and-on _ _ r in
+      let ea : a ≡ pos (entryNumber t a) = inside-flat t flat a (i .0) in
+      let eb : b ≡ pos (entryNumber t b) = inside-flat t flat b (j .0) in
+      and-true _ _ (sym (less-below _ _) ∙ sym (λ k. lessThan (ea k) (eb k)) ∙ q .0) (numbers-rise (b ∷ l) (i .1) (q .1))
+
+  -- every other address has another table entry
+  pub numbers-other : (a : ℤ) → outside t a ≡ false → (l : List ℤ) → anyOutside t l ≡ false → All (λ (b : ℤ). b ≢ a) l
+      → All (λ (n : ℕ). n ≢ entryNumber t a) (entryNumbers t l)
+  unfolding entryNumbers anyOutside
+  numbers-other a f [] h done = done
+  numbers-other a f (b ∷ l) h (more k ks) =
+      let i = or-iff Iff·rfl Iff·rfl .0 h in
+      more (λ e. k (inside-flat t flat b (i .0) ∙ ap pos e ∙ sym (inside-flat t flat a f))) (numbers-other a f l (i .1) ks)

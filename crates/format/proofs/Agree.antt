@@ -1,30 +1,41 @@
 -- Opening and reading depend only on the bytes that they look at: an image that keeps another's bytes but for the header's index offset
 -- and times, and that may be longer, opens and reads as the other does, at the same index offset.
-use mathlib.Core.Bool.{true, false}
+use Prim.{tt}
+use mathlib.Core.Bool.{Bool, true, false, not}
 use mathlib.Core.List.{List, [], _∷_}
 use mathlib.Core.Logic.{_⊎_, inl, inr}
 use mathlib.Core.Path.{_≡_, refl, sym, ap, _∙_}
 use Prim.Native.Nat.{ℕ, zero, suc, _+_, _*_, _≤_, _<_}
-use native.Mathlib.Nat.{le-trans, le-refl}
+use native.Mathlib.Nat.{le-trans, le-refl, mul-le-mul-left, mul-suc}
 use native.Mathlib.Omega.{arith}
 use lib.Dec.{lit≤}
 use lib.ListN.{length, getD}
+use lib.IntN.{ℤ}
 use Rattle.crc64.specs.Crc.{crcOf}
-use Rattle.fields.specs.Bytes.{part, fromLe, field}
+use Rattle.fields.specs.Bytes.{part, fromLe, field, equal}
 use Rattle.fields.proofs.Overwrite.{part-alike}
 use Rattle.format.specs.declared.Entry.{Entry}
 use Rattle.format.specs.declared.Pointer.{Pointer}
+use Rattle.format.specs.declared.TableKind.{TableKind}
+use Rattle.format.specs.declared.TableKind.the-variants.{First, Second}
 use Rattle.format.specs.Lists.{All}
-use Rattle.format.specs.Refusals.{accepted}
-use Rattle.format.specs.Tests.{below, same}
-use Rattle.format.specs.Layouts.{DBLK, DDT*, headerLength, imageMajorAt, indexOffsetAt, entryCount, entryAt, entriesFrom, entries, blockLength, sectorSize, blockPayload, tableLength, tablePayload, decode, tableHeaderLength, blockHeaderLength, indexHeaderLength, entryLength, tableEntryLength}
-use Rattle.format.specs.Opening.{offsetsOf, tableAt, Opened, openedAt, opened}
-use Rattle.format.specs.Reading.{tableEntry, notWritten, pointerAt, has, placeOf, itemBytes, readAt}
-use Rattle.format.specs.Facts.{Identified, HeaderOk, IndexOk, EntryOk, TableOk, ItemOk}
-use Rattle.format.proofs.Tests.{on-or-off, below-on, below-iff}
+use Rattle.format.specs.declared.Verdict.the-variants.{Passes}
+use Rattle.format.specs.Refusals.{_then_, accepted}
+use Rattle.format.specs.Layouts.{DBLK, DDT2, headerLength, imageMajorAt, indexOffsetAt, entryCount, entryAt, entriesFrom, entries, blockLength, sectorSize, blockPayload, tableShift, tableCount, tableLength, tablePayload, tableAlignment, tableNegative, shiftAt, entriesAt, decode, entryPointer, tableHeaderLengthOf, entryWidth, blockHeaderLength, indexHeaderLength, entryLength}
+use Rattle.format.specs.Opening.{lacks, entriesVerdict, oneVerdict, offsetsWith, offsetsOf, isTable, tableAt, kindBy, kindAt, Opened, openedAs, openedAt, opened}
+use Rattle.format.specs.Reading.{outside, entryNumber, tableEntryAt, tableEntry, unwritten, notWritten, unknown, unknownStatus, pointerAt, has, placeOf, itemBytes, readAt}
+use Rattle.format.specs.Facts.{Identified, HeaderOk, IndexOk, EntryOk, ExtentOk, TableOk, ItemOk}
+use Rattle.format.proofs.Tests.{on-or-off}
 use Rattle.format.proofs.Lists.{all-map, all-head}
-use Rattle.format.proofs.Checks.{read-20, read-21, read-bytes, OpenOk, PointerOk, SectorOk, AddressOk, Sound, item-inside}
+use Rattle.format.proofs.Refusals.{then-iff}
+use Rattle.format.proofs.Checks.{entries-ok, one-ok, entryRead, entry-21, entry-bytes, read-20, read-inside, OpenOk, PointerOk, SectorOk, AddressOk, Sound, item-inside}
 use Rattle.format.proofs.Named.{offsets-all, has-all}
+use Rattle.format.proofs.Numbers.{inside-number}
+
+-- the header of a table of either kind has its fields inside: shift, and entries to crc64, with which it ends
+pub table-places : (k : TableKind) → (shiftAt k + 1 ≤ tableHeaderLengthOf k) × (entriesAt k + 40 ≡ tableHeaderLengthOf k) × (30 ≤ tableHeaderLengthOf k)
+table-places First = (lit≤ tt, refl, lit≤ tt)
+table-places Second = (lit≤ tt, refl, lit≤ tt)
 
 -- places below the header's index offset, or past the header
 abbrev pub KeptAt : ℕ → Type 0
@@ -107,22 +118,58 @@ module _ (x y : List ℕ) (g : Agree x y) where
         identifier = sym (field-rest (e .offset .0) 4 (k .low) (k .fits)) ∙ k .identifier;
       }
 
-  table-agree : (t : ℕ) → headerLength ≤ t → TableOk x t → TableOk y t
-  table-agree t h k =
-      let head : t + tableHeaderLength ≤ length x = k .head in
-      let f : (i n : ℕ) → i + n ≤ tableHeaderLength → field x (t + i) n ≡ field y (t + i) n = λ i n b. field-rest (t + i) n (omega arith) (omega arith) in
-      let e25 : tableLength x t ≡ tableLength y t = f 25 8 (lit≤ tt) in
-      let ep : tablePayload x t ≡ tablePayload y t = part-rest (t + tableHeaderLength) (tableLength x t) (omega arith) (k .fits) ∙ ap (part y (t + tableHeaderLength)) e25 in
+  -- a field of the header of a table at t
+  table-field : (k : TableKind) (t : ℕ) → headerLength ≤ t → t + tableHeaderLengthOf k ≤ length x → (i n : ℕ) → i + n ≤ tableHeaderLengthOf k
+      → field x (t + i) n ≡ field y (t + i) n
+  table-field k t h head i n b = field-rest (t + i) n (omega arith) (omega arith)
+
+  kind-agree : (t : ℕ) → headerLength ≤ t → t + 4 ≤ length x → kindAt x t ≡ kindAt y t
+  unfolding kindAt lacks
+  kind-agree t h k = ap (λ (l : List ℕ). kindBy (not (equal l DDT2))) (part-rest t 4 h k)
+
+  alignment-agree : (k : TableKind) (t : ℕ) → headerLength ≤ t → t + tableHeaderLengthOf k ≤ length x → tableAlignment x k t ≡ tableAlignment y k t
+  unfolding tableAlignment
+  alignment-agree First t h head = refl
+  alignment-agree Second t h head = table-field Second t h head 38 1 (lit≤ tt)
+
+  negative-agree : (k : TableKind) (t : ℕ) → headerLength ≤ t → t + tableHeaderLengthOf k ≤ length x → tableNegative x k t ≡ tableNegative y k t
+  unfolding tableNegative
+  negative-agree First t h head = refl
+  negative-agree Second t h head = table-field Second t h head 18 2 (lit≤ tt)
+
+  extent-agree : (k : TableKind) (t : ℕ) → headerLength ≤ t → t + tableHeaderLengthOf k ≤ length x → ExtentOk x k t → ExtentOk y k t
+  unfolding ExtentOk
+  extent-agree First t h head e = tt
+  extent-agree Second t h head e =
+      let f = table-field Second t h head in
+      record {
+        levels = sym (f 8 1 (lit≤ tt)) ∙ e .levels;
+        sizeType = sym (f 41 1 (lit≤ tt)) ∙ e .sizeType;
+        blocks = rw (negative-agree Second t h head, f 28 2 (lit≤ tt), f 20 8 (lit≤ tt)) at (e .blocks);
+      }
+
+  table-agree : (k : TableKind) (t : ℕ) → headerLength ≤ t → TableOk x k t → TableOk y k t
+  table-agree k t h ok =
+      let head : t + tableHeaderLengthOf k ≤ length x = ok .head in
+      let f : (i n : ℕ) → i + n ≤ tableHeaderLengthOf k → field x (t + i) n ≡ field y (t + i) n = table-field k t h head in
+      let (ps, pe, pl) = table-places k in
+      let j : (i : ℕ) → i + 8 ≤ 40 → field x (t + (entriesAt k + i)) 8 ≡ field y (t + (entriesAt k + i)) 8 = λ i b. f (entriesAt k + i) 8 (omega arith) in
+      let es : tableShift x k t ≡ tableShift y k t = f (shiftAt k) 1 ps in
+      let ec : tableCount x k t ≡ tableCount y k t = f (entriesAt k) 8 (omega arith) in
+      let el : tableLength x k t ≡ tableLength y k t = j 16 (lit≤ tt) in
+      let ep : tablePayload x k t ≡ tablePayload y k t = part-rest (t + tableHeaderLengthOf k) (tableLength x k t) (omega arith) (ok .fits) ∙ ap (part y (t + tableHeaderLengthOf k)) el in
       record {
         head = le-trans head (g .longer);
-        compression = sym (f 6 2 (lit≤ tt)) ∙ k .compression;
-        type = sym (f 4 2 (lit≤ tt)) ∙ k .type;
-        shift = rw (f 8 1 (lit≤ tt)) at (k .shift);
-        whole = sym e25 ∙ k .whole ∙ ap (λ n. tableEntryLength * n) (f 9 8 (lit≤ tt));
-        unpacked = sym (f 17 8 (lit≤ tt)) ∙ k .unpacked ∙ e25;
-        fits = le-trans (rw e25 at (k .fits)) (g .longer);
-        cmpSum = ap crcOf (sym ep) ∙ k .cmpSum ∙ f 33 8 (lit≤ tt);
-        sum = ap crcOf (sym ep) ∙ k .sum ∙ f 41 8 (lit≤ tt);
+        compression = sym (f 6 2 (omega arith)) ∙ ok .compression;
+        extent = extent-agree k t h head (ok .extent);
+        type = sym (f 4 2 (omega arith)) ∙ ok .type;
+        shift = rw es at (ok .shift);
+        alignment = rw (alignment-agree k t h head) at (ok .alignment);
+        whole = sym el ∙ ok .whole ∙ ap (λ n. entryWidth k * n) ec;
+        unpacked = sym (j 8 (lit≤ tt)) ∙ ok .unpacked ∙ el;
+        fits = le-trans (rw el at (ok .fits)) (g .longer);
+        cmpSum = ap crcOf (sym ep) ∙ ok .cmpSum ∙ j 24 (lit≤ tt);
+        sum = ap crcOf (sym ep) ∙ ok .sum ∙ j 32 (lit≤ tt);
       }
 
   pub item-agree : (b i : ℕ) → headerLength ≤ b → ItemOk x b i → ItemOk y b i
@@ -164,20 +211,50 @@ module _ (x y : List ℕ) (g : Agree x y) where
 abbrev pub Low : ℕ → Type 0
 Low o = headerLength ≤ o
 
--- what the index names lies past the header
-offsets-low : (img : List ℕ) (o : ℕ) → OpenOk img o → (letters : List ℕ) → All Low (offsetsOf letters (entries img o))
-offsets-low img o k letters = offsets-all Low letters (entries img o) (all-map (λ e h. h .low) (k .entriesOk))
+-- what the index names lies past the header, with room for an identifier
+offsets-low : (img : List ℕ) (o : ℕ) → OpenOk img o → (f : Entry → Bool) → All (λ n. Low n × (n + 4 ≤ length img)) (offsetsWith f (entries img o))
+offsets-low img o k f = offsets-all f (λ n. Low n × (n + 4 ≤ length img)) (entries img o) (all-map (λ e h. (h .low, h .fits)) (k .entriesOk))
 
 pub block-low : (img : List ℕ) (o : ℕ) → OpenOk img o → (b : ℕ) → has b (offsetsOf DBLK (entries img o)) ≡ true → Low b
-block-low img o k b h = has-all Low b (offsetsOf DBLK (entries img o)) (offsets-low img o k DBLK) h
+block-low img o k b h = has-all _ b (offsetsOf DBLK (entries img o)) (offsets-low img o k _) h .0
+
+pub table-low : (img : List ℕ) (o : ℕ) → OpenOk img o → Low (tableAt img o) × (tableAt img o + 4 ≤ length img)
+table-low img o k = all-head (rw (k .only) at (offsets-low img o k isTable))
+
+-- the same of an index whose entries pass, before the table is looked at
+pub table-room : (img : List ℕ) (o : ℕ) → (entriesVerdict img (entryCount img o) (o + indexHeaderLength) then oneVerdict img o) ≡ Passes → tableAt img o + 4 ≤ length img
+unfolding entries oneVerdict tableAt
+table-room img o h =
+    let k = then-iff (entries-ok img _ _) (one-ok o _) .0 h in
+    all-head (rw (k .1) at (offsets-all isTable (λ n. n + 4 ≤ length img) _ (all-map (λ e j. j .fits) (k .0))))
+
+-- What both kinds share, shown once over the entry's width w: of `count` entries that stand one after another from `start` on, each lies where all do.
+pub width-inside : (w start count n end : ℕ) → n < count → start + w * count ≤ end → start + w * n + w ≤ end
+width-inside w start count n end h fits =
+    let m : w * suc n ≤ w * count = mul-le-mul-left w h in
+    let e : w * suc n ≡ w * n + w = mul-suc w n in
+    omega arith
+
+-- so a table entry of either kind lies in the image
+pub entry-inside : (img : List ℕ) (k : TableKind) (t : ℕ) → TableOk img k t → (n : ℕ) → n < tableCount img k t
+    → t + tableHeaderLengthOf k + entryWidth k * n + entryWidth k ≤ length img
+entry-inside img k t ok n h = width-inside (entryWidth k) _ (tableCount img k t) n _ h (rw (ok .whole) at (ok .fits))
+
+pub opened-entry : (img : List ℕ) (o : ℕ) → OpenOk img o → (n : ℕ) → n < opened img o .count
+    → tableEntryAt (opened img o) n + entryWidth (opened img o .kind) ≤ length img
+unfolding opened openedAs
+opened-entry img o k n h = entry-inside img (kindAt img (tableAt img o)) (tableAt img o) (k .table) n h
 
 module _ (x y : List ℕ) (g : Agree x y) (o : ℕ) (k : OpenOk x o) where
-  table-low : Low (tableAt x o)
-  table-low = all-head (rw (k .only) at (offsets-low x o k DDT*))
+  abbrev kind : TableKind
+  kind = kindAt x (tableAt x o)
 
   tableAt-agree : tableAt x o ≡ tableAt y o
   unfolding tableAt
-  tableAt-agree = ap (λ es. getD (offsetsOf DDT* es) 0 0) (entries-agree x y g o (k .index))
+  tableAt-agree = ap (λ es. getD (offsetsWith isTable es) 0 0) (entries-agree x y g o (k .index))
+
+  kindAt-agree : kind ≡ kindAt y (tableAt x o)
+  kindAt-agree = let l = table-low x o k in kind-agree x y g (tableAt x o) (l .0) (l .1)
 
   open-agree : OpenOk y o
   open-agree =
@@ -186,46 +263,51 @@ module _ (x y : List ℕ) (g : Agree x y) (o : ℕ) (k : OpenOk x o) where
         header = header-agree x y g (k .header);
         index = index-agree x y g o (k .index);
         entriesOk = rw es at (all-map (entry-agree x y g) (k .entriesOk));
-        only = ap (offsetsOf DDT*) (sym es) ∙ k .only ∙ ap (λ (t : ℕ). t ∷ []) tableAt-agree;
-        table = rw tableAt-agree at (table-agree x y g (tableAt x o) table-low (k .table));
+        only = ap (offsetsWith isTable) (sym es) ∙ k .only ∙ ap (λ (t : ℕ). t ∷ []) tableAt-agree;
+        table = rw tableAt-agree at (rw kindAt-agree at (table-agree x y g kind (tableAt x o) (table-low x o k .0) (k .table)));
       }
 
   opened-agree : opened x o ≡ opened y o
-  unfolding opened openedAt
+  unfolding opened openedAs
   opened-agree =
       let t : ℕ = tableAt x o in
-      let head : t + tableHeaderLength ≤ length x = k .table .head in
-      let low : headerLength ≤ t = table-low in
-      let e9 : field x (t + 9) 8 ≡ field y (t + 9) 8 = field-rest x y g (t + 9) 8 (omega arith) (omega arith) in
-      let e8 : field x (t + 8) 1 ≡ field y (t + 8) 1 = field-rest x y g (t + 8) 1 (omega arith) (omega arith) in
-      (λ i. record { table = t; count = e9 i; shift = e8 i }) ∙ ap (openedAt y) tableAt-agree
+      let head : t + tableHeaderLengthOf kind ≤ length x = k .table .head in
+      let low : headerLength ≤ t = table-low x o k .0 in
+      let (ps, pe, pl) = table-places kind in
+      let ec : tableCount x kind t ≡ tableCount y kind t = table-field x y g kind t low head (entriesAt kind) 8 (omega arith) in
+      let es : tableShift x kind t ≡ tableShift y kind t = table-field x y g kind t low head (shiftAt kind) 1 ps in
+      let ea : tableAlignment x kind t ≡ tableAlignment y kind t = alignment-agree x y g kind t low head in
+      let en : tableNegative x kind t ≡ tableNegative y kind t = negative-agree x y g kind t low head in
+      (λ i. record { kind = kind; table = t; count = ec i; shift = es i; alignment = ea i; negative = en i })
+      ∙ ap (λ q. openedAs y q t) kindAt-agree ∙ ap (openedAt y) tableAt-agree
 
-  entry-same : (a : ℕ) → a < opened x o .count → tableEntry x (opened x o) a ≡ tableEntry y (opened x o) a
-  unfolding opened openedAt tableEntry
-  entry-same a h =
+  entry-same : (n : ℕ) → n < opened x o .count → tableEntry x (opened x o) n ≡ tableEntry y (opened x o) n
+  unfolding opened openedAs tableEntry
+  entry-same n h =
       let t : ℕ = tableAt x o in
-      let fits : t + tableHeaderLength + field x (t + 25) 8 ≤ length x = k .table .fits in
-      let whole : field x (t + 25) 8 ≡ 8 * field x (t + 9) 8 = k .table .whole in
-      let low : headerLength ≤ t = table-low in
-      let h′ : a < field x (t + 9) 8 = h in
-      field-rest x y g (t + tableHeaderLength + tableEntryLength * a) 8 (omega arith) (omega arith)
+      let low : headerLength ≤ t = table-low x o k .0 in
+      field-rest x y g (t + tableHeaderLengthOf kind + entryWidth kind * n) (entryWidth kind) (omega arith) (opened-entry x o k n h)
 
-  notWritten-agree : (a : ℕ) → a < opened x o .count → notWritten x (opened x o) a ≡ notWritten y (opened x o) a
+  notWritten-agree : (n : ℕ) → n < opened x o .count → notWritten x (opened x o) n ≡ notWritten y (opened x o) n
   unfolding notWritten
-  notWritten-agree a h = ap (λ n. same n 0) (entry-same a h)
+  notWritten-agree n h = ap (unwritten (opened x o .kind)) (entry-same n h)
 
-  pointerAt-agree : (a : ℕ) → a < opened x o .count → pointerAt x (opened x o) a ≡ pointerAt y (opened x o) a
+  unknown-agree : (n : ℕ) → n < opened x o .count → unknownStatus x (opened x o) n ≡ unknownStatus y (opened x o) n
+  unfolding unknownStatus
+  unknown-agree n h = ap (unknown (opened x o .kind)) (entry-same n h)
+
+  pointerAt-agree : (n : ℕ) → n < opened x o .count → pointerAt x (opened x o) n ≡ pointerAt y (opened x o) n
   unfolding pointerAt
-  pointerAt-agree a h = ap (decode (opened x o .shift)) (entry-same a h)
+  pointerAt-agree n h = ap (λ e. decode (opened x o .shift) (opened x o .alignment) (entryPointer (opened x o .kind) e)) (entry-same n h)
 
 -- ---- a sound disc stays sound
 module _ (x y : List ℕ) (g : Agree x y) (o : ℕ) (s : Sound x o) where
-  sector-agree : (a : ℕ) → SectorOk x (entries x o) (opened x o) a → SectorOk y (entries x o) (opened x o) a
-  sector-agree a k =
-      let ep : pointerAt x (opened x o) a ≡ pointerAt y (opened x o) a = pointerAt-agree x y g o (s .opens) a (k .inside) in
+  sector-agree : (n : ℕ) → n < opened x o .count → SectorOk x (entries x o) (opened x o) n → SectorOk y (entries x o) (opened x o) n
+  sector-agree n h k =
+      let ep : pointerAt x (opened x o) n ≡ pointerAt y (opened x o) n = pointerAt-agree x y g o (s .opens) n h in
       record {
-        inside = k .inside;
-        written = sym (notWritten-agree x y g o (s .opens) a (k .inside)) ∙ k .written;
+        written = sym (notWritten-agree x y g o (s .opens) n h) ∙ k .written;
+        known = sym (unknown-agree x y g o (s .opens) n h) ∙ k .known;
         named = rw ep at (k .named);
         item = rw ep at (item-agree x y g _ _ (block-low x o (s .opens) _ (k .named)) (k .item));
       }
@@ -234,39 +316,48 @@ module _ (x y : List ℕ) (g : Agree x y) (o : ℕ) (s : Sound x o) where
   sound-agree =
       let ee : entries x o ≡ entries y o = entries-agree x y g o (s .opens .index) in
       let eo : opened x o ≡ opened y o = opened-agree x y g o (s .opens) in
-      record { opens = open-agree x y g o (s .opens); sectors = rw (ee, eo) at each }
+      record { opens = open-agree x y g o (s .opens); first = rw eo at (s .first); sectors = rw (ee, eo) at each }
     where
-      each : (a : ℕ) → a < opened x o .count → (notWritten y (opened x o) a ≡ true) ⊎ SectorOk y (entries x o) (opened x o) a
-      each a h = go (s .sectors a h)
+      each : (n : ℕ) → n < opened x o .count → (notWritten y (opened x o) n ≡ true) ⊎ SectorOk y (entries x o) (opened x o) n
+      each n h = go (s .sectors n h)
         where
-          go : AddressOk x o a → (notWritten y (opened x o) a ≡ true) ⊎ SectorOk y (entries x o) (opened x o) a
-          go (inl e) = inl (sym (notWritten-agree x y g o (s .opens) a h) ∙ e)
-          go (inr k) = inr (sector-agree a k)
+          go : AddressOk x o n → (notWritten y (opened x o) n ≡ true) ⊎ SectorOk y (entries x o) (opened x o) n
+          go (inl e) = inl (sym (notWritten-agree x y g o (s .opens) n h) ∙ e)
+          go (inr k) = inr (sector-agree n h k)
 
--- ---- every address reads as it did
-pub reads-agree : (x y : List ℕ) → Agree x y → (o : ℕ) → Sound x o → (a : ℕ) → readAt x o a ≡ readAt y o a
-reads-agree x y g o s a = go (on-or-off (below a (opened x o .count)))
+  -- ---- every table entry reads as it did
+  entry-agree-read : (n : ℕ) → n < opened x o .count → entryRead x o n ≡ entryRead y o n
+  entry-agree-read n h = go (s .sectors n h)
+    where
+      ox : OpenOk x o
+      ox = s .opens
+
+      eo : opened x o ≡ opened y o
+      eo = opened-agree x y g o ox
+
+      go : AddressOk x o n → entryRead x o n ≡ entryRead y o n
+      go (inl e) = entry-21 x o n e ∙ sym (entry-21 y o n (rw eo at (sym (notWritten-agree x y g o ox n h) ∙ e)))
+      go (inr q) =
+          let p : Pointer = pointerAt x (opened x o) n in
+          let ee : entries x o ≡ entries y o = entries-agree x y g o (ox .index) in
+          let qy : SectorOk y (entries y o) (opened y o) n = rw (ee, eo) at (sector-agree n h q) in
+          let ep : p ≡ pointerAt y (opened y o) n = pointerAt-agree x y g o ox n h ∙ ap (λ (t : Opened). pointerAt y t n) eo in
+          entry-bytes x o n q ∙ ap accepted (bytes-agree x y g p (block-low x o ox _ (q .named)) (q .item) ∙ ap (itemBytes y) ep) ∙ sym (entry-bytes y o n qy)
+
+-- ---- and so does every address
+pub reads-agree : (x y : List ℕ) → Agree x y → (o : ℕ) → Sound x o → (a : ℤ) → readAt x o a ≡ readAt y o a
+reads-agree x y g o s a = go (on-or-off (outside (opened x o) a))
   where
-    ox : OpenOk x o
-    ox = s .opens
-
     oy : OpenOk y o
-    oy = open-agree x y g o ox
+    oy = open-agree x y g o (s .opens)
 
     eo : opened x o ≡ opened y o
-    eo = opened-agree x y g o ox
+    eo = opened-agree x y g o (s .opens)
 
-    inside : a < opened x o .count → AddressOk x o a → readAt x o a ≡ readAt y o a
-    inside h (inl e) =
-        read-21 x o ox a h e
-        ∙ sym (read-21 y o oy a (rw eo at h) (ap (λ (t : Opened). notWritten y t a) (sym eo) ∙ sym (notWritten-agree x y g o ox a h) ∙ e))
-    inside h (inr q) =
-        let p : Pointer = pointerAt x (opened x o) a in
-        let ee : entries x o ≡ entries y o = entries-agree x y g o (ox .index) in
-        let qy : SectorOk y (entries y o) (opened y o) a = rw (ee, eo) at (sector-agree x y g o s a q) in
-        let ep : p ≡ pointerAt y (opened y o) a = pointerAt-agree x y g o ox a h ∙ ap (λ (t : Opened). pointerAt y t a) eo in
-        read-bytes x o ox a q ∙ ap accepted (bytes-agree x y g p (block-low x o ox _ (q .named)) (q .item) ∙ ap (itemBytes y) ep) ∙ sym (read-bytes y o oy a qy)
-
-    go : (below a (opened x o .count) ≡ true) ⊎ (below a (opened x o .count) ≡ false) → readAt x o a ≡ readAt y o a
-    go (inl e) = let h : a < opened x o .count = below-on _ _ e in inside h (s .sectors a h)
-    go (inr e) = let h : opened x o .count ≤ a = below-iff .0 e in read-20 x o ox a h ∙ sym (read-20 y o oy a (rw eo at h))
+    go : (outside (opened x o) a ≡ true) ⊎ (outside (opened x o) a ≡ false) → readAt x o a ≡ readAt y o a
+    go (inl e) = read-20 x o (s .opens) a e ∙ sym (read-20 y o oy a (rw eo at e))
+    go (inr e) =
+        read-inside x o (s .opens) a e
+        ∙ entry-agree-read x y g o s _ (inside-number (opened x o) a e .inside)
+        ∙ ap (λ (t : Opened). entryRead y o (entryNumber t a)) eo
+        ∙ sym (read-inside y o oy a (rw eo at e))

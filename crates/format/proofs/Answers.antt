@@ -3,6 +3,7 @@ use mathlib.Core.List.{List}
 use mathlib.Core.Path.{_≡_, sym, ap, _∙_}
 use Prim.Native.Nat.{ℕ}
 use native.Mathlib.Omega.{arith}
+use lib.IntN.{ℤ}
 use Rattle.format.specs.declared.Counted.{Counted}
 use Rattle.format.specs.declared.Counted.the-variants as count
 use Rattle.format.specs.declared.Located.{Located}
@@ -14,7 +15,7 @@ use Rattle.format.specs.declared.Updated.the-variants as update
 use Rattle.format.specs.declared.Verdict.{Verdict}
 use Rattle.format.specs.declared.Verdict.the-variants.{Passes, Refuses}
 use Rattle.format.specs.Refusals.{refused, accepted}
-use Rattle.format.specs.Opening.{Opened, opening, sectorCount}
+use Rattle.format.specs.Opening.{Opened, opening, rangeOf, sectorCount}
 use Rattle.format.specs.Reading.{readVerdict, locate}
 use Rattle.format.specs.Writing.{outcome}
 use Rattle.format.specs.Answers.{counted, located, updated, answered}
@@ -57,12 +58,12 @@ module _ (img : List ℕ) where
   unfolding opening sectorCount
   count-refused r e = sym (answer-refuses _ _ r (answer-refused _ _ r (sym e)))
 
-  pub count-opened : (t : Opened) → accepted t ≡ opening img → accepted (t .count) ≡ sectorCount img
+  pub count-opened : (t : Opened) → accepted t ≡ opening img → accepted (rangeOf t) ≡ sectorCount img
   unfolding opening sectorCount
   count-opened t e =
       let q = answer-accepted _ _ t (sym e) in
-      sym (answer-passes _ _ (q .0) ∙ ap (λ (u : Opened). accepted (u .count)) (q .1))
+      sym (answer-passes _ _ (q .0) ∙ ap (λ (u : Opened). accepted (rangeOf u)) (q .1))
 
-  pub locate-unopened : (r : Refusal) (a : ℕ) → refused r ≡ opening img → refused r ≡ locate img a
+  pub locate-unopened : (r : Refusal) (a : ℤ) → refused r ≡ opening img → refused r ≡ locate img a
   unfolding opening locate readVerdict
   locate-unopened r a e = sym (answer-refuses _ _ r (then-refuses _ _ r (answer-refused _ _ r (sym e))))

@@ -6,38 +6,40 @@ use mathlib.Core.Logic.{_≢_, _⊎_, inl, inr, ⊎-elim}
 use mathlib.Core.Option.{Option, none, some}
 use mathlib.Core.Path.{_≡_, refl, sym, ap, _∙_, subst}
 use Prim.Native.Nat.{ℕ, suc, _+_, _*_, _/_, _^_, _≤_, _<_, zero-le}
-use native.Mathlib.Nat.{zero-add, not-suc-le-zero, div-le-self, mul-le-mul-left, mul-le-mul-right, lt-of-lt-of-le, lt-of-le-of-lt}
+use native.Mathlib.Nat.{zero-add, mul-one, not-suc-le-zero, div-le-self, mul-le-mul-left, mul-le-mul-right, lt-of-lt-of-le, lt-of-le-of-lt}
 use native.Mathlib.Omega.{arith}
 use lib.Dec.{lit<, lit≤}
 use lib.ListN.{length, getD, length-map}
 use lib.Pow.{pow-mono, pow-pos, high, low}
-use Rattle.fields.specs.Bytes.{part, fromLe}
+use Rattle.fields.specs.Bytes.{part, fromLe, toLe}
 use Rattle.fields.proofs.Holds.{Holds, holds-all, holds-left, holds-right, holds-number}
 use Rattle.format.specs.declared.Entry.{Entry}
 use Rattle.format.specs.declared.Pointer.{Pointer}
+use Rattle.format.specs.declared.TableKind.the-variants.{First}
 use Rattle.format.specs.Lists.{All, done, more, IsBytes}
 use Rattle.format.specs.Refusals.{refusal, Answer, refused, accepted}
-use Rattle.format.specs.Layouts.{DBLK, DDT*, CKSM, tag, headerLength, entries, userDataEntry, indexBytes, sectorSize, blockLength, tableBytes, decode, encode, tableHeaderLength, blockHeaderLength, tableEntryLength}
-use Rattle.format.specs.Opening.{offsetsOf, Opened, opened}
-use Rattle.format.specs.Reading.{tableEntry, notWritten, pointerAt, has, placeOf, itemBytes, readAt}
+use Rattle.format.specs.Layouts.{DBLK, DDT*, DDT2, CKSM, tag, headerLength, entries, userDataEntry, indexBytes, sectorSize, blockLength, tableBytes, entryPointer, decode, encode, tableHeaderLength, blockHeaderLength, tableEntryLength}
+use Rattle.format.specs.Opening.{isUserData, offsetsWith, offsetsOf, isTable, tableAt, Opened, openedAs, opened}
+use Rattle.format.specs.Reading.{tableEntry, unwritten, notWritten, pointerAt, has, placeOf, itemBytes}
 use Rattle.format.specs.Writing.{largestSize, longestBuffer}
 use Rattle.format.specs.Committing.{pieces, given, itemOf, oldPointer, newPointer, itemOrZero, largestItem, shiftFor, tableEntryBytes, keptEntries, newTable, newBlock, newBlockEntry, storedFor, pointersFor, Appended, tableStart, indexStart, appendedFor, appended, appendedBytes}
 use Rattle.format.specs.Demands.{NoStaleChecksum}
-use Rattle.format.specs.Facts.{Identified, EntryOk, ItemOk}
+use Rattle.format.specs.Facts.{Identified, EntryOk, UserData, OfKind, ItemOk}
 use Rattle.format.proofs.Tests.{never, same-true, same-iff, choose-true, choose-false}
-use Rattle.format.proofs.Lists.{Sized, all-append, all-map, all-get, length-flatten, getD-map}
-use Rattle.format.proofs.Checks.{PointerOk, SectorOk, AddressOk, Sound, read-20, read-21, read-bytes}
-use Rattle.format.proofs.Named.{identified-number, type-number, user-data-on, user-data-true, user-data-false, offsets-yes, offsets-no, offsets-append, has-head, has-left, has-right}
+use Rattle.format.proofs.Lists.{Sized, all-append, all-map, all-both, all-get, length-flatten, getD-map}
+use Rattle.format.proofs.Checks.{kind-iff, OpenOk, PointerOk, SectorOk, AddressOk, Sound, entryRead, entry-21, entry-bytes, first-known}
+use Rattle.format.proofs.Named.{identified-number, type-number, user-data-on, user-data-true, user-data-false, offsets-yes, offsets-no, offsets-append, has-head, has-left, has-right, tables-first, table-offset}
 use Rattle.format.proofs.Agree.{Agree, header-agree, entry-agree, item-agree, bytes-agree, block-low}
-use Rattle.format.proofs.Written.{EntryFits, holds-piece, length-tableBytes, table-identified, table-entries, length-blockBytes, block-identified, block-size, block-items, item-written, length-indexBytes, Opens, opens-written}
-use Rattle.format.proofs.KeptEntries.{cksm-dblk, dblk-ddt, not-cksm, kept-all, kept-blocks, kept-table}
+use Rattle.format.proofs.Written.{EntryFits, holds-piece, length-tableBytes, table-identified, table-entries, length-blockBytes, block-identified, block-size, block-items, item-written, length-indexBytes, openedFirst, Opens, opens-written}
+use Rattle.format.proofs.KeptEntries.{cksm-dblk, dblk-ddt, dblk-ddt2, not-cksm, kept-all, kept-blocks, kept-table}
 use Rattle.format.proofs.Storing.{handedOr, stored-sized, entries-sized, length-entries, shift-fits, shift-least, Source, old, new, stored-ok, NewPointer, fresh, kept, new-pointer, length-newPointers, getD-newPointers, item-largest, largest-bound}
-use Rattle.format.proofs.Bytes.{field-fits, entries-fit, tag-bytes}
+use Rattle.format.proofs.Bytes.{field-fits, field-bytes, entries-fit, tag-bytes}
 
 -- ---- a pointer, encoded and decoded
-decode-encode : (s : ℕ) (p : Pointer) → p .item .0 < 2 ^ s → decode s (encode s p) ≡ p
+decode-encode : (s : ℕ) (p : Pointer) → p .item .0 < 2 ^ s → decode s 0 (encode s p) ≡ p
 unfolding decode encode
-decode-encode s p h = λ i. record { block = record { 0 = high (p .block .0) s h i }; item = record { 0 = low (p .block .0) s h i } }
+decode-encode s p h =
+    λ i. record { block = record { 0 = (mul-one _ ∙ high (p .block .0) s h) i }; item = record { 0 = low (p .block .0) s h i } }
 
 encode-lt : (s : ℕ) (p : Pointer) → s ≤ 32 → p .block .0 < 2 ^ 32 → p .item .0 < 2 ^ s → encode s p < 256 ^ 8
 unfolding encode
@@ -60,9 +62,9 @@ block-entry-all b [] f = done
 block-entry-all b (i ∷ is) f = more (f (omega arith)) done
 
 block-no-table : (b : ℕ) (items : List (List ℕ)) → offsetsOf DDT* (newBlockEntry b items) ≡ []
-unfolding newBlockEntry offsetsOf
+unfolding newBlockEntry offsetsWith
 block-no-table b [] = refl
-block-no-table b (i ∷ is) = offsets-no DDT* (userDataEntry DBLK b) [] (user-data-false DDT* (userDataEntry DBLK b) (λ q. dblk-ddt (sym (tag-bytes DBLK tt) ∙ q)))
+block-no-table b (i ∷ is) = offsets-no (isUserData DDT*) (userDataEntry DBLK b) [] (user-data-false DDT* (userDataEntry DBLK b) (λ q. dblk-ddt (sym (tag-bytes DBLK tt) ∙ q)))
 
 -- ---- the new block: item j of it
 record NewItem (y : List ℕ) (b : ℕ) (items : List (List ℕ)) (j : ℕ) : Type 0 where
@@ -109,7 +111,7 @@ new-item y b size (s ∷ ss) sz h pos small long j k = made
           fits = omega (arith, f);
           item = item-written y b size payload h pos small short (length items) whole j k;
           bytes = ap (λ n. part y (b + blockHeaderLength + j * n) n) es ∙ ap (part y (b + blockHeaderLength + j * size)) (sym ln) ∙ holds-all y (b + blockHeaderLength + j * size) (getD items j []) hi;
-          named = ap (has b) (offsets-yes DBLK (userDataEntry DBLK b) [] (user-data-true DBLK (userDataEntry DBLK b) (record { type = tag-bytes DBLK tt; userData = refl }))) ∙ has-head b b _ refl;
+          named = ap (has b) (offsets-yes (isUserData DBLK) (userDataEntry DBLK b) [] (user-data-true DBLK (userDataEntry DBLK b) (record { type = tag-bytes DBLK tt; userData = refl }))) ∙ has-head b b _ refl;
         }
 
 -- ---- a pointer that stands, in an image whose index has the entries es: it names an intact item, which holds these bytes
@@ -138,19 +140,31 @@ data Gets (y : List ℕ) (es : List Entry) : Option Pointer → Answer (List ℕ
   stands : {p : Pointer} {sector : List ℕ} → Points y es sector p → Gets y es (some p) (accepted sector)
 
 -- ---- the table entry of an address, read back
-entry-zero : (y : List ℕ) (t : Opened) (a : ℕ) → tableEntry y t a ≡ 0 → notWritten y t a ≡ true
-unfolding notWritten
-entry-zero y t a e = same-true _ _ e
+entry-zero : (y : List ℕ) (t c s n : ℕ) → tableEntry y (openedFirst t c s) n ≡ 0 → notWritten y (openedFirst t c s) n ≡ true
+unfolding notWritten unwritten
+entry-zero y t c s n e = same-true _ _ e
 
-entry-other : (y : List ℕ) (t : Opened) (a : ℕ) → tableEntry y t a ≢ 0 → notWritten y t a ≡ false
-unfolding notWritten
-entry-other y t a e = same-iff .1 e
+entry-other : (y : List ℕ) (t c s n : ℕ) → tableEntry y (openedFirst t c s) n ≢ 0 → notWritten y (openedFirst t c s) n ≡ false
+unfolding notWritten unwritten
+entry-other y t c s n e = same-iff .1 e
 
--- ---- the disc of y at index offset i, after the sectors ds were committed at these addresses to the disc of x at o
+-- ---- the index of an image of bytes that opens with a table of the first kind has no entry for one of the second
+none-second : (x : List ℕ) → IsBytes x → (o : ℕ) → OpenOk x o → opened x o .kind ≡ First → All (λ (e : Entry). ¬ UserData DDT2 e) (entries x o)
+unfolding opened openedAs OfKind Identified
+none-second x b o k f =
+    let n : ¬ (part x (tableAt x o) 4 ≡ DDT2) = kind-iff x (tableAt x o) First .0 f in
+    all-map
+    (λ e (h, j) u.
+    let at : e .offset .0 ≡ tableAt x o = j (inr u) in
+    let is : part x (e .offset .0) 4 ≡ DDT2 = sym (field-bytes b (e .offset .0) 4 (h .fits)) ∙ ap (toLe 4) (h .identifier) ∙ u .type in
+    n (ap (λ m. part x m 4) (sym at) ∙ is))
+    (all-both (k .entriesOk) (table-offset (entries x o) (tableAt x o) (k .only)))
+
+-- ---- the disc of y at index offset i, after the sectors ds were committed at these table entries to the disc of x at o
 pub record NewDisc (x : List ℕ) (o : ℕ) (addresses : List ℕ) (ds : List (List ℕ)) (y : List ℕ) (i : ℕ) : Type 0 where
   pub sound : Sound y i
-  pub reads : (a : ℕ) → a < opened x o .count → readAt y i a ≡ handedOr (given addresses ds a) (readAt x o a)
-  pub past : (a : ℕ) → opened x o .count ≤ a → readAt y i a ≡ refused (refusal 20 0)
+  pub count : opened y i .count ≡ opened x o .count
+  pub reads : (n : ℕ) → n < opened x o .count → entryRead y i n ≡ handedOr (given addresses ds n) (entryRead x o n)
   pub stale : NoStaleChecksum y i
 
 module _ (x : List ℕ) (o : ℕ) (addresses : List ℕ) (size : ℕ) (sectors : List ℕ) where
@@ -187,7 +201,7 @@ module _ (x : List ℕ) (o : ℕ) (addresses : List ℕ) (size : ℕ) (sectors :
 
   -- what a commit promises of an address
   abbrev expected : ℕ → Answer (List ℕ)
-  expected a = handedOr (given addresses ds a) (readAt x o a)
+  expected a = handedOr (given addresses ds a) (entryRead x o a)
 
   length-pointers : length pointers ≡ opened x o .count
   unfolding pointersFor
@@ -261,7 +275,7 @@ module _ (x : List ℕ) (o : ℕ) (addresses : List ℕ) (size : ℕ) (sectors :
     -- ---- pointers that stand
     named-old : (b : ℕ) → has b (offsetsOf DBLK (entries x o)) ≡ true → has b (offsetsOf DBLK newEntries) ≡ true
     named-old b k =
-        ap (has b) (offsets-append DBLK (keptEntries newTableAt (entries x o)) (newBlockEntry (length x) items))
+        ap (has b) (offsets-append (isUserData DBLK) (keptEntries newTableAt (entries x o)) (newBlockEntry (length x) items))
         ∙ has-left b _ (offsetsOf DBLK (newBlockEntry (length x) items)) (ap (has b) (kept-blocks newTableAt (entries x o)) ∙ k)
 
     old-points : (a : ℕ) → SectorOk x (entries x o) (opened x o) a → Points y newEntries (itemBytes x (pointerAt x (opened x o) a)) (pointerAt x (opened x o) a)
@@ -281,7 +295,7 @@ module _ (x : List ℕ) (o : ℕ) (addresses : List ℕ) (size : ℕ) (sectors :
         let n : NewItem y (length x) items i = new-item y (length x) size items items-sized hb pos small long i j in
         record {
           low = x-long;
-          named = ap (has (length x)) (offsets-append DBLK (keptEntries newTableAt (entries x o)) (newBlockEntry (length x) items))
+          named = ap (has (length x)) (offsets-append (isUserData DBLK) (keptEntries newTableAt (entries x o)) (newBlockEntry (length x) items))
               ∙ has-right (length x) (offsetsOf DBLK (keptEntries newTableAt (entries x o))) _ (n .named);
           ok = n .item;
           bytes = n .bytes ∙ q;
@@ -296,19 +310,19 @@ module _ (x : List ℕ) (o : ℕ) (addresses : List ℕ) (size : ℕ) (sectors :
         go (inr q) = subst (λ (d : List ℕ). Points y newEntries d (pointerAt x (opened x o) a)) (k .bytes) (old-points a q)
 
     -- ---- what each address gets
-    old-gets : (a : ℕ) → a < opened x o .count → Gets y newEntries (oldPointer x (opened x o) a) (readAt x o a)
+    old-gets : (a : ℕ) → a < opened x o .count → Gets y newEntries (oldPointer x (opened x o) a) (entryRead x o a)
     unfolding oldPointer
     old-gets a k = go (s .sectors a k)
       where
-        go : AddressOk x o a → Gets y newEntries (oldPointer x (opened x o) a) (readAt x o a)
-        go (inl e) = rw (choose-true _ none (some (pointerAt x (opened x o) a)) e, read-21 x o (s .opens) a k e) nothing
-        go (inr q) = rw (choose-false _ none (some (pointerAt x (opened x o) a)) (q .written), read-bytes x o (s .opens) a q) (stands (old-points a q))
+        go : AddressOk x o a → Gets y newEntries (oldPointer x (opened x o) a) (entryRead x o a)
+        go (inl e) = rw (choose-true _ none (some (pointerAt x (opened x o) a)) e, entry-21 x o a e) nothing
+        go (inr q) = rw (choose-false _ none (some (pointerAt x (opened x o) a)) (q .written), entry-bytes x o a q) (stands (old-points a q))
 
     gets : (a : ℕ) → a < opened x o .count → Gets y newEntries (newPointer x (opened x o) addresses ps a) (expected a)
     unfolding storedFor handedOr
     gets a k = go _ _ (new-pointer x (opened x o) (length x) items a addresses ds ps (stored-ok x (opened x o) (length x) (Sized size) ds [] .sources))
       where
-        go : (u : Option Pointer) (v : Option (List ℕ)) → NewPointer x (opened x o) (length x) items a u v → Gets y newEntries u (handedOr v (readAt x o a))
+        go : (u : Option Pointer) (v : Option (List ℕ)) → NewPointer x (opened x o) (length x) items a u v → Gets y newEntries u (handedOr v (entryRead x o a))
         go _ _ (fresh {p = p} {sector = d} q) = stands (source-points p d q)
         go _ _ kept = old-gets a k
 
@@ -367,15 +381,26 @@ module _ (x : List ℕ) (o : ℕ) (addresses : List ℕ) (size : ℕ) (sectors :
         (all-map (λ e k. (rw (← (k .identifier)) (field-fits isBytes (e .offset .0) 4), entry-agree x y g e k)) (s .opens .entriesOk))))
         (block-entry-all (length x) items block-entry-ok)
 
-    only-table : offsetsOf DDT* newEntries ≡ newTableAt ∷ []
+    no-second : All (λ (e : Entry). ¬ UserData DDT2 e) (entries x o)
+    no-second = none-second x isBytes o (s .opens) (s .first)
+
+    new-no-second : All (λ (e : Entry). ¬ UserData DDT2 e) newEntries
+    new-no-second =
+        all-append
+        (all-map (λ e k. k .0) (kept-all (λ (e : Entry). ¬ UserData DDT2 e) newTableAt (entries x o) (λ e n q u. n (record { type = u .type; userData = u .userData })) no-second))
+        (block-entry-all (length x) items (λ n u. dblk-ddt2 (sym (tag-bytes DBLK tt) ∙ u .type)))
+
+    only-table : offsetsWith isTable newEntries ≡ newTableAt ∷ []
     only-table =
-        offsets-append DDT* (keptEntries newTableAt (entries x o)) (newBlockEntry (length x) items)
-        ∙ ap (λ (l : List ℕ). l ++ offsetsOf DDT* (newBlockEntry (length x) items)) (kept-table newTableAt (entries x o) ∙ ap (map (λ (o : ℕ). newTableAt)) (s .opens .only))
+        tables-first newEntries new-no-second
+        ∙ offsets-append (isUserData DDT*) (keptEntries newTableAt (entries x o)) (newBlockEntry (length x) items)
+        ∙ ap (λ (l : List ℕ). l ++ offsetsOf DDT* (newBlockEntry (length x) items))
+        (kept-table newTableAt (entries x o) ∙ ap (map (λ (o : ℕ). newTableAt)) (sym (tables-first (entries x o) no-second) ∙ s .opens .only))
         ∙ ap (λ (l : List ℕ). newTableAt ∷ l) (block-no-table (length x) items)
 
     -- ---- the disc opens
     abbrev newOpened : Opened
-    newOpened = record { table = newTableAt; count = opened x o .count; shift = shift }
+    newOpened = openedFirst newTableAt (opened x o .count) shift
 
     opens-new : Opens y newIndexAt newEntries newOpened
     unfolding indexStart tableStart
@@ -412,19 +437,19 @@ module _ (x : List ℕ) (o : ℕ) (addresses : List ℕ) (size : ℕ) (sectors :
         ⊎ (SectorOk y newEntries newOpened a × (v ≡ accepted (itemBytes y (pointerAt y newOpened a))))
 
     reads-inside : (a : ℕ) → a < opened x o .count → Reads a (expected a)
-    unfolding tableEntry pointerAt tableEntryBytes itemOrZero
+    unfolding tableEntry pointerAt entryPointer tableEntryBytes itemOrZero
     reads-inside a k = go (newPtr a) (expected a) (gets a k) (pointer-holds a k) (item-fits a k)
       where
         go : (u : Option Pointer) (v : Answer (List ℕ)) → Gets y newEntries u v → Holds y (newTableAt + tableHeaderLength + tableEntryLength * a) (tableEntryBytes shift u) → itemOrZero u < 2 ^ shift → Reads a v
-        go _ _ nothing hl il = inl (entry-zero y newOpened a (holds-number y _ 8 0 hl (lit< tt)), refl)
+        go _ _ nothing hl il = inl (entry-zero y newTableAt _ shift a (holds-number y _ 8 0 hl (lit< tt)), refl)
         go _ _ (stands {p = p} {sector = d} q) hl il =
             let n : tableEntry y newOpened a ≡ encode shift p = holds-number y _ 8 (encode shift p) hl (encode-lt shift p (shift-small s x-short items-few) (pointer-small y p (q .ok) long .0) il) in
-            let ep : pointerAt y newOpened a ≡ p = ap (decode shift) n ∙ decode-encode shift p il in
+            let ep : pointerAt y newOpened a ≡ p = ap (decode shift 0) n ∙ decode-encode shift p il in
             let low : headerLength ≤ p .block .0 = q .low in
             inr (
               record {
-                inside = k;
-                written = entry-other y newOpened a (λ z. encode-pos shift p (omega arith) (sym n ∙ z));
+                written = entry-other y newTableAt _ shift a (λ z. encode-pos shift p (omega arith) (sym n ∙ z));
+                known = first-known y newOpened a refl;
                 named = rw ep (q .named);
                 item = rw ep (q .ok);
               },
@@ -433,28 +458,25 @@ module _ (x : List ℕ) (o : ℕ) (addresses : List ℕ) (size : ℕ) (sectors :
 
     -- ---- the new disc is sound, and every address reads as handed in, or as before
     sound-new : Sound y newIndexAt
-    sound-new = record { opens = opens-new .ok; sectors = rw (opens-new .named, opens-new .found) each }
+    sound-new = record { opens = opens-new .ok; first = rw (opens-new .found) refl; sectors = rw (opens-new .named, opens-new .found) each }
       where
         each : (a : ℕ) → a < opened x o .count → (notWritten y newOpened a ≡ true) ⊎ SectorOk y newEntries newOpened a
         each a k = ⊎-elim (λ r. inl (r .0)) (λ r. inr (r .0)) (reads-inside a k)
 
-    reads-new : (a : ℕ) → a < opened x o .count → readAt y newIndexAt a ≡ expected a
+    reads-new : (a : ℕ) → a < opened x o .count → entryRead y newIndexAt a ≡ expected a
     reads-new a k = go (reads-inside a k)
       where
-        k′ : a < opened y newIndexAt .count
-        k′ = rw (opens-new .found) k
-
-        go : Reads a (expected a) → readAt y newIndexAt a ≡ expected a
-        go (inl r) = read-21 y newIndexAt (opens-new .ok) a k′ (ap (λ (u : Opened). notWritten y u a) (opens-new .found) ∙ r .0) ∙ sym (r .1)
+        go : Reads a (expected a) → entryRead y newIndexAt a ≡ expected a
+        go (inl r) = entry-21 y newIndexAt a (ap (λ (u : Opened). notWritten y u a) (opens-new .found) ∙ r .0) ∙ sym (r .1)
         go (inr r) =
-            read-bytes y newIndexAt (opens-new .ok) a (rw (opens-new .named, opens-new .found) (r .0))
+            entry-bytes y newIndexAt a (rw (opens-new .named, opens-new .found) (r .0))
             ∙ ap (λ (u : Opened). accepted (itemBytes y (pointerAt y u a))) (opens-new .found) ∙ sym (r .1)
 
     pub new-disc : NewDisc x o addresses ds y newIndexAt
     new-disc =
         record {
           sound = sound-new;
+          count = ap (λ (u : Opened). u .count) (opens-new .found);
           reads = reads-new;
-          past = λ a k. read-20 y newIndexAt (opens-new .ok) a (rw (opens-new .found) k);
           stale = rw (opens-new .named) (all-append (all-map (λ e k. k .1) kept-fit) (block-entry-all (length x) items (λ n. not-cksm (userDataEntry DBLK (length x)) (λ q. cksm-dblk (sym q ∙ tag-bytes DBLK tt)))));
         }

@@ -1,6 +1,6 @@
 -- A writing call on a buffer: its outcome by its verdict, and the image afterwards against the image before.
 use mathlib.Core.List.{List}
-use mathlib.Core.Logic.{inl, inr, ⊎-elim}
+use mathlib.Core.Logic.{inl, inr, ⊎-elim, _↔_}
 use mathlib.Core.Path.{_≡_, refl, sym, _∙_}
 use Prim.Native.Nat.{ℕ, _+_, _^_, _≤_, _<_}
 use native.Mathlib.Nat.{le-refl}
@@ -43,6 +43,10 @@ pub outcome-refused : (buffer : List ℕ) (v : Verdict) (p : Placed) (new : List
 unfolding outcome
 outcome-refused buffer Passes p new r e = let z : _≡_ {A = ℕ} 0 1 = cc in absurd (omega arith)
 outcome-refused buffer (Refuses s) p new r e = (cc, refl)
+
+pub outcome-refuses : (buffer : List ℕ) (v : Verdict) (p : Placed) (new : List ℕ) (r : Refusal) → (outcome buffer v p new .result ≡ refused r) ↔ (v ≡ Refuses r)
+unfolding outcome
+outcome-refuses buffer v p new r = ((λ e. outcome-refused buffer v p new r e .0), λ e. rw e)
 
 -- ---- the header's two fields
 module _ (l : List ℕ) (o time : ℕ) where

@@ -1,5 +1,6 @@
 -- Each group of checks passes exactly if its facts hold. Nobody else opens a chain of checks.
-use mathlib.Core.Bool.{Bool, true, false, not}
+use Prim.{Unit, tt}
+use mathlib.Core.Bool.{Bool, true, false, not, true≢false}
 use mathlib.Core.List.{List, [], _∷_, cons-ne-nil}
 use mathlib.Core.Logic.{_≢_, _⊎_, ⊎-elim, ⊎-map, inl, inr, _↔_, Iff·rfl, Iff·trans}
 use mathlib.Core.Path.{_≡_, refl, sym, ap, _∙_, subst}
@@ -7,25 +8,28 @@ use Prim.Native.Nat.{ℕ, zero, suc, _+_, _*_, _≤_, _<_}
 use native.Mathlib.Nat.{le-trans, mul-le-mul-right, div-mul-le-self, suc-mul}
 use native.Mathlib.Omega.{arith}
 use lib.ListN.{length, take, getD}
+use lib.IntN.{ℤ}
 use Rattle.fields.specs.Bytes.{part, equal}
 use Rattle.fields.proofs.Equal.{equal-iff}
 use Rattle.format.specs.declared.Entry.{Entry}
 use Rattle.format.specs.declared.Pointer.{Pointer}
+use Rattle.format.specs.declared.TableKind.{TableKind}
+use Rattle.format.specs.declared.TableKind.the-variants.{First, Second}
 use Rattle.format.specs.declared.Verdict.{Verdict}
 use Rattle.format.specs.declared.Verdict.the-variants.{Passes, Refuses}
 use Rattle.format.specs.Tests.{same}
 use Rattle.format.specs.Lists.{All, done, more}
-use Rattle.format.specs.Refusals.{refusal, row, refused, accepted}
-use Rattle.format.specs.Layouts.{DBLK, DDT*, indexOffset, applicationLength, entryLength, entryAt, entriesFrom, entries, blockLength, sectorSize}
-use Rattle.format.specs.Opening.{lacks, headerVerdict, indexVerdict, entryVerdict, entriesVerdict, offsetsOf, oneOf, oneVerdict, tableAt, tableMalformed, sumsDiffer, tableVerdict, openVerdict, Opened, opened}
-use Rattle.format.specs.Reading.{tableEntryAt, notWritten, pointerAt, has, blockMalformed, blockVerdict, itemVerdict, pointerVerdict, sectorVerdict, itemBytes, readVerdict, readAt}
-use Rattle.format.specs.Writing.{mostSectors, largestSize, mostAddresses, longestBuffer, bufferVerdict}
+use Rattle.format.specs.Refusals.{refusal, row, Answer, refused, accepted, answer}
+use Rattle.format.specs.Layouts.{DBLK, DDT2, indexOffset, applicationLength, entryLength, entryAt, entriesFrom, entries, blockLength, sectorSize, tableAlignment, tableNegative}
+use Rattle.format.specs.Opening.{lacks, headerVerdict, indexVerdict, entryVerdict, entriesVerdict, offsetsWith, offsetsOf, isTable, oneOf, oneVerdict, tableAt, kindBy, kindAt, extentVerdict, payloadVerdict, tableMalformed, sumsDiffer, tableVerdict, openVerdict, Opened, openedAs, opened}
+use Rattle.format.specs.Reading.{outside, entryNumber, tableEntryAt, unwritten, notWritten, unknown, unknownStatus, pointerAt, has, blockMalformed, blockVerdict, itemVerdict, pointerVerdict, sectorVerdict, itemBytes, addressVerdict, readVerdict, pointerOf, readAt}
+use Rattle.format.specs.Writing.{mostSectors, largestSize, mostAddresses, longestBuffer, bufferVerdict, isSecond, writableVerdict}
 use Rattle.format.specs.Creating.{createdUsed, createVerdict}
 use Rattle.format.specs.Committing.{rising, argumentsVerdict, anyOutside, otherThan21, sectorsVerdict, discVerdict, Appended, usedAfter, commitVerdict}
 use Rattle.format.specs.RollingBack.{rollbackVerdict}
-use Rattle.format.specs.Facts.{HeaderOk, IndexOk, EntryOk, TableOk, BlockOk, ItemOk, Identified}
+use Rattle.format.specs.Facts.{HeaderOk, IndexOk, EntryOk, OfKind, ExtentOk, TableOk, BlockOk, ItemOk, Identified}
 use Rattle.format.proofs.Lists.{all-head, all-tail}
-use Rattle.format.proofs.Tests.{on-or-off, not-iff, below-iff, atLeast-true, atLeast-iff, same-on, same-true, same-iff, differs-iff, or-iff, and-iff, choose-true, choose-false}
+use Rattle.format.proofs.Tests.{on-or-off, not-iff, below-iff, atLeast-iff, same-on, same-true, same-iff, differs-iff, or-iff, and-iff, choose-true, choose-false}
 use Rattle.format.proofs.Refusals.{answer-passes, answer-refuses, not-passes, row-iff, then-iff, then-rest, row-refuses, then-refuses, firstRefusal-iff, Says, row-says, then-says, Gives, says-not}
 
 -- the facts of a chain of checks, put into a record or a list
@@ -33,6 +37,10 @@ facts : {A B C : Type 0} → A ↔ B → (B → C) → (C → B) → A ↔ C
 facts h f g = Iff·trans h (f, g)
 
 -- ---- opening
+-- the two kinds
+pub first-second : First ≢ Second
+first-second e = let z : _≡_ {A = ℕ} 0 1 = cc in absurd (omega arith)
+
 pub lacks-iff : (img : List ℕ) (at : ℕ) (letters : List ℕ) → (lacks img at letters ≡ false) ↔ Identified img at letters
 unfolding lacks Identified
 lacks-iff img at letters = Iff·trans not-iff equal-iff
@@ -77,18 +85,39 @@ one-ok o [] = (λ h. absurd (not-passes h), λ h. absurd (cons-ne-nil _ _ (sym h
 one-ok o (t ∷ []) = (λ h. refl, λ h. refl)
 one-ok o (t ∷ u ∷ l) = (λ h. absurd (not-passes h), λ h. absurd (cons-ne-nil u l cc))
 
-pub table-ok : (img : List ℕ) (t : ℕ) → (tableVerdict img t ≡ Passes) ↔ TableOk img t
-unfolding tableVerdict tableMalformed sumsDiffer
-table-ok img t =
+-- the kind of the table at t
+kind-by : (img : List ℕ) (t : ℕ) (b : Bool) (k : TableKind) → lacks img t DDT2 ≡ b → (kindBy b ≡ k) ↔ OfKind img t k
+unfolding kindBy OfKind
+kind-by img t true First h = (λ e i. true≢false (sym h ∙ lacks-iff img t DDT2 .1 i), λ i. refl)
+kind-by img t true Second h = (λ e. absurd (first-second e), λ i. absurd (true≢false (sym h ∙ lacks-iff img t DDT2 .1 i)))
+kind-by img t false First h = (λ e. absurd (first-second (sym e)), λ i. absurd (i (lacks-iff img t DDT2 .0 h)))
+kind-by img t false Second h = (λ e. lacks-iff img t DDT2 .0 h, λ i. refl)
+
+pub kind-iff : (img : List ℕ) (t : ℕ) (k : TableKind) → (kindAt img t ≡ k) ↔ OfKind img t k
+unfolding kindAt
+kind-iff img t k = kind-by img t _ k refl
+
+extent-ok : (img : List ℕ) (k : TableKind) (t : ℕ) → (extentVerdict img k t ≡ Passes) ↔ ExtentOk img k t
+unfolding extentVerdict ExtentOk
+extent-ok img First t = (λ h. tt, λ h. refl)
+extent-ok img Second t =
+    facts (then-iff (row-iff _ differs-iff) (then-iff (row-iff _ differs-iff) (row-iff _ below-iff)))
+    (λ (a, (b, c)). record { levels = a; sizeType = b; blocks = c }) (λ k. (k .levels, (k .sizeType, k .blocks)))
+
+pub table-ok : (img : List ℕ) (k : TableKind) (t : ℕ) → (tableVerdict img k t ≡ Passes) ↔ TableOk img k t
+unfolding tableVerdict payloadVerdict tableMalformed sumsDiffer
+table-ok img k t =
     facts
     (then-iff (row-iff _ below-iff)
     (then-iff (row-iff _ differs-iff)
-    (then-iff (row-iff _ (or-iff differs-iff (or-iff below-iff (or-iff differs-iff differs-iff))))
-    (then-iff (row-iff _ below-iff) (row-iff _ (or-iff differs-iff differs-iff))))))
-    (λ (a, (b, ((c, (d, (e, f))), (g, (h, i))))). record { head = a; compression = b; type = c; shift = d; whole = e; unpacked = f; fits = g; cmpSum = h; sum = i })
-    (λ k. (k .head, (k .compression, ((k .type, (k .shift, (k .whole, k .unpacked))), (k .fits, (k .cmpSum, k .sum))))))
+    (then-iff (extent-ok img k t)
+    (then-iff (row-iff _ (or-iff differs-iff (or-iff below-iff (or-iff below-iff (or-iff differs-iff differs-iff)))))
+    (then-iff (row-iff _ below-iff) (row-iff _ (or-iff differs-iff differs-iff)))))))
+    (λ (a, (b, (x, ((c, (d, (y, (e, f)))), (g, (h, i)))))).
+    record { head = a; compression = b; extent = x; type = c; shift = d; alignment = y; whole = e; unpacked = f; fits = g; cmpSum = h; sum = i })
+    (λ k. (k .head, (k .compression, (k .extent, ((k .type, (k .shift, (k .alignment, (k .whole, k .unpacked)))), (k .fits, (k .cmpSum, k .sum)))))))
 
-pub tableAt-only : (img : List ℕ) (o t : ℕ) → offsetsOf DDT* (entries img o) ≡ t ∷ [] → tableAt img o ≡ t
+pub tableAt-only : (img : List ℕ) (o t : ℕ) → offsetsWith isTable (entries img o) ≡ t ∷ [] → tableAt img o ≡ t
 unfolding tableAt
 tableAt-only img o t e = ap (λ (l : List ℕ). getD l 0 0) e
 
@@ -97,8 +126,8 @@ pub record OpenOk (img : List ℕ) (o : ℕ) : Type 0 where
   pub header : HeaderOk img
   pub index : IndexOk img o
   pub entriesOk : All (EntryOk img) (entries img o)
-  pub only : offsetsOf DDT* (entries img o) ≡ tableAt img o ∷ []
-  pub table : TableOk img (tableAt img o)
+  pub only : offsetsWith isTable (entries img o) ≡ tableAt img o ∷ []
+  pub table : TableOk img (kindAt img (tableAt img o)) (tableAt img o)
 
 pub open-ok : (img : List ℕ) (o : ℕ) → (openVerdict img o ≡ Passes) ↔ OpenOk img o
 unfolding openVerdict oneVerdict tableAt entries
@@ -107,7 +136,7 @@ open-ok img o =
     (then-iff (header-ok img)
     (then-iff (index-ok img o)
     (then-iff (entries-ok img _ _)
-    (then-iff (one-ok o (offsetsOf DDT* (entries img o))) (table-ok img (tableAt img o))))))
+    (then-iff (one-ok o (offsetsWith isTable (entries img o))) (table-ok img (kindAt img (tableAt img o)) (tableAt img o))))))
     (λ (a, (b, (c, (d, e)))). record { header = a; index = b; entriesOk = c; only = d; table = e })
     (λ k. (k .header, (k .index, (k .entriesOk, (k .only, k .table)))))
 
@@ -168,73 +197,98 @@ other-than-21 (Refuses r) = (
   ⊎-elim (λ e. choose-true _ _ _ (same-true _ _ e)) (λ e. absurd (not-passes e)),
 )
 
--- a sector of an opened image
-pub record SectorOk (img : List ℕ) (es : List Entry) (t : Opened) (a : ℕ) : Type 0 where
-  pub inside : a < t .count
-  pub written : notWritten img t a ≡ false
-  pub named : has (pointerAt img t a .block .0) (offsetsOf DBLK es) ≡ true
-  pub item : PointerOk img (pointerAt img t a)
+-- the sector of a table entry of an opened image
+pub record SectorOk (img : List ℕ) (es : List Entry) (t : Opened) (n : ℕ) : Type 0 where
+  pub written : notWritten img t n ≡ false
+  pub known : unknownStatus img t n ≡ false
+  pub named : has (pointerAt img t n .block .0) (offsetsOf DBLK es) ≡ true
+  pub item : PointerOk img (pointerAt img t n)
 
-module _ (img : List ℕ) (es : List Entry) (t : Opened) (a : ℕ) where
-  pub sector-ok : (sectorVerdict img es t a ≡ Passes) ↔ SectorOk img es t a
+module _ (img : List ℕ) (es : List Entry) (t : Opened) (n : ℕ) where
+  pub sector-ok : (sectorVerdict img es t n ≡ Passes) ↔ SectorOk img es t n
   unfolding sectorVerdict pointerVerdict
   sector-ok =
-      facts (then-iff (row-iff _ atLeast-iff) (then-iff (row-iff _ Iff·rfl) (then-iff (row-iff _ not-iff) (item-ok img (pointerAt img t a)))))
-      (λ (b, (c, (d, e))). record { inside = b; written = c; named = d; item = e }) (λ k. (k .inside, (k .written, (k .named, k .item))))
+      facts (then-iff (row-iff _ Iff·rfl) (then-iff (row-iff _ Iff·rfl) (then-iff (row-iff _ not-iff) (item-ok img (pointerAt img t n)))))
+      (λ (b, (c, (d, e))). record { written = b; known = c; named = d; item = e }) (λ k. (k .written, (k .known, (k .named, k .item))))
 
-  -- which addresses are refused with 20 and with 21
-  sector-20 : t .count ≤ a → sectorVerdict img es t a ≡ Refuses (refusal 20 0)
+  -- which entries are refused with 21 and with 73
+  pub sector-21 : notWritten img t n ≡ true → sectorVerdict img es t n ≡ Refuses (refusal 21 0)
   unfolding sectorVerdict
-  sector-20 h = then-refuses _ _ _ (row-refuses _ _ (atLeast-true a (t .count) h))
+  sector-21 e = then-refuses _ _ _ (row-refuses _ _ e)
 
-  pub sector-21 : a < t .count → notWritten img t a ≡ true → sectorVerdict img es t a ≡ Refuses (refusal 21 0)
+  pub sector-73 : notWritten img t n ≡ false → unknownStatus img t n ≡ true → sectorVerdict img es t n ≡ Refuses (refusal 73 0)
   unfolding sectorVerdict
-  sector-21 h e = then-rest _ _ (row-iff _ atLeast-iff .1 h) ∙ then-refuses _ _ _ (row-refuses _ _ e)
+  sector-73 e f = then-rest _ _ (row-iff (refusal 21 0) Iff·rfl .1 e) ∙ then-refuses _ _ _ (row-refuses _ _ f)
 
   -- all others by what their pointers point to
-  pub sector-pointer : a < t .count → notWritten img t a ≡ false → sectorVerdict img es t a ≡ pointerVerdict img es (tableEntryAt t a) (pointerAt img t a)
+  pub sector-pointer : notWritten img t n ≡ false → unknownStatus img t n ≡ false
+      → sectorVerdict img es t n ≡ pointerVerdict img es (tableEntryAt t n) (pointerAt img t n)
   unfolding sectorVerdict
-  sector-pointer h e = then-rest _ _ (row-iff (refusal 20 0) atLeast-iff .1 h) ∙ then-rest _ _ (row-iff (refusal 21 0) Iff·rfl .1 e)
+  sector-pointer e f = then-rest _ _ (row-iff (refusal 21 0) Iff·rfl .1 e) ∙ then-rest _ _ (row-iff (refusal 73 0) Iff·rfl .1 f)
 
-  gives-21 : a < t .count → Gives 21 (sectorVerdict img es t a) ↔ (notWritten img t a ≡ true)
+  pub gives-21 : Gives 21 (sectorVerdict img es t n) ↔ (notWritten img t n ≡ true)
   unfolding Gives
-  gives-21 h = (
-    (λ e. ⊎-elim (λ q. q) (λ q. absurd (pointer-not-21 img es _ _ (subst (Gives 21) (sector-pointer h q) e))) (on-or-off (notWritten img t a))),
-    λ e. subst (Gives 21) (sym (sector-21 h e)) refl,
+  gives-21 = (
+    (λ e. ⊎-elim (λ q. q) (λ q. absurd (otherwise q (on-or-off (unknownStatus img t n)) e)) (on-or-off (notWritten img t n))),
+    λ e. subst (Gives 21) (sym (sector-21 e)) refl,
   )
+    where
+      otherwise : notWritten img t n ≡ false → (unknownStatus img t n ≡ true) ⊎ (unknownStatus img t n ≡ false) → ¬ Gives 21 (sectorVerdict img es t n)
+      otherwise q (inl f) e = let z : _≡_ {A = ℕ} 73 21 = subst (Gives 21) (sector-73 q f) e in absurd (omega arith)
+      otherwise q (inr f) e = pointer-not-21 img es _ _ (subst (Gives 21) (sector-pointer q f) e)
 
-  -- a commit passes an address exactly if it is not written or its sector is good
-  pub address-ok : a < t .count → (otherThan21 (sectorVerdict img es t a) ≡ Passes) ↔ ((notWritten img t a ≡ true) ⊎ SectorOk img es t a)
-  address-ok h = Iff·trans (other-than-21 _) (⊎-map (gives-21 h .0) (sector-ok .0), ⊎-map (gives-21 h .1) (sector-ok .1))
+  -- a commit passes an entry exactly if it is not written or its sector is good
+  pub address-ok : (otherThan21 (sectorVerdict img es t n) ≡ Passes) ↔ ((notWritten img t n ≡ true) ⊎ SectorOk img es t n)
+  address-ok = Iff·trans (other-than-21 _) (⊎-map (gives-21 .0) (sector-ok .0), ⊎-map (gives-21 .1) (sector-ok .1))
 
 -- the whole of a read's checks, at index offset o
-pub record ReadOk (img : List ℕ) (o a : ℕ) : Type 0 where
+pub record ReadOk (img : List ℕ) (o : ℕ) (a : ℤ) : Type 0 where
   pub opens : OpenOk img o
-  pub sector : SectorOk img (entries img o) (opened img o) a
+  pub inside : outside (opened img o) a ≡ false
+  pub sector : SectorOk img (entries img o) (opened img o) (entryNumber (opened img o) a)
 
-pub read-ok : (img : List ℕ) (o a : ℕ) → (readVerdict img o a ≡ Passes) ↔ ReadOk img o a
-unfolding readVerdict
+pub read-ok : (img : List ℕ) (o : ℕ) (a : ℤ) → (readVerdict img o a ≡ Passes) ↔ ReadOk img o a
+unfolding readVerdict addressVerdict
 read-ok img o a =
-    facts (then-iff (open-ok img o) (sector-ok img (entries img o) (opened img o) a))
-    (λ (b, c). record { opens = b; sector = c }) (λ k. (k .opens, k .sector))
+    facts (then-iff (open-ok img o) (then-iff (row-iff _ Iff·rfl) (sector-ok img (entries img o) (opened img o) (entryNumber (opened img o) a))))
+    (λ (b, (c, d)). record { opens = b; inside = c; sector = d }) (λ k. (k .opens, (k .inside, k .sector)))
 
--- what a read answers of an image that opens
-module _ (img : List ℕ) (o : ℕ) (k : OpenOk img o) (a : ℕ) where
-  pub verdict-opened : readVerdict img o a ≡ sectorVerdict img (entries img o) (opened img o) a
+-- what a read answers of an image that opens: by the number of the address's table entry
+unfoldable pub entryRead : List ℕ → ℕ → ℕ → Answer (List ℕ)
+entryRead img o n = answer (sectorVerdict img (entries img o) (opened img o) n) (itemBytes img (pointerAt img (opened img o) n))
+
+module _ (img : List ℕ) (o n : ℕ) where
+  pub entry-21 : notWritten img (opened img o) n ≡ true → entryRead img o n ≡ refused (refusal 21 0)
+  unfolding entryRead
+  entry-21 e = answer-refuses _ _ _ (sector-21 img (entries img o) (opened img o) n e)
+
+  pub entry-bytes : SectorOk img (entries img o) (opened img o) n → entryRead img o n ≡ accepted (itemBytes img (pointerAt img (opened img o) n))
+  unfolding entryRead
+  entry-bytes q = answer-passes _ _ (sector-ok img (entries img o) (opened img o) n .1 q)
+
+module _ (img : List ℕ) (o : ℕ) (k : OpenOk img o) (a : ℤ) where
+  pub verdict-opened : readVerdict img o a ≡ addressVerdict img (entries img o) (opened img o) a
   unfolding readVerdict
   verdict-opened = then-rest _ _ (open-ok img o .1 k)
 
-  pub read-20 : opened img o .count ≤ a → readAt img o a ≡ refused (refusal 20 0)
-  unfolding readAt
-  read-20 h = answer-refuses _ _ _ (verdict-opened ∙ sector-20 img (entries img o) (opened img o) a h)
+  pub read-20 : outside (opened img o) a ≡ true → readAt img o a ≡ refused (refusal 20 0)
+  unfolding readAt addressVerdict
+  read-20 h = answer-refuses _ _ _ (verdict-opened ∙ then-refuses _ _ _ (row-refuses _ _ h))
 
-  pub read-21 : a < opened img o .count → notWritten img (opened img o) a ≡ true → readAt img o a ≡ refused (refusal 21 0)
-  unfolding readAt
-  read-21 h e = answer-refuses _ _ _ (verdict-opened ∙ sector-21 img (entries img o) (opened img o) a h e)
+  pub read-inside : outside (opened img o) a ≡ false → readAt img o a ≡ entryRead img o (entryNumber (opened img o) a)
+  unfolding readAt addressVerdict pointerOf entryRead
+  read-inside h =
+      ap (λ (v : Verdict). answer v (itemBytes img (pointerAt img (opened img o) (entryNumber (opened img o) a))))
+      (verdict-opened ∙ then-rest _ _ (row-iff (refusal 20 0) Iff·rfl .1 h))
 
-  pub read-bytes : SectorOk img (entries img o) (opened img o) a → readAt img o a ≡ accepted (itemBytes img (pointerAt img (opened img o) a))
-  unfolding readAt
-  read-bytes h = answer-passes _ _ (read-ok img o a .1 (record { opens = k; sector = h }))
+-- ---- what table entries of the first kind are: none has another status, and the lowest address is 0
+pub first-known : (img : List ℕ) (t : Opened) (n : ℕ) → t .kind ≡ First → unknownStatus img t n ≡ false
+unfolding unknownStatus unknown
+first-known img t n e = rw e
+
+pub first-flat : (img : List ℕ) (o : ℕ) → opened img o .kind ≡ First → (opened img o .negative ≡ 0) × (opened img o .alignment ≡ 0)
+unfolding opened openedAs tableNegative tableAlignment
+first-flat img o e = (rw e, rw e)
 
 -- ---- creating
 pub record CreateOk (buffer : List ℕ) (count : ℕ) (application : List ℕ) : Type 0 where
@@ -263,7 +317,7 @@ buffer-ok buffer used =
     facts (then-iff (row-iff _ below-iff) (row-iff _ below-iff)) (λ (a, b). record { long = a; inside = b }) (λ k. (k .long, k .inside))
 
 -- ---- committing
-pub record ArgumentsOk (buffer : List ℕ) (used : ℕ) (addresses : List ℕ) (size : ℕ) (sectors : List ℕ) : Type 0 where
+pub record ArgumentsOk (buffer : List ℕ) (used : ℕ) (addresses : List ℤ) (size : ℕ) (sectors : List ℕ) : Type 0 where
   pub bufferOk : BufferOk buffer used
   pub pos : size ≢ 0
   pub small : size ≤ largestSize
@@ -271,7 +325,7 @@ pub record ArgumentsOk (buffer : List ℕ) (used : ℕ) (addresses : List ℕ) (
   pub whole : length sectors ≡ length addresses * size
   pub rises : rising addresses ≡ true
 
-pub arguments-ok : (buffer : List ℕ) (used : ℕ) (addresses : List ℕ) (size : ℕ) (sectors : List ℕ)
+pub arguments-ok : (buffer : List ℕ) (used : ℕ) (addresses : List ℤ) (size : ℕ) (sectors : List ℕ)
     → (argumentsVerdict buffer used addresses size sectors ≡ Passes) ↔ ArgumentsOk buffer used addresses size sectors
 unfolding argumentsVerdict
 arguments-ok buffer used addresses size sectors =
@@ -281,35 +335,52 @@ arguments-ok buffer used addresses size sectors =
     (λ (a, ((b, (c, d)), (e, f))). record { bufferOk = a; pos = b; small = c; few = d; whole = e; rises = f })
     (λ k. (k .bufferOk, ((k .pos, (k .small, k .few)), (k .whole, k .rises))))
 
--- an address is not written, or its sector is good
-abbrev pub AddressOk : List ℕ → ℕ → ℕ → Type 0
-AddressOk img o a = (notWritten img (opened img o) a ≡ true) ⊎ SectorOk img (entries img o) (opened img o) a
+-- an image that may be written to: it opens, with a table of the first kind
+pub record WritableOk (img : List ℕ) (o : ℕ) : Type 0 where
+  pub opens : OpenOk img o
+  pub first : opened img o .kind ≡ First
 
--- the disc at index offset o: it opens, and each of its addresses is so
+pub second-iff : (k : TableKind) → (isSecond k ≡ false) ↔ (k ≡ First)
+unfolding isSecond
+second-iff First = (λ h. refl, λ h. refl)
+second-iff Second = (λ h. absurd (true≢false h), λ h. absurd (first-second (sym h)))
+
+pub writable-ok : (img : List ℕ) (o : ℕ) → (writableVerdict img o ≡ Passes) ↔ WritableOk img o
+unfolding writableVerdict
+writable-ok img o =
+    facts (then-iff (open-ok img o) (row-iff _ (second-iff (opened img o .kind))))
+    (λ (a, b). record { opens = a; first = b }) (λ k. (k .opens, k .first))
+
+-- table entry n is not written, or its sector is good
+abbrev pub AddressOk : List ℕ → ℕ → ℕ → Type 0
+AddressOk img o n = (notWritten img (opened img o) n ≡ true) ⊎ SectorOk img (entries img o) (opened img o) n
+
+-- the disc at index offset o: it opens, with a table of the first kind, and each of its entries is so
 pub record Sound (img : List ℕ) (o : ℕ) : Type 0 where
   pub opens : OpenOk img o
-  pub sectors : (a : ℕ) → a < opened img o .count → AddressOk img o a
+  pub first : opened img o .kind ≡ First
+  pub sectors : (n : ℕ) → n < opened img o .count → AddressOk img o n
 
-pub record DiscOk (img : List ℕ) (o : ℕ) (addresses : List ℕ) : Type 0 where
+pub record DiscOk (img : List ℕ) (o : ℕ) (addresses : List ℤ) : Type 0 where
   pub sound : Sound img o
-  pub inside : anyOutside (opened img o .count) addresses ≡ false
+  pub inside : anyOutside (opened img o) addresses ≡ false
 
-pub disc-ok : (img : List ℕ) (o : ℕ) (addresses : List ℕ) → (discVerdict img o addresses ≡ Passes) ↔ DiscOk img o addresses
+pub disc-ok : (img : List ℕ) (o : ℕ) (addresses : List ℤ) → (discVerdict img o addresses ≡ Passes) ↔ DiscOk img o addresses
 unfolding discVerdict sectorsVerdict
 disc-ok img o addresses =
     facts
-    (then-iff (open-ok img o)
-    (then-iff (row-iff _ Iff·rfl) (firstRefusal-iff (opened img o .count) _ 0 (omega arith) (address-ok img (entries img o) (opened img o)))))
-    (λ (k, (u, s)). record { sound = record { opens = k; sectors = λ a b. s a (omega arith) b }; inside = u })
-    (λ k. (k .sound .opens, (k .inside, λ a l b. k .sound .sectors a b)))
+    (then-iff (writable-ok img o)
+    (then-iff (row-iff _ Iff·rfl) (firstRefusal-iff (opened img o .count) _ 0 (omega arith) (λ n h. address-ok img (entries img o) (opened img o) n))))
+    (λ (k, (u, s)). record { sound = record { opens = k .opens; first = k .first; sectors = λ n b. s n (omega arith) b }; inside = u })
+    (λ k. (record { opens = k .sound .opens; first = k .sound .first }, (k .inside, λ n l b. k .sound .sectors n b)))
 
 -- the whole of a commit's checks
-pub record CommitOk (buffer : List ℕ) (used : ℕ) (addresses : List ℕ) (size : ℕ) (sectors : List ℕ) (new : Appended) : Type 0 where
+pub record CommitOk (buffer : List ℕ) (used : ℕ) (addresses : List ℤ) (size : ℕ) (sectors : List ℕ) (new : Appended) : Type 0 where
   pub arguments : ArgumentsOk buffer used addresses size sectors
   pub disc : DiscOk (take used buffer) (indexOffset (take used buffer)) addresses
   pub room : usedAfter used new ≤ length buffer
 
-pub commit-ok : (buffer : List ℕ) (used : ℕ) (addresses : List ℕ) (size : ℕ) (sectors : List ℕ) (new : Appended)
+pub commit-ok : (buffer : List ℕ) (used : ℕ) (addresses : List ℤ) (size : ℕ) (sectors : List ℕ) (new : Appended)
     → (commitVerdict buffer used addresses size sectors new ≡ Passes) ↔ CommitOk buffer used addresses size sectors new
 unfolding commitVerdict
 commit-ok buffer used addresses size sectors new =
@@ -321,10 +392,10 @@ commit-ok buffer used addresses size sectors new =
 -- ---- rolling back
 pub record RollbackOk (buffer : List ℕ) (used offset : ℕ) : Type 0 where
   pub bufferOk : BufferOk buffer used
-  pub opens : OpenOk (take used buffer) offset
+  pub writable : WritableOk (take used buffer) offset
 
 pub rollback-ok : (buffer : List ℕ) (used offset : ℕ) → (rollbackVerdict buffer used offset ≡ Passes) ↔ RollbackOk buffer used offset
 unfolding rollbackVerdict
 rollback-ok buffer used offset =
-    facts (then-iff (buffer-ok buffer used) (open-ok (take used buffer) offset))
-    (λ (a, b). record { bufferOk = a; opens = b }) (λ k. (k .bufferOk, k .opens))
+    facts (then-iff (buffer-ok buffer used) (writable-ok (take used buffer) offset))
+    (λ (a, b). record { bufferOk = a; writable = b }) (λ k. (k .bufferOk, k .writable))

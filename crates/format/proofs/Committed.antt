@@ -1,67 +1,71 @@
 -- An accepted commit: the disc afterwards is sound, keeps the old image's bytes, and reads as handed in, or as before.
-use mathlib.Core.Bool.{true}
+use mathlib.Core.Bool.{true, false}
 use mathlib.Core.List.{List, []}
 use mathlib.Core.Logic.{⊎-elim}
 use mathlib.Core.Option.{Option}
 use mathlib.Core.Path.{_≡_, sym, ap, _∙_, subst}
-use Prim.Native.Nat.{ℕ, _+_, _≤_}
+use Prim.Native.Nat.{ℕ, _+_, _≤_, _<_}
 use native.Mathlib.Omega.{arith}
 use lib.ListN.{length, take, getD, length-append, length-take}
+use lib.IntN.{ℤ, pos}
 use lib.Seq.{length-take-le}
 use Rattle.fields.specs.Bytes.{overwrite}
 use Rattle.fields.proofs.Overwrite.{length-overwrite}
 use Rattle.fields.proofs.Holds.{Holds}
 use Rattle.format.specs.declared.Placed.{Placed}
-use Rattle.format.specs.Tests.{below}
 use Rattle.format.specs.Lists.{IsBytes}
-use Rattle.format.specs.Refusals.{Answer, accepted}
+use Rattle.format.specs.Refusals.{accepted}
 use Rattle.format.specs.Layouts.{headerLength, indexOffset}
 use Rattle.format.specs.Opening.{opened}
-use Rattle.format.specs.Reading.{readAt, read}
+use Rattle.format.specs.Reading.{outside, entryNumber, readAt, read}
 use Rattle.format.specs.Writing.{longestBuffer, placed, setHeader}
-use Rattle.format.specs.Committing.{rising, pieces, given, Appended, appended, tableStart, indexStart, usedAfter, appendedBytes, append, commit}
+use Rattle.format.specs.Committing.{entryNumbers, pieces, given, Appended, appended, tableStart, indexStart, usedAfter, appendedBytes, append, commit}
 use Rattle.format.specs.Demands.{ReadsCommitted, NoStaleChecksum, Demand2Committing}
-use Rattle.format.proofs.Tests.{on-or-off, below-on, below-iff}
-use Rattle.format.proofs.Lists.{all-take}
-use Rattle.format.proofs.Checks.{commit-ok, ArgumentsOk, Sound, DiscOk, read-20}
+use Rattle.format.proofs.Tests.{on-or-off}
+use Rattle.format.proofs.Lists.{all-take, all-get}
+use Rattle.format.proofs.Checks.{commit-ok, ArgumentsOk, Sound, DiscOk, entryRead, read-20, read-inside, first-flat}
+use Rattle.format.proofs.Numbers.{inside-number, outside-alike, number-alike}
 use Rattle.format.proofs.Agree.{Agree}
 use Rattle.format.proofs.Bytes.{bytes-overwrite, bytes-appended}
-use Rattle.format.proofs.Addresses.{given-named, given-other, outside-other}
+use Rattle.format.proofs.Addresses.{given-named, given-other, inside-each, numbers-rise, numbers-other, number-at, length-numbers}
 use Rattle.format.proofs.Storing.{handedOr, getD-pieces, length-pieces}
 use Rattle.format.proofs.Appended.{NewDisc, new-disc}
 use Rattle.format.proofs.Buffers.{outcome-accepted, agree-append, holds-appended, indexOffset-set, length-appended, bytes-setHeader}
 
 -- an accepted commit that answered p and left `after`
-pub record Committed (buffer : List ℕ) (used : ℕ) (addresses : List ℕ) (size : ℕ) (sectors : List ℕ) (p : Placed) (after : List ℕ) : Type 0 where
-  pub rises : rising addresses ≡ true
+pub record Committed (buffer : List ℕ) (used : ℕ) (addresses : List ℤ) (size : ℕ) (sectors : List ℕ) (p : Placed) (after : List ℕ) : Type 0 where
   pub agree : Agree (take used buffer) (take (p .used) after)
   pub past : used ≤ p .index .0
   pub offset : indexOffset (take (p .used) after) ≡ p .index .0
   pub sound : Sound (take (p .used) after) (p .index .0)
-  pub reads : (a : ℕ) → readAt (take (p .used) after) (p .index .0) a
-      ≡ handedOr (given addresses (pieces (length addresses) size sectors) a) (read (take used buffer) a)
+  pub reads : ReadsCommitted (read (take used buffer)) (readAt (take (p .used) after) (p .index .0)) addresses size sectors
   pub stale : NoStaleChecksum (take (p .used) after) (p .index .0)
   pub same-length : length after ≡ length buffer
   pub inside : p .used ≤ length after
   pub bytes : IsBytes sectors → IsBytes after
 
-module _ (buffer : List ℕ) (isBytes : IsBytes buffer) (used : ℕ) (addresses : List ℕ) (size : ℕ) (sectors : List ℕ) (time : ℕ)
+module _ (buffer : List ℕ) (isBytes : IsBytes buffer) (used : ℕ) (addresses : List ℤ) (size : ℕ) (sectors : List ℕ) (time : ℕ)
     (k : ArgumentsOk buffer used addresses size sectors) (d : DiscOk (take used buffer) (indexOffset (take used buffer)) addresses)
-    (room : usedAfter used (appended (take used buffer) (indexOffset (take used buffer)) addresses size sectors) ≤ length buffer) where
+    (room : let img = take used buffer in let o = indexOffset img in
+    usedAfter used (appended img o (entryNumbers (opened img o) addresses) size sectors) ≤ length buffer) where
   abbrev x : List ℕ
   x = take used buffer
 
   abbrev o : ℕ
   o = indexOffset x
 
+  -- by the numbers of their table entries
+  abbrev numbers : List ℕ
+  numbers = entryNumbers (opened x o) addresses
+
   abbrev new : Appended
-  new = appended x o addresses size sectors
+  new = appended x o numbers size sectors
 
   abbrev run : List ℕ
   run = appendedBytes new
 
   abbrev ds : List (List ℕ)
-  ds = pieces (length addresses) size sectors
+  ds = pieces (length numbers) size sectors
 
   abbrev after : List ℕ
   after = setHeader (overwrite buffer used run) (indexStart used new) time
@@ -97,20 +101,57 @@ module _ (buffer : List ℕ) (isBytes : IsBytes buffer) (used : ℕ) (addresses 
   y-long : length y ≤ longestBuffer
   y-long = simp length-take (omega (arith, length-after, k .bufferOk .long))
 
-  disc : NewDisc x o addresses ds y (indexStart used new)
-  disc =
-      subst (λ n. NewDisc x o addresses ds y (indexStart n new)) length-x
-      (new-disc x o addresses size sectors y agrees s (all-take buffer isBytes used) (k .pos) (k .small) (k .whole) holds y-long)
+  many : length numbers ≡ length addresses
+  many = length-numbers (opened x o) addresses
 
-  reads-y : (a : ℕ) → readAt y (indexStart used new) a ≡ handedOr (given addresses ds a) (readAt x o a)
+  disc : NewDisc x o numbers ds y (indexStart used new)
+  disc =
+      subst (λ n. NewDisc x o numbers ds y (indexStart n new)) length-x
+      (new-disc x o numbers size sectors y agrees s (all-take buffer isBytes used) (k .pos) (k .small) (rw many (k .whole)) holds y-long)
+
+  -- ---- the addresses: the lowest is 0 before and after
+  lowest : opened x o .negative ≡ 0
+  lowest = first-flat x o (s .first) .0
+
+  abbrev i : ℕ
+  i = indexStart used new
+
+  module _ (a : ℤ) where
+    low-y : opened y i .negative ≡ opened x o .negative
+    low-y = first-flat y i (disc .sound .first) .0 ∙ sym lowest
+
+    outside-y : outside (opened y i) a ≡ outside (opened x o) a
+    outside-y = outside-alike _ _ low-y (disc .count) a
+
+    reads-inside : outside (opened x o) a ≡ false → readAt y i a ≡ handedOr (given numbers ds (entryNumber (opened x o) a)) (readAt x o a)
+    reads-inside h =
+        read-inside y i (disc .sound .opens) a (outside-y ∙ h)
+        ∙ ap (entryRead y i) (number-alike _ _ low-y (disc .count) a)
+        ∙ disc .reads (entryNumber (opened x o) a) (inside-number (opened x o) a h .inside)
+        ∙ ap (handedOr (given numbers ds (entryNumber (opened x o) a))) (sym (read-inside x o (s .opens) a h))
+
+  reads-y : ReadsCommitted (readAt x o) (readAt y i) addresses size sectors
   unfolding handedOr
-  reads-y a =
-      ⊎-elim (λ e. disc .reads a (below-on _ _ e))
-      (λ e.
-      let past : opened x o .count ≤ a = below-iff .0 e in
-      let other = given-other addresses ds a (outside-other _ a addresses (d .inside) past) in
-      disc .past a past ∙ sym (ap (λ (v : Option (List ℕ)). handedOr v (readAt x o a)) other ∙ read-20 x o (s .opens) a past))
-      (on-or-off (below a (opened x o .count)))
+  reads-y =
+      let ld : length ds ≡ length numbers = length-pieces (length numbers) size sectors in
+      let rise = numbers-rise (opened x o) lowest addresses (d .inside) (k .rises) in
+      record {
+        named = λ j h.
+            let a : ℤ = getD addresses j (pos 0) in
+            let f = all-get (pos 0) (inside-each (opened x o) addresses (d .inside)) j h in
+            let l : j < length numbers = omega (arith, many) in
+            reads-inside a f
+            ∙ ap (λ (v : Option (List ℕ)). handedOr v (readAt x o a))
+            (ap (given numbers ds) (sym (number-at (opened x o) addresses j h)) ∙ given-named [] numbers ds j rise l (omega arith))
+            ∙ ap accepted (getD-pieces (length numbers) size sectors j l);
+        others = λ a h.
+            ⊎-elim
+            (λ e. read-20 y i (disc .sound .opens) a (outside-y a ∙ e) ∙ sym (read-20 x o (s .opens) a e))
+            (λ e.
+            reads-inside a e
+            ∙ ap (λ (v : Option (List ℕ)). handedOr v (readAt x o a)) (given-other numbers ds _ (numbers-other (opened x o) lowest a e addresses (d .inside) h)))
+            (on-or-off (outside (opened x o) a));
+      }
 
   committed : Committed buffer used addresses size sectors (placed (usedAfter used new) (indexStart used new)) after
   unfolding read usedAfter indexStart tableStart
@@ -119,7 +160,6 @@ module _ (buffer : List ℕ) (isBytes : IsBytes buffer) (used : ℕ) (addresses 
       let r : indexStart used new + length (new .index) ≤ length buffer = room in
       let lo : length (overwrite buffer used run) ≡ length buffer = length-overwrite buffer used run in
       record {
-        rises = k .rises;
         agree = rw y-is agrees;
         past = omega arith;
         offset = indexOffset-set (overwrite buffer used run) (usedAfter used new) (indexStart used new) time (omega (arith, low)) (omega arith) (omega (arith, k .bufferOk .long));
@@ -130,10 +170,10 @@ module _ (buffer : List ℕ) (isBytes : IsBytes buffer) (used : ℕ) (addresses 
         inside = omega (arith, room, length-after);
         bytes = λ h.
             bytes-setHeader (overwrite buffer used run) (indexStart used new) time (omega (arith, low))
-            (bytes-overwrite buffer used run fits isBytes (bytes-appended x o addresses size sectors h));
+            (bytes-overwrite buffer used run fits isBytes (bytes-appended x o numbers size sectors h));
       }
 
-pub commit-accepted : (buffer : List ℕ) → IsBytes buffer → (used : ℕ) (addresses : List ℕ) (size : ℕ) (sectors : List ℕ) (time : ℕ) (p : Placed)
+pub commit-accepted : (buffer : List ℕ) → IsBytes buffer → (used : ℕ) (addresses : List ℤ) (size : ℕ) (sectors : List ℕ) (time : ℕ) (p : Placed)
     → commit buffer used addresses size sectors time .result ≡ accepted p
     → Committed buffer used addresses size sectors p (commit buffer used addresses size sectors time .buffer)
 unfolding commit append
@@ -143,28 +183,12 @@ commit-accepted buffer b used addresses size sectors time p e =
     rw (r .buffer, ← (r .answer)) (committed buffer b used addresses size sectors time (k .arguments) (k .disc) (k .room))
 
 -- ---- demand 2, committing
-reads-committed : (before later : ℕ → Answer (List ℕ)) (addresses : List ℕ) (size : ℕ) (sectors : List ℕ) → rising addresses ≡ true
-    → ((a : ℕ) → later a ≡ handedOr (given addresses (pieces (length addresses) size sectors) a) (before a))
-    → ReadsCommitted before later addresses size sectors
-unfolding handedOr
-reads-committed before later addresses size sectors r h =
-    let ds : List (List ℕ) = pieces (length addresses) size sectors in
-    let ld : length ds ≡ length addresses = length-pieces (length addresses) size sectors in
-    record {
-      named = λ i k.
-          h (getD addresses i 0)
-          ∙ ap (λ (v : Option (List ℕ)). handedOr v (before (getD addresses i 0))) (given-named [] addresses ds i r k (omega arith))
-          ∙ ap accepted (getD-pieces (length addresses) size sectors i k);
-      others = λ a o. h a ∙ ap (λ (v : Option (List ℕ)). handedOr v (before a)) (given-other addresses ds a o);
-    }
-
 pub demand-2-committing : Demand2Committing
 unfolding read
 demand-2-committing buffer b used addresses size sectors time p e =
     let after : List ℕ = commit buffer used addresses size sectors time .buffer in
     let c = commit-accepted buffer b used addresses size sectors time p e in
     record {
-      disc = reads-committed (read (take used buffer)) (read (take (p .used) after)) addresses size sectors (c .rises)
-          (λ a. ap (λ n. readAt (take (p .used) after) n a) (c .offset) ∙ c .reads a);
+      disc = subst (λ n. ReadsCommitted (read (take used buffer)) (readAt (take (p .used) after) n) addresses size sectors) (sym (c .offset)) (c .reads);
       index = c .stale;
     }

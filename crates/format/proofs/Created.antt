@@ -15,16 +15,16 @@ use Rattle.format.specs.declared.Placed.{Placed}
 use Rattle.format.specs.Lists.{All, done, more, IsBytes}
 use Rattle.format.specs.Refusals.{accepted}
 use Rattle.format.specs.Layouts.{AARUFRMT, DDT*, tag, headerLength, applicationLength, imageMajorAt, indexOffsetAt, indexOffset, headerBytes, indexBytes, tableBytes, tableHeaderLength, tableEntryLength}
-use Rattle.format.specs.Opening.{offsetsOf, Opened}
-use Rattle.format.specs.Reading.{tableEntry, notWritten}
+use Rattle.format.specs.Opening.{offsetsWith, isTable, Opened}
+use Rattle.format.specs.Reading.{tableEntry, unwritten, notWritten}
 use Rattle.format.specs.Writing.{mostSectors, longestBuffer}
 use Rattle.format.specs.Creating.{createdIndexAt, createdUsed, createdEntries, createdBytes, create}
 use Rattle.format.specs.Facts.{Identified, HeaderOk, EntryOk}
 use Rattle.format.proofs.Tests.{same-true}
 use Rattle.format.proofs.Lists.{all-take, all-drop, all-replicate}
 use Rattle.format.proofs.Checks.{Sound, create-ok}
-use Rattle.format.proofs.Named.{identified-number, user-data-true, offsets-yes}
-use Rattle.format.proofs.Written.{EntryFits, length-headerBytes, length-tableBytes, table-identified, table-entries, length-indexBytes, Opens, opens-written}
+use Rattle.format.proofs.Named.{identified-number, table-iff, offsets-yes}
+use Rattle.format.proofs.Written.{EntryFits, length-headerBytes, length-tableBytes, table-identified, table-entries, length-indexBytes, openedFirst, Opens, opens-written}
 use Rattle.format.proofs.Bytes.{bytes-overwrite, bytes-created, tag-bytes}
 use Rattle.format.proofs.Buffers.{outcome-accepted}
 
@@ -108,12 +108,12 @@ module _ (count : ℕ) (application : List ℕ) (major minor mediaType creationT
         let fits : headerLength + 4 ≤ length y = omega (arith, y-long) in
         more (record { low = lit≤ tt; fits = fits; identifier = identified-number y headerLength DDT* (table-identified y headerLength 0 count zeros h-table) }) done
 
-    only : offsetsOf DDT* createdEntries ≡ headerLength ∷ []
-    unfolding offsetsOf
-    only = offsets-yes DDT* _ [] (user-data-true DDT* _ (record { type = tag-bytes DDT* tt; userData = refl }))
+    only : offsetsWith isTable createdEntries ≡ headerLength ∷ []
+    unfolding offsetsWith
+    only = offsets-yes isTable _ [] (table-iff _ .1 (inl (record { type = tag-bytes DDT* tt; userData = refl })))
 
     abbrev newOpened : Opened
-    newOpened = record { table = headerLength; count = count; shift = 0 }
+    newOpened = openedFirst headerLength count 0
 
     opens : Opens y o createdEntries newOpened
     unfolding createdIndexAt
@@ -122,7 +122,7 @@ module _ (count : ℕ) (application : List ℕ) (major minor mediaType creationT
         header-new (omega arith) named
 
     nothing-written : (a : ℕ) → a < count → notWritten y newOpened a ≡ true
-    unfolding notWritten tableEntry field part
+    unfolding notWritten unwritten tableEntry field part
     nothing-written a k =
         let hp : Holds y (headerLength + tableHeaderLength) zeros = table-entries y headerLength 0 count zeros h-table in
         let e : part y (headerLength + tableHeaderLength + tableEntryLength * a) 8 ≡ part zeros (tableEntryLength * a) 8 = holds-part y (headerLength + tableHeaderLength) zeros hp (tableEntryLength * a) 8 (omega (arith, length-zeros)) in
@@ -130,7 +130,7 @@ module _ (count : ℕ) (application : List ℕ) (major minor mediaType creationT
         (ap fromLe e ∙ fromLe-zeros _ (all-take _ (all-drop _ (all-replicate (tableEntryLength * count) 0 refl) (tableEntryLength * a)) 8))
 
     created-sound : Sound y o
-    created-sound = record { opens = opens .ok; sectors = rw (opens .found) (λ a k. inl (nothing-written a k)) }
+    created-sound = record { opens = opens .ok; first = rw (opens .found) refl; sectors = rw (opens .found) (λ a k. inl (nothing-written a k)) }
 
 -- ---- an accepted creation that answered p and left `after`
 pub record Created (p : Placed) (after : List ℕ) : Type 0 where

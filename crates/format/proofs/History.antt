@@ -6,6 +6,7 @@ use mathlib.Core.Path.{_≡_, refl, sym, ap, _∙_, subst}
 use Prim.Native.Nat.{ℕ, _^_, _≤_, _<_}
 use native.Mathlib.Omega.{arith}
 use lib.ListN.{length, take}
+use lib.IntN.{ℤ}
 use lib.Seq.{length-take-le}
 use Rattle.format.specs.declared.Placed.{Placed}
 use Rattle.format.specs.declared.Refusal.{Refusal}
@@ -31,7 +32,7 @@ pub record StillThere (x : List ℕ) (p : Point) : Type 0 where
   pub image : List ℕ
   pub sound : Sound image (p .offset)
   pub agree : Agree image x
-  pub disc : (a : ℕ) → readAt image (p .offset) a ≡ p .disc a
+  pub disc : (a : ℤ) → readAt image (p .offset) a ≡ p .disc a
 
 pub record Inv (m : Moment) : Type 0 where
   pub long : length (m .buffer) ≤ longestBuffer
@@ -70,7 +71,7 @@ module _ (m : Moment) (i : Inv m) where
       let low : headerLength ≤ m .used = omega (arith, s .opens .header .long, length-x) in
       let small : p .offset < 256 ^ 8 = omega (arith, offset-inside p k, i .inside, i .long) in
       let new : List ℕ = setHeader (m .buffer) (p .offset) time in
-      let v = rollback-ok (m .buffer) (m .used) (p .offset) .1 (record { bufferOk = record { long = i .long; inside = i .inside }; opens = s .opens }) in
+      let v = rollback-ok (m .buffer) (m .used) (p .offset) .1 (record { bufferOk = record { long = i .long; inside = i .inside }; writable = record { opens = s .opens; first = s .first } }) in
       let e : rollback (m .buffer) (m .used) (p .offset) time ≡ record { result = accepted (placed (m .used) (p .offset)); buffer = new } =
       outcome-passes (m .buffer) _ (placed (m .used) (p .offset)) new v in
       let y : List ℕ = take (m .used) new in
@@ -122,7 +123,7 @@ promised m i c = record { effect = effect m i c; unchanged = unchanged m c }
 distinct-new : (m : Moment) → Inv m → (o : ℕ) → m .used ≤ o → All (λ (q : Point). o ≢ q .offset) (m .points)
 distinct-new m i o h = all-map (λ q k e. absurd (omega (arith, offset-inside m i q k))) (i .points)
 
-inv-commit : (m : Moment) → Inv m → (addresses : List ℕ) (size : ℕ) (sectors : List ℕ) (time : ℕ) → IsBytes sectors → (p : Placed)
+inv-commit : (m : Moment) → Inv m → (addresses : List ℤ) (size : ℕ) (sectors : List ℕ) (time : ℕ) → IsBytes sectors → (p : Placed)
     → commit (m .buffer) (m .used) addresses size sectors time .result ≡ accepted p → Inv (after m (commits addresses size sectors time))
 unfolding outcomeOf pointsAfter pointNow
 inv-commit m i addresses size sectors time b p e =
@@ -143,7 +144,7 @@ unfolding outcomeOf pointsAfter rollback
 inv-rollback m i offset time p e =
     let r = outcome-accepted _ _ _ _ p e in
     let k = rollback-ok (m .buffer) (m .used) offset .0 (r .passes) in
-    let long : headerLength ≤ length (m .buffer) = omega (arith, k .opens .header .long, length-x m i, i .inside) in
+    let long : headerLength ≤ length (m .buffer) = omega (arith, k .writable .opens .header .long, length-x m i, i .inside) in
     let ls : length (setHeader (m .buffer) offset time) ≡ length (m .buffer) = length-setHeader (m .buffer) offset time in
     rw (after-accepted m (rollsBack offset time) p e, ← (r .answer), r .buffer)
     (record {

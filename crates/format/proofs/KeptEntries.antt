@@ -5,18 +5,14 @@ use mathlib.Core.Logic.{_≢_}
 use mathlib.Core.Path.{_≡_, refl, sym, ap, _∙_}
 use Prim.Native.Nat.{ℕ}
 use Rattle.fields.specs.Bytes.{toLe, equal}
-use Rattle.fields.proofs.Equal.{equal-iff}
 use Rattle.format.specs.declared.Entry.{Entry}
 use Rattle.format.specs.Lists.{All, done, more}
-use Rattle.format.specs.Layouts.{DBLK, DDT*, CKSM, tag}
-use Rattle.format.specs.Opening.{isType, isUserData, offsetsOf}
+use Rattle.format.specs.Layouts.{DBLK, DDT*, DDT2, CKSM, tag}
+use Rattle.format.specs.Opening.{isType, isUserData, offsetsWith, offsetsOf}
 use Rattle.format.specs.Committing.{keptEntry, keptEntries}
-use Rattle.format.proofs.Tests.{never, choose-cases}
+use Rattle.format.proofs.Tests.{choose-cases}
 use Rattle.format.proofs.Bytes.{tag-bytes}
-use Rattle.format.proofs.Named.{type-on, type-off, user-data-on, user-data-true, user-data-false, offsets-yes, offsets-no, offsets-cons}
-
-apart : {a b : List ℕ} → equal a b ≡ false → a ≢ b
-apart h e = never (equal-iff .1 e) h
+use Rattle.format.proofs.Named.{apart, type-on, type-off, user-data-on, user-data-true, user-data-false, offsets-yes, offsets-no, offsets-cons}
 
 cksm-ddt : CKSM ≢ DDT*
 unfolding equal
@@ -29,6 +25,10 @@ cksm-dblk = apart refl
 pub dblk-ddt : DBLK ≢ DDT*
 unfolding equal
 dblk-ddt = apart refl
+
+pub dblk-ddt2 : DBLK ≢ DDT2
+unfolding equal
+dblk-ddt2 = apart refl
 
 -- an entry of another type has another number
 pub not-cksm : (e : Entry) → toLe 4 (e .blockType) ≢ CKSM → e .blockType ≢ tag CKSM
@@ -55,25 +55,25 @@ kept-blocks table [] = refl
 kept-blocks table (e ∷ es) =
     let ih = kept-blocks table es in
     choose-cases (λ (l : List Entry). offsetsOf DBLK l ≡ offsetsOf DBLK (e ∷ es)) (isType CKSM e) _ _
-    (λ c. ih ∙ sym (offsets-no DBLK e es (user-data-false DBLK e (λ q. cksm-dblk (sym (type-on CKSM e c) ∙ q)))))
+    (λ c. ih ∙ sym (offsets-no (isUserData DBLK) e es (user-data-false DBLK e (λ q. cksm-dblk (sym (type-on CKSM e c) ∙ q)))))
     (λ c. choose-cases (λ (q : Entry). offsetsOf DBLK (q ∷ keptEntries table es) ≡ offsetsOf DBLK (e ∷ es)) (isUserData DDT* e) _ _
     (λ d.
     let n : toLe 4 (e .blockType) ≢ DBLK = λ q. dblk-ddt (sym q ∙ user-data-on DDT* e d .type) in
-    offsets-no DBLK (moved table e) (keptEntries table es) (user-data-false DBLK (moved table e) n) ∙ ih ∙ sym (offsets-no DBLK e es (user-data-false DBLK e n)))
-    (λ d. offsets-cons DBLK e (keptEntries table es) es ih))
+    offsets-no (isUserData DBLK) (moved table e) (keptEntries table es) (user-data-false DBLK (moved table e) n) ∙ ih ∙ sym (offsets-no (isUserData DBLK) e es (user-data-false DBLK e n)))
+    (λ d. offsets-cons (isUserData DBLK) e (keptEntries table es) es ih))
 
 -- the table's entry is replaced in its place
 pub kept-table : (table : ℕ) (es : List Entry) → offsetsOf DDT* (keptEntries table es) ≡ map (λ (o : ℕ). table) (offsetsOf DDT* es)
-unfolding keptEntries keptEntry offsetsOf
+unfolding keptEntries keptEntry offsetsWith
 kept-table table [] = refl
 kept-table table (e ∷ es) =
     let ih = kept-table table es in
     let to : List ℕ → List ℕ = map (λ (o : ℕ). table) in
     choose-cases (λ (l : List Entry). offsetsOf DDT* l ≡ to (offsetsOf DDT* (e ∷ es))) (isType CKSM e) _ _
-    (λ c. ih ∙ ap to (sym (offsets-no DDT* e es (user-data-false DDT* e (λ q. cksm-ddt (sym (type-on CKSM e c) ∙ q))))))
+    (λ c. ih ∙ ap to (sym (offsets-no (isUserData DDT*) e es (user-data-false DDT* e (λ q. cksm-ddt (sym (type-on CKSM e c) ∙ q))))))
     (λ c. choose-cases (λ (q : Entry). offsetsOf DDT* (q ∷ keptEntries table es) ≡ to (offsetsOf DDT* (e ∷ es))) (isUserData DDT* e) _ _
     (λ d.
     let u = user-data-on DDT* e d in
-    offsets-yes DDT* (moved table e) (keptEntries table es) (user-data-true DDT* (moved table e) (record { type = u .type; userData = u .userData }))
-    ∙ ap (λ (l : List ℕ). table ∷ l) ih ∙ ap to (sym (offsets-yes DDT* e es d)))
-    (λ d. offsets-no DDT* e (keptEntries table es) d ∙ ih ∙ ap to (sym (offsets-no DDT* e es d))))
+    offsets-yes (isUserData DDT*) (moved table e) (keptEntries table es) (user-data-true DDT* (moved table e) (record { type = u .type; userData = u .userData }))
+    ∙ ap (λ (l : List ℕ). table ∷ l) ih ∙ ap to (sym (offsets-yes (isUserData DDT*) e es d)))
+    (λ d. offsets-no (isUserData DDT*) e (keptEntries table es) d ∙ ih ∙ ap to (sym (offsets-no (isUserData DDT*) e es d))))

@@ -2,10 +2,11 @@ pub mod Tests
 pub mod Refusals
 pub mod Chains
 pub mod Lists
+pub mod Numbers
 pub mod Checks
-pub mod Refusing
 pub mod Answers
 pub mod Named
+pub mod Opens
 pub mod Agree
 pub mod Written
 pub mod KeptEntries
@@ -15,6 +16,7 @@ pub mod Bytes
 pub mod Letters
 pub mod Appended
 pub mod Buffers
+pub mod Refusing
 pub mod Committed
 pub mod Created
 pub mod Reading

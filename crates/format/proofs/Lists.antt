@@ -16,6 +16,10 @@ pub all-map : {A : Type 0} {P Q : A → Type 0} {l : List A} → ((a : A) → P 
 all-map f done = done
 all-map f (more {a = a} h hs) = more (f a h) (all-map f hs)
 
+pub all-both : {A : Type 0} {P Q : A → Type 0} {l : List A} → All P l → All Q l → All (λ (a : A). P a × Q a) l
+all-both done done = done
+all-both (more h hs) (more k ks) = more (h, k) (all-both hs ks)
+
 pub all-image : {A B : Type 0} {P : B → Type 0} (f : A → B) → ((a : A) → P (f a)) → (l : List A) → All P (map f l)
 all-image f h [] = done
 all-image f h (a ∷ l) = more (h a) (all-image f h l)

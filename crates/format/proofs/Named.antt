@@ -1,22 +1,27 @@
 -- Letters and the numbers that they make; what an index names: the offsets of its entries for one kind of block, of user data.
-use mathlib.Core.Bool.{true, false}
+use mathlib.Core.Bool.{Bool, true, false}
 use mathlib.Core.List.{List, [], _∷_, _++_}
-use mathlib.Core.Logic.{_≢_, _⊎_, inl, inr, _↔_, Iff·rfl, ⊎-elim}
+use mathlib.Core.Logic.{_≢_, _⊎_, inl, inr, _↔_, Iff·rfl, ⊎-elim, ⊎-map}
 use mathlib.Core.Path.{_≡_, refl, sym, ap, _∙_, subst}
 use Prim.Native.Nat.{ℕ, _^_, _<_}
 use native.Mathlib.Omega.{arith}
 use lib.ListN.{length}
-use Rattle.fields.specs.Bytes.{fromLe, toLe, field}
+use Rattle.fields.specs.Bytes.{fromLe, toLe, field, equal}
 use Rattle.fields.proofs.Numbers.{fromLe-toLe}
 use Rattle.fields.proofs.Equal.{equal-iff}
 use Rattle.format.specs.declared.Entry.{Entry}
 use Rattle.format.specs.Tests.{choose}
 use Rattle.format.specs.Lists.{All, done, more, Any, here, there, Only, found, later}
-use Rattle.format.specs.Layouts.{tag}
-use Rattle.format.specs.Opening.{isType, isUserData, offsetsOf}
+use Rattle.format.specs.Layouts.{DDT*, DDT2, tag}
+use Rattle.format.specs.Opening.{isType, isUserData, offsetsWith, offsetsOf, isTable}
 use Rattle.format.specs.Reading.{has}
-use Rattle.format.specs.Facts.{Identified, UserData}
-use Rattle.format.proofs.Tests.{on-or-off, never, same-on, same-true, or-on, or-true-left, or-true-right, and-on, and-true, and-iff, choose-true, choose-false, choose-cases}
+use Rattle.format.specs.Facts.{Identified, UserData, NamesTable}
+use Rattle.format.proofs.Lists.{all-map}
+use Rattle.format.proofs.Tests.{on-or-off, never, same-on, same-true, or-on, or-true-left, or-true-right, or-left, and-on, and-true, and-iff, choose-true, choose-false, choose-cases}
+
+-- ---- letters that differ
+pub apart : {a b : List ℕ} → equal a b ≡ false → a ≢ b
+apart h e = never (equal-iff .1 e) h
 
 -- ---- letters, as a number
 pub identified-number : (y : List ℕ) (at : ℕ) (letters : List ℕ) → Identified y at letters → field y at (length letters) ≡ tag letters
@@ -55,33 +60,51 @@ module _ (letters : List ℕ) (e : Entry) where
   unfolding isUserData
   user-data-false h = and-iff (type-off, type-false) Iff·rfl .1 (inl h)
 
-  -- ---- the offsets
-  pub offsets-yes : (es : List Entry) → isUserData letters e ≡ true → offsetsOf letters (e ∷ es) ≡ e .offset .0 ∷ offsetsOf letters es
-  unfolding offsetsOf
-  offsets-yes es h = choose-true _ _ _ h
+  user-data-iff : (isUserData letters e ≡ true) ↔ UserData letters e
+  user-data-iff = (user-data-on, user-data-true)
 
-  pub offsets-no : (es : List Entry) → isUserData letters e ≡ false → offsetsOf letters (e ∷ es) ≡ offsetsOf letters es
-  unfolding offsetsOf
-  offsets-no es h = choose-false _ _ _ h
+-- an entry for a table of either kind
+pub table-iff : (e : Entry) → (isTable e ≡ true) ↔ NamesTable e
+unfolding isTable
+table-iff e = (
+  (λ h. ⊎-map (user-data-on DDT* e) (user-data-on DDT2 e) (or-on _ _ h)),
+  ⊎-elim (λ u. or-true-left _ _ (user-data-true DDT* e u)) (λ u. or-true-right _ _ (user-data-true DDT2 e u)),
+)
 
-  pub offsets-cons : (a b : List Entry) → offsetsOf letters a ≡ offsetsOf letters b → offsetsOf letters (e ∷ a) ≡ offsetsOf letters (e ∷ b)
-  unfolding offsetsOf
-  offsets-cons a b h = ap (λ (l : List ℕ). choose (isUserData letters e) (e .offset .0 ∷ l) l) h
+-- ---- the offsets of the entries that a test says yes to
+module _ (f : Entry → Bool) where
+  pub offsets-yes : (e : Entry) (es : List Entry) → f e ≡ true → offsetsWith f (e ∷ es) ≡ e .offset .0 ∷ offsetsWith f es
+  unfolding offsetsWith
+  offsets-yes e es h = choose-true _ _ _ h
 
-pub offsets-all : (P : ℕ → Type 0) (letters : List ℕ) (es : List Entry) → All (λ (e : Entry). P (e .offset .0)) es → All P (offsetsOf letters es)
-unfolding offsetsOf
-offsets-all P letters _ done = done
-offsets-all P letters _ (more {a = e} {l = es} k ks) =
-    let r = offsets-all P letters es ks in
-    choose-cases (All P) (isUserData letters e) _ _ (λ h. more k r) (λ h. r)
+  pub offsets-no : (e : Entry) (es : List Entry) → f e ≡ false → offsetsWith f (e ∷ es) ≡ offsetsWith f es
+  unfolding offsetsWith
+  offsets-no e es h = choose-false _ _ _ h
 
-pub offsets-append : (letters : List ℕ) (a b : List Entry) → offsetsOf letters (a ++ b) ≡ offsetsOf letters a ++ offsetsOf letters b
-unfolding offsetsOf
-offsets-append letters [] b = refl
-offsets-append letters (e ∷ a) b =
-    let ih = offsets-append letters a b in
-    choose-cases (λ (l : List ℕ). offsetsOf letters (e ∷ (a ++ b)) ≡ l ++ offsetsOf letters b) (isUserData letters e) _ _
-    (λ h. offsets-yes letters e (a ++ b) h ∙ ap (λ (l : List ℕ). e .offset .0 ∷ l) ih) (λ h. offsets-no letters e (a ++ b) h ∙ ih)
+  pub offsets-cons : (e : Entry) (a b : List Entry) → offsetsWith f a ≡ offsetsWith f b → offsetsWith f (e ∷ a) ≡ offsetsWith f (e ∷ b)
+  unfolding offsetsWith
+  offsets-cons e a b h = ap (λ (l : List ℕ). choose (f e) (e .offset .0 ∷ l) l) h
+
+  pub offsets-all : (P : ℕ → Type 0) (es : List Entry) → All (λ (e : Entry). P (e .offset .0)) es → All P (offsetsWith f es)
+  unfolding offsetsWith
+  offsets-all P _ done = done
+  offsets-all P _ (more {a = e} {l = es} k ks) =
+      let r = offsets-all P es ks in
+      choose-cases (All P) (f e) _ _ (λ h. more k r) (λ h. r)
+
+  pub offsets-append : (a b : List Entry) → offsetsWith f (a ++ b) ≡ offsetsWith f a ++ offsetsWith f b
+  unfolding offsetsWith
+  offsets-append [] b = refl
+  offsets-append (e ∷ a) b =
+      let ih = offsets-append a b in
+      choose-cases (λ (l : List ℕ). offsetsWith f (e ∷ (a ++ b)) ≡ l ++ offsetsWith f b) (f e) _ _
+      (λ h. offsets-yes e (a ++ b) h ∙ ap (λ (l : List ℕ). e .offset .0 ∷ l) ih) (λ h. offsets-no e (a ++ b) h ∙ ih)
+
+  -- two tests that agree on the entries
+  pub offsets-same : (g : Entry → Bool) (es : List Entry) → All (λ (e : Entry). f e ≡ g e) es → offsetsWith f es ≡ offsetsWith g es
+  unfolding offsetsWith
+  offsets-same g _ done = refl
+  offsets-same g _ (more {a = e} {l = es} h hs) = rw (h, offsets-same g es hs)
 
 -- ---- a member
 has-cons : (b c : ℕ) (l : List ℕ) → has b (c ∷ l) ≡ true → (c ≡ b) ⊎ (has b l ≡ true)
@@ -117,7 +140,7 @@ abbrev pub NamesBlock : List ℕ → ℕ → Entry → Type 0
 NamesBlock letters b e = UserData letters e × (e .offset .0 ≡ b)
 
 named-forth : (letters : List ℕ) (b : ℕ) (es : List Entry) → has b (offsetsOf letters es) ≡ true → Any (NamesBlock letters b) es
-unfolding offsetsOf
+unfolding offsetsWith
 named-forth letters b [] h = absurd (has-none b h)
 named-forth letters b (e ∷ es) h =
     let ih = named-forth letters b es in
@@ -126,9 +149,9 @@ named-forth letters b (e ∷ es) h =
     (λ n k. there (ih k)) h
 
 named-back : (letters : List ℕ) (b : ℕ) (es : List Entry) → Any (NamesBlock letters b) es → has b (offsetsOf letters es) ≡ true
-unfolding offsetsOf
+unfolding offsetsWith
 named-back letters b _ (here {a = e} {l = es} n) =
-    ap (has b) (offsets-yes letters e es (user-data-true letters e (n .0))) ∙ has-head b (e .offset .0) (offsetsOf letters es) (n .1)
+    ap (has b) (offsets-yes (isUserData letters) e es (user-data-true letters e (n .0))) ∙ has-head b (e .offset .0) (offsetsOf letters es) (n .1)
 named-back letters b _ (there {a = e} {l = es} r) =
     let ih = named-back letters b es r in
     choose-cases (λ (l : List ℕ). has b l ≡ true) (isUserData letters e) _ _ (λ n. has-tail b (e .offset .0) (offsetsOf letters es) ih) (λ n. ih)
@@ -136,46 +159,68 @@ named-back letters b _ (there {a = e} {l = es} r) =
 pub named : (letters : List ℕ) (b : ℕ) (es : List Entry) → (has b (offsetsOf letters es) ≡ true) ↔ Any (NamesBlock letters b) es
 named letters b es = (named-forth letters b es, named-back letters b es)
 
--- ---- one offset, exactly if one entry names it
-pub record OnlyEntry (letters : List ℕ) (es : List Entry) (t : ℕ) : Type 0 where
+-- ---- one offset, exactly if one entry names it; a test that says yes exactly to the entries that are P
+pub record OnlyEntry (P : Entry → Type 0) (es : List Entry) (t : ℕ) : Type 0 where
   pub entry : Entry
-  pub only : Only (UserData letters) entry es
+  pub only : Only P entry es
   pub place : entry .offset .0 ≡ t
 
-user-data-off : (letters : List ℕ) (e : Entry) → isUserData letters e ≡ false → ¬ UserData letters e
-user-data-off letters e h k = never (user-data-true letters e k) h
+module _ (f : Entry → Bool) (P : Entry → Type 0) (says : (e : Entry) → (f e ≡ true) ↔ P e) where
+  test-off : (e : Entry) → f e ≡ false → ¬ P e
+  test-off e h k = never (says e .1 k) h
 
-user-data-not : (letters : List ℕ) (e : Entry) → ¬ UserData letters e → isUserData letters e ≡ false
-user-data-not letters e h = ⊎-elim (λ n. absurd (h (user-data-on letters e n))) (λ n. n) (on-or-off (isUserData letters e))
+  test-not : (e : Entry) → ¬ P e → f e ≡ false
+  test-not e h = ⊎-elim (λ n. absurd (h (says e .0 n))) (λ n. n) (on-or-off (f e))
 
-none-forth : (letters : List ℕ) (es : List Entry) → offsetsOf letters es ≡ [] → All (λ (e : Entry). ¬ UserData letters e) es
-unfolding offsetsOf
-none-forth letters [] h = done
-none-forth letters (e ∷ es) h =
-    let ih = none-forth letters es in
-    choose-cases (λ (l : List ℕ). l ≡ [] → All (λ (q : Entry). ¬ UserData letters q) (e ∷ es)) (isUserData letters e) _ _
-    (λ n q. let z : _≡_ {A = ℕ} 0 1 = cc in absurd (omega arith)) (λ n q. more (user-data-off letters e n) (ih q)) h
+  none-forth : (es : List Entry) → offsetsWith f es ≡ [] → All (λ (e : Entry). ¬ P e) es
+  unfolding offsetsWith
+  none-forth [] h = done
+  none-forth (e ∷ es) h =
+      let ih = none-forth es in
+      choose-cases (λ (l : List ℕ). l ≡ [] → All (λ (q : Entry). ¬ P q) (e ∷ es)) (f e) _ _
+      (λ n q. let z : _≡_ {A = ℕ} 0 1 = cc in absurd (omega arith)) (λ n q. more (test-off e n) (ih q)) h
 
-none-back : (letters : List ℕ) (es : List Entry) → All (λ (e : Entry). ¬ UserData letters e) es → offsetsOf letters es ≡ []
-unfolding offsetsOf
-none-back letters _ done = refl
-none-back letters _ (more {a = e} {l = es} h hs) = offsets-no letters e es (user-data-not letters e h) ∙ none-back letters es hs
+  none-back : (es : List Entry) → All (λ (e : Entry). ¬ P e) es → offsetsWith f es ≡ []
+  unfolding offsetsWith
+  none-back _ done = refl
+  none-back _ (more {a = e} {l = es} h hs) = offsets-no f e es (test-not e h) ∙ none-back es hs
 
-only-forth : (letters : List ℕ) (es : List Entry) (t : ℕ) → offsetsOf letters es ≡ t ∷ [] → OnlyEntry letters es t
-unfolding offsetsOf
-only-forth letters [] t h = let z : _≡_ {A = ℕ} 0 1 = cc in absurd (omega arith)
-only-forth letters (e ∷ es) t h =
-    let ih = only-forth letters es t in
-    choose-cases (λ (l : List ℕ). l ≡ t ∷ [] → OnlyEntry letters (e ∷ es) t) (isUserData letters e) _ _
-    (λ n q.
-    let rest : offsetsOf letters es ≡ [] = cc in
-    let place : e .offset .0 ≡ t = cc in
-    record { entry = e; only = found (user-data-on letters e n) (none-forth letters es rest); place = place })
-    (λ n q. let r = ih q in record { entry = r .entry; only = later (user-data-off letters e n) (r .only); place = r .place }) h
+  only-forth : (es : List Entry) (t : ℕ) → offsetsWith f es ≡ t ∷ [] → OnlyEntry P es t
+  unfolding offsetsWith
+  only-forth [] t h = let z : _≡_ {A = ℕ} 0 1 = cc in absurd (omega arith)
+  only-forth (e ∷ es) t h =
+      let ih = only-forth es t in
+      choose-cases (λ (l : List ℕ). l ≡ t ∷ [] → OnlyEntry P (e ∷ es) t) (f e) _ _
+      (λ n q.
+      let rest : offsetsWith f es ≡ [] = cc in
+      let place : e .offset .0 ≡ t = cc in
+      record { entry = e; only = found (says e .0 n) (none-forth es rest); place = place })
+      (λ n q. let r = ih q in record { entry = r .entry; only = later (test-off e n) (r .only); place = r .place }) h
 
-only-back : (letters : List ℕ) (es : List Entry) (e : Entry) → Only (UserData letters) e es → offsetsOf letters es ≡ e .offset .0 ∷ []
-only-back letters _ e (found {l = es} u none) = offsets-yes letters e es (user-data-true letters e u) ∙ ap (λ (l : List ℕ). e .offset .0 ∷ l) (none-back letters es none)
-only-back letters _ e (later {b = b} {l = es} h r) = offsets-no letters b es (user-data-not letters b h) ∙ only-back letters es e r
+  only-back : (es : List Entry) (e : Entry) → Only P e es → offsetsWith f es ≡ e .offset .0 ∷ []
+  only-back _ e (found {l = es} u none) = offsets-yes f e es (says e .1 u) ∙ ap (λ (l : List ℕ). e .offset .0 ∷ l) (none-back es none)
+  only-back _ e (later {b = b} {l = es} h r) = offsets-no f b es (test-not b h) ∙ only-back es e r
 
-pub only-named : (letters : List ℕ) (es : List Entry) (t : ℕ) → (offsetsOf letters es ≡ t ∷ []) ↔ OnlyEntry letters es t
-only-named letters es t = (only-forth letters es t, λ k. only-back letters es (k .entry) (k .only) ∙ ap (λ (n : ℕ). n ∷ []) (k .place))
+  only-named : (es : List Entry) (t : ℕ) → (offsetsWith f es ≡ t ∷ []) ↔ OnlyEntry P es t
+  only-named es t = (only-forth es t, λ k. only-back es (k .entry) (k .only) ∙ ap (λ (n : ℕ). n ∷ []) (k .place))
+
+-- every entry that is so is the one at that offset
+only-all : (P : Entry → Type 0) (e : Entry) (es : List Entry) → Only P e es → All (λ (b : Entry). P b → b ≡ e) es
+only-all P e _ (found u none) = more (λ h. refl) (all-map (λ b n h. absurd (n h)) none)
+only-all P e _ (later n r) = more (λ h. absurd (n h)) (only-all P e _ r)
+
+-- the one table
+pub table-named : (es : List Entry) (t : ℕ) → (offsetsWith isTable es ≡ t ∷ []) ↔ OnlyEntry NamesTable es t
+table-named = only-named isTable NamesTable table-iff
+
+pub table-offset : (es : List Entry) (t : ℕ) → offsetsWith isTable es ≡ t ∷ [] → All (λ (b : Entry). NamesTable b → b .offset .0 ≡ t) es
+table-offset es t h =
+    let k = table-named es t .0 h in
+    all-map (λ b f u. ap (λ (e : Entry). e .offset .0) (f u) ∙ k .place) (only-all NamesTable (k .entry) es (k .only))
+
+-- where no entry is for a table of the second kind, the tables are those of the first
+pub tables-first : (es : List Entry) → All (λ (e : Entry). ¬ UserData DDT2 e) es → offsetsWith isTable es ≡ offsetsOf DDT* es
+unfolding isTable
+tables-first es h =
+    offsets-same isTable (isUserData DDT*) es
+    (all-map (λ e n. or-left _ (test-not (isUserData DDT2) (UserData DDT2) (user-data-iff DDT2) e n)) h)

@@ -1,8 +1,8 @@
 -- Chains of checks: what it takes to pass, and what the first refusal is.
 use Prim.{Unit, tt}
 use mathlib.Core.Bool.{Bool, true, false, true≢false}
-use mathlib.Core.Logic.{_≢_, ⊎-elim, _↔_, Iff·rfl}
-use mathlib.Core.Path.{_≡_, refl, subst}
+use mathlib.Core.Logic.{_≢_, _⊎_, inl, inr, ⊎-elim, _↔_, Iff·rfl}
+use mathlib.Core.Path.{_≡_, refl, sym, _∙_, subst}
 use Prim.Native.Nat.{ℕ, zero, suc, _+_, _≤_, _<_}
 use native.Mathlib.Nat.{eq-or-lt-of-le}
 use native.Mathlib.Omega.{arith}
@@ -14,6 +14,13 @@ use Rattle.format.specs.Refusals.{row, _then_, firstRefusal, refused, ac
 -- ---- passing
 pub not-passes : {r : Refusal} → Refuses r ≢ Passes
 not-passes h = let z : _≡_ {A = ℕ} 0 1 = cc in absurd (omega arith)
+
+not-refuses : {r : Refusal} → Passes ≢ Refuses r
+not-refuses h = not-passes (sym h)
+
+passes-or : (v : Verdict) → (v ≡ Passes) ⊎ (v ≢ Passes)
+passes-or Passes = inl refl
+passes-or (Refuses r) = inr not-passes
 
 pub row-iff : {P : Type 0} {b : Bool} (r : Refusal) → (b ≡ false) ↔ P → (row b r ≡ Passes) ↔ P
 unfolding row
@@ -80,6 +87,18 @@ module _ (P : ℕ → ℕ → Type 0) where
   then-says Passes w p q = q
   then-says (Refuses r) w p q = p
 
+  -- a row that does not apply
+  pub off-says : (b : Bool) (r : Refusal) → b ≡ false → Says P (row b r)
+  unfolding row Says
+  off-says true r e = absurd (true≢false e)
+  off-says false r e = tt
+
+  -- what is reached only where the checks before it pass
+  pub after-says : (v w : Verdict) → Says P v → (v ≡ Passes → Says P w) → Says P (v then w)
+  unfolding _then_ Says
+  after-says Passes w p q = q refl
+  after-says (Refuses r) w p q = p
+
   pub first-says : (f : ℕ → Verdict) (n k i : ℕ) → i + k ≡ n → ((a : ℕ) → a < n → Says P (f a)) → Says P (firstRefusal f k i)
   unfolding firstRefusal Says
   first-says f n zero i e p = tt
@@ -99,10 +118,35 @@ unfoldable pub Gives : ℕ → Verdict → Type 0
 Gives n Passes = ⊥
 Gives n (Refuses r) = r .number ≡ n
 
+gives : (v : Verdict) {r : Refusal} → v ≡ Refuses r → Gives (r .number) v
+unfolding Gives
+gives v {r} e = rw e
+
 pub says-not : (n : ℕ) (v : Verdict) → Says (λ m p. m ≢ n) v → ¬ Gives n v
 unfolding Gives Says
 says-not n Passes p = λ x. x
 says-not n (Refuses r) p = p
+
+-- ---- where in a chain a number is given
+pub row-gives : (b : Bool) (r : Refusal) → (row b r ≡ Refuses r) ↔ (b ≡ true)
+unfolding row
+row-gives true r = (λ h. refl, λ h. refl)
+row-gives false r = (λ h. absurd (not-refuses h), λ h. absurd (true≢false (sym h)))
+
+module _ (v w : Verdict) (r : Refusal) where
+  -- past the checks that don't give it
+  pub then-gives : ¬ Gives (r .number) v → ((v then w) ≡ Refuses r) ↔ ((v ≡ Passes) × (w ≡ Refuses r))
+  then-gives n = (forth, λ k. then-rest v w (k .0) ∙ k .1)
+    where
+      forth : (v then w) ≡ Refuses r → (v ≡ Passes) × (w ≡ Refuses r)
+      forth h = ⊎-elim (λ p. (p, sym (then-rest v w p) ∙ h)) (λ p. absurd (n (gives v (sym (then-stays v w p) ∙ h)))) (passes-or v)
+
+  -- before the checks that don't
+  pub gives-then : ¬ Gives (r .number) w → ((v then w) ≡ Refuses r) ↔ (v ≡ Refuses r)
+  gives-then n = (forth, then-refuses v w r)
+    where
+      forth : (v then w) ≡ Refuses r → v ≡ Refuses r
+      forth h = ⊎-elim (λ p. absurd (n (gives w (sym (then-rest v w p) ∙ h)))) (λ p. sym (then-stays v w p) ∙ h) (passes-or v)
 
 -- ---- answers
 pub answer-passes : {A : Type 0} (v : Verdict) (a : A) → v ≡ Passes → answer v a ≡ accepted a

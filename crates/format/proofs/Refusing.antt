@@ -1,43 +1,48 @@
 -- Demand 1: the numbers that each call refuses with, and their places. What holds of the number and the place of each row of a chain holds of what the chain
 -- refuses with.
-use Prim.{tt}
-use mathlib.Core.Bool.{Bool}
+use Prim.{Unit, tt}
+use mathlib.Core.Bool.{Bool, true, true≢false}
 use mathlib.Core.List.{List, [], _∷_}
-use mathlib.Core.Logic.{_≢_, _⊎_, inl, inr, ⊎-map, ⊎-elim}
-use mathlib.Core.Path.{_≡_, refl, sym, subst}
+use mathlib.Core.Logic.{_≢_, _⊎_, inl, inr, ⊎-map, ⊎-elim, _↔_, Iff·rfl, Iff·trans}
+use mathlib.Core.Path.{_≡_, refl, sym, ap, subst}
 use Prim.Native.Nat.{ℕ, zero, suc, _+_, _*_, _≤_, _<_}
 use native.Mathlib.Nat.{eq-or-lt-of-le}
 use native.Mathlib.Omega.{arith}
 use lib.ListN.{take}
+use lib.IntN.{ℤ}
+use Rattle.format.specs.declared.TableKind.{TableKind}
+use Rattle.format.specs.declared.TableKind.the-variants.{First, Second}
 use Rattle.format.specs.declared.Verdict.{Verdict}
 use Rattle.format.specs.declared.Verdict.the-variants.{Passes, Refuses}
-use Rattle.format.specs.Refusals.{refusal, row}
+use Rattle.format.specs.Refusals.{refusal, row, _then_}
 use Rattle.format.specs.Layouts.{indexOffset, indexHeaderLength, entryCount, entryLength, entries}
-use Rattle.format.specs.Opening.{headerVerdict, indexVerdict, entryVerdict, entriesVerdict, oneOf, oneVerdict, tableAt, tableVerdict, openVerdict, opened, sectorCount}
-use Rattle.format.specs.Reading.{pointerVerdict, sectorVerdict, readVerdict, locate}
-use Rattle.format.specs.Writing.{bufferVerdict}
+use Rattle.format.specs.Opening.{headerVerdict, indexVerdict, entryVerdict, entriesVerdict, oneOf, oneVerdict, tableAt, kindAt, extentVerdict, payloadVerdict, tableVerdict, openVerdict, Opened, openedAs, opened, sectorCount}
+use Rattle.format.specs.Reading.{entryNumber, unknownStatus, pointerVerdict, sectorVerdict, addressVerdict, readVerdict, locate}
+use Rattle.format.specs.Writing.{bufferVerdict, isSecond, writableVerdict}
 use Rattle.format.specs.Creating.{createVerdict, create}
-use Rattle.format.specs.Committing.{Appended, argumentsVerdict, otherThan21, sectorsVerdict, discVerdict, commitVerdict, append, commit}
+use Rattle.format.specs.Committing.{Appended, argumentsVerdict, anyOutside, otherThan21, sectorsVerdict, discVerdict, commitVerdict, append, commit}
 use Rattle.format.specs.RollingBack.{rollbackVerdict, rollback}
-use Rattle.format.specs.Demands.{FromTo, openingNumber, readingNumber, creatingNumber, committingNumber, rollingBackNumber, PlaceFor, atHeader, atIndex, atEntry, atTable, atTableEntry, atBlock, atNone, NoSector, Demand1Refusals}
+use Rattle.format.specs.Demands.{FromTo, openingNumber, readingNumber, creatingNumber, committingNumber, rollingBackNumber, PlaceFor, atHeader, atIndex, atEntry, atTable, atTableEntry, atBlock, atNone, NoSector, Demand1Refusals, OpensSecond, SecondRefused}
+use Rattle.format.specs.Facts.{Opens}
 use Rattle.format.proofs.Tests.{same-iff, choose-cases}
-use Rattle.format.proofs.Refusals.{Says, row-says, then-says, first-says, says-refused, says-also, answer-refused}
-use Rattle.format.proofs.Checks.{item-says}
-use Rattle.format.proofs.Buffers.{outcome-refused}
+use Rattle.format.proofs.Refusals.{Says, row-says, off-says, then-says, after-says, first-says, says-refused, says-also, Gives, says-not, row-gives, then-gives, gives-then, answer-refused}
+use Rattle.format.proofs.Checks.{first-second, item-says, open-ok, writable-ok, first-known}
+use Rattle.format.proofs.Buffers.{outcome-refused, outcome-refuses}
+use Rattle.format.proofs.Opens.{opens-forth, opens-back, opened-as}
 
 -- a number of these, at its place
 abbrev Listed : List ℕ → ℕ → (ℕ → Type 0) → (ℕ → Type 0) → ℕ → ℕ → Type 0
 Listed img o LookedAt N n p = N n × PlaceFor img o LookedAt n p
 
 module _ (img : List ℕ) (o : ℕ) (LookedAt : ℕ → Type 0) where
-  -- ---- opening: 1 to 14
+  -- ---- opening: 1 to 14, 70 to 72
   abbrev Low : ℕ → ℕ → Type 0
   Low = Listed img o LookedAt openingNumber
 
   -- a row of a group whose numbers have one place
   low : (least most p : ℕ) → 1 ≤ least → most ≤ 14 → ((n : ℕ) → FromTo least most n → PlaceFor img o LookedAt n p)
       → (b : Bool) (n : ℕ) → FromTo least most n → Says Low (row b (refusal n p))
-  low least most p l m at b n f = row-says Low b (refusal n p) (omega arith, at n f)
+  low least most p l m at b n f = row-says Low b (refusal n p) (inl (omega arith), at n f)
 
   header-says : Says Low (headerVerdict img)
   unfolding headerVerdict
@@ -61,47 +66,63 @@ module _ (img : List ℕ) (o : ℕ) (LookedAt : ℕ → Type 0) where
 
   one-says : (l : List ℕ) → Says Low (oneOf o l)
   unfolding oneOf Says
-  one-says [] = (omega arith, atIndex {n = 9} (inr (omega arith)))
+  one-says [] = (inl (omega arith), atIndex {n = 9} (inr (omega arith)))
   one-says (t ∷ []) = tt
-  one-says (t ∷ u ∷ l) = (omega arith, atIndex {n = 10} (inr (omega arith)))
+  one-says (t ∷ u ∷ l) = (inl (omega arith), atIndex {n = 10} (inr (omega arith)))
 
-  table-says : Says Low (tableVerdict img (tableAt img o))
-  unfolding tableVerdict
-  table-says =
+  extent-says : (k : TableKind) (t : ℕ) → Says Low (extentVerdict img k t)
+  unfolding extentVerdict Says
+  extent-says First t = tt
+  extent-says Second t = then-says Low _ _ (says _ 70 (omega arith)) (then-says Low _ _ (says _ 71 (omega arith)) (says _ 72 (omega arith)))
+    where
+      says : (b : Bool) (n : ℕ) → FromTo 70 72 n → Says Low (row b (refusal n 0))
+      says b n f = row-says Low b (refusal n 0) (inr f, atNone (inr (inr (omega arith))))
+
+  table-says : (k : TableKind) → Says Low (tableVerdict img k (tableAt img o))
+  unfolding tableVerdict payloadVerdict
+  table-says k =
       let says = low 11 14 (tableAt img o) (omega arith) (omega arith) (λ n f. atTable f) in
       then-says Low _ _ (says _ 11 (omega arith))
       (then-says Low _ _ (says _ 13 (omega arith))
-      (then-says Low _ _ (says _ 12 (omega arith)) (then-says Low _ _ (says _ 11 (omega arith)) (says _ 14 (omega arith)))))
+      (then-says Low _ _ (extent-says k (tableAt img o))
+      (then-says Low _ _ (says _ 12 (omega arith)) (then-says Low _ _ (says _ 11 (omega arith)) (says _ 14 (omega arith))))))
 
   open-says : Says Low (openVerdict img o)
   unfolding openVerdict oneVerdict
   open-says =
       then-says Low _ _ header-says
       (then-says Low _ _ index-says
-      (then-says Low _ _ (entries-say (entryCount img o) 0 (o + indexHeaderLength) (omega arith) (omega arith)) (then-says Low _ _ (one-says _) table-says)))
+      (then-says Low _ _ (entries-say (entryCount img o) 0 (o + indexHeaderLength) (omega arith) (omega arith)) (then-says Low _ _ (one-says _) (table-says _))))
 
   -- the same of a call that gives other numbers too
   open-also : (N : ℕ → Type 0) → Says (Listed img o LookedAt (λ n. openingNumber n ⊎ N n)) (openVerdict img o)
   open-also N = says-also _ (λ n p s. (inl (s .0), s .1)) open-says
 
-  -- ---- a sector: 20 to 27
-  abbrev High : ℕ → ℕ → Type 0
-  High = Listed img o LookedAt (FromTo 20 27)
-
-  sector-says : (a : ℕ) → LookedAt a → Says High (sectorVerdict img (entries img o) (opened img o) a)
+  -- ---- a table entry's sector: 21 to 27, and what the row of 73 says
+  sector-says : (N : ℕ → Type 0) → ((n : ℕ) → FromTo 21 27 n → N n) → (i : ℕ) → LookedAt i
+      → Says (Listed img o LookedAt N) (row (unknownStatus img (opened img o) i) (refusal 73 0))
+      → Says (Listed img o LookedAt N) (sectorVerdict img (entries img o) (opened img o) i)
   unfolding sectorVerdict pointerVerdict
-  sector-says a h =
-      then-says High _ _ (row-says High _ (refusal 20 0) (omega arith, atNone (inl (omega arith))))
-      (then-says High _ _ (row-says High _ (refusal 21 0) (omega arith, atNone (inl (omega arith))))
-      (then-says High _ _ (row-says High _ (refusal 22 _) (omega arith, atTableEntry a h)) (item-says High img _ (λ m l k. (omega arith, atBlock a (l, k) h)))))
+  sector-says N among i h s =
+      then-says _ _ _ (row-says _ _ (refusal 21 0) (among 21 (omega arith), atNone (inl (omega arith))))
+      (then-says _ _ _ s
+      (then-says _ _ _ (row-says _ _ (refusal 22 _) (among 22 (omega arith), atTableEntry i h)) (item-says _ img _ (λ m l k. (among m (omega arith), atBlock i (l, k) h)))))
 
   -- ---- the arguments: 30 to 35
   argument : (N : ℕ → Type 0) (b : Bool) (n : ℕ) → FromTo 30 35 n → N n → Says (Listed img o LookedAt N) (row b (refusal n 0))
-  argument N b n f h = row-says _ b (refusal n 0) (h, atNone (inr f))
+  argument N b n f h = row-says _ b (refusal n 0) (h, atNone (inr (inl f)))
 
   buffer-says : (N : ℕ → Type 0) → N 31 → N 32 → (buffer : List ℕ) (used : ℕ) → Says (Listed img o LookedAt N) (bufferVerdict buffer used)
   unfolding bufferVerdict
   buffer-says N p q buffer used = then-says _ _ _ (argument N _ 31 (omega arith) p) (argument N _ 32 (omega arith) q)
+
+  arguments-say : (N : ℕ → Type 0) → ((n : ℕ) → FromTo 30 35 n → N n) → (buffer : List ℕ) (used : ℕ) (addresses : List ℤ) (size : ℕ) (sectors : List ℕ)
+      → Says (Listed img o LookedAt N) (argumentsVerdict buffer used addresses size sectors)
+  unfolding argumentsVerdict
+  arguments-say N among buffer used addresses size sectors =
+      then-says _ _ _ (buffer-says N (among 31 (omega arith)) (among 32 (omega arith)) buffer used)
+      (then-says _ _ _ (argument N _ 30 (omega arith) (among 30 (omega arith)))
+      (then-says _ _ _ (argument N _ 33 (omega arith) (among 33 (omega arith))) (argument N _ 34 (omega arith) (among 34 (omega arith)))))
 
 -- but for 21
 other-says : (P : ℕ → ℕ → Type 0) (v : Verdict) → Says (λ n p. n ≢ 21 → P n p) v → Says P (otherThan21 v)
@@ -110,10 +131,13 @@ other-says P Passes k = tt
 other-says P (Refuses r) k = choose-cases (Says P) _ _ _ (λ e. tt) (λ e. k (same-iff .0 e))
 
 -- ---- the verdicts of the calls
-read-says : (img : List ℕ) (o a : ℕ) → Says (Listed img o (λ b. b ≡ a) readingNumber) (readVerdict img o a)
-unfolding readVerdict
+read-says : (img : List ℕ) (o : ℕ) (a : ℤ) → Says (Listed img o (λ n. n ≡ entryNumber (opened img o) a) readingNumber) (readVerdict img o a)
+unfolding readVerdict addressVerdict
 read-says img o a =
-    then-says _ _ _ (open-also img o _ _) (says-also _ (λ n p s. (inr (s .0), s .1)) (sector-says img o _ a refl))
+    then-says _ _ _ (open-also img o _ _)
+    (then-says _ _ _ (row-says _ _ (refusal 20 0) (inr (inl (omega arith)), atNone (inl (omega arith))))
+    (sector-says img o _ readingNumber (λ n f. inr (inl (omega arith))) _ refl
+    (row-says _ _ (refusal 73 0) (inr (inr refl), atNone (inr (inr (omega arith)))))))
 
 create-says : (buffer : List ℕ) (count : ℕ) (application : List ℕ) → Says (λ n p. creatingNumber n × (p ≡ 0)) (createVerdict buffer count application)
 unfolding createVerdict
@@ -122,11 +146,16 @@ create-says buffer count application =
     (then-says _ _ _ (row-says _ _ (refusal 30 0) (inl (omega arith), refl))
     (then-says _ _ _ (row-says _ _ (refusal 33 0) (inr (inl refl), refl)) (row-says _ _ (refusal 35 0) (inr (inr refl), refl))))
 
--- 20, or 22 to 27
-not-21 : (n : ℕ) → FromTo 20 27 n → n ≢ 21 → (n ≡ 20) ⊎ FromTo 22 27 n
-not-21 n f d = ⊎-map sym (λ l. (⊎-elim (λ e. absurd (d (sym e))) (λ k. k) (eq-or-lt-of-le l), f .1)) (eq-or-lt-of-le (f .0))
+-- 74, of a call that gives it
+writable-says : (img : List ℕ) (o : ℕ) (LookedAt : ℕ → Type 0) (N : ℕ → Type 0) → Says (Listed img o LookedAt (λ n. openingNumber n ⊎ ((n ≡ 74) ⊎ N n))) (writableVerdict img o)
+unfolding writableVerdict
+writable-says img o LookedAt N = then-says _ _ _ (open-also img o LookedAt _) (row-says _ _ (refusal 74 0) (inr (inl refl), atNone (inr (inr (omega arith)))))
 
--- the addresses of the disc
+-- 22 to 27
+not-21 : (n : ℕ) → FromTo 21 27 n → n ≢ 21 → FromTo 22 27 n
+not-21 n f d = (⊎-elim (λ e. absurd (d (sym e))) (λ k. k) (eq-or-lt-of-le (f .0)), f .1)
+
+-- the table entries of the disc
 module _ (img : List ℕ) (o : ℕ) where
   abbrev OnDisc : ℕ → Type 0
   OnDisc a = a < opened img o .count
@@ -134,31 +163,32 @@ module _ (img : List ℕ) (o : ℕ) where
   abbrev Committing : ℕ → ℕ → Type 0
   Committing = Listed img o OnDisc committingNumber
 
-  disc-says : (addresses : List ℕ) → Says Committing (discVerdict img o addresses)
+  disc-says : (addresses : List ℤ) → Says Committing (discVerdict img o addresses)
   unfolding discVerdict sectorsVerdict
   disc-says addresses =
-      then-says Committing _ _ (open-also img o OnDisc _)
-      (then-says Committing _ _ (row-says Committing _ (refusal 20 0) (inr (inl refl), atNone (inl (omega arith))))
-      (first-says Committing _ _ _ 0 (omega arith) (λ a h. other-says Committing _ (says-also _ (λ n p s d. (inr (⊎-map (λ e. e) inl (not-21 n (s .0) d)), s .1)) (sector-says img o OnDisc a h)))))
+      after-says Committing _ _ (writable-says img o OnDisc _)
+      (λ w.
+      then-says Committing _ _ (row-says Committing _ (refusal 20 0) (inr (inr (inl refl)), atNone (inl (omega arith))))
+      (first-says Committing _ _ _ 0 (omega arith) (λ i h.
+      other-says Committing _
+      (says-also _ (λ n p s d. (inr (inr (inr (inl (not-21 n (s .0) d)))), s .1))
+      (sector-says img o OnDisc (FromTo 21 27) (λ n f. f) i h (off-says _ _ _ (first-known img (opened img o) i (writable-ok img o .0 w .first))))))))
 
-commit-says : (buffer : List ℕ) (used : ℕ) (addresses : List ℕ) (size : ℕ) (sectors : List ℕ) (new : Appended)
+commit-says : (buffer : List ℕ) (used : ℕ) (addresses : List ℤ) (size : ℕ) (sectors : List ℕ) (new : Appended)
     → Says (Committing (take used buffer) (indexOffset (take used buffer))) (commitVerdict buffer used addresses size sectors new)
-unfolding commitVerdict argumentsVerdict
+unfolding commitVerdict
 commit-says buffer used addresses size sectors new =
-    then-says _ _ _
-    (then-says _ _ _ (buffer-says _ _ _ _ (last 31 (omega arith)) (last 32 (omega arith)) buffer used)
-    (then-says _ _ _ (argument _ _ _ _ _ 30 (omega arith) (last 30 (omega arith)))
-    (then-says _ _ _ (argument _ _ _ _ _ 33 (omega arith) (last 33 (omega arith))) (argument _ _ _ _ _ 34 (omega arith) (last 34 (omega arith))))))
+    then-says _ _ _ (arguments-say _ _ _ _ last buffer used addresses size sectors)
     (then-says _ _ _ (disc-says _ _ addresses) (argument _ _ _ _ _ 35 (omega arith) (last 35 (omega arith))))
   where
     last : (n : ℕ) → FromTo 30 35 n → committingNumber n
-    last n f = inr (inr (inr f))
+    last n f = inr (inr (inr (inr f)))
 
 rollback-says : (buffer : List ℕ) (used offset : ℕ)
     → Says (Listed (take used buffer) offset NoSector rollingBackNumber) (rollbackVerdict buffer used offset)
 unfolding rollbackVerdict
 rollback-says buffer used offset =
-    then-says _ _ _ (buffer-says _ _ _ _ (inr (omega arith)) (inr (omega arith)) buffer used) (open-also _ offset _ _)
+    then-says _ _ _ (buffer-says _ _ _ _ (inr (inr (omega arith))) (inr (inr (omega arith))) buffer used) (writable-says _ offset _ _)
 
 pub demand-1-refusals : Demand1Refusals
 unfolding sectorCount locate create commit append rollback
@@ -168,4 +198,70 @@ demand-1-refusals = record {
   creating = λ buffer count application major minor mediaType creationTime lastWrittenTime r e. says-refused _ _ r (create-says buffer count application) (outcome-refused _ _ _ _ r e .0);
   committing = λ buffer used addresses size sectors time r e. says-refused _ _ r (commit-says buffer used addresses size sectors _) (outcome-refused _ _ _ _ r e .0);
   rollingBack = λ buffer used offset time r e. says-refused _ _ r (rollback-says buffer used offset) (outcome-refused _ _ _ _ r e .0);
+}
+
+-- ---- 74: no check before it gives it, and none behind it
+abbrev Not-74 : ℕ → ℕ → Type 0
+Not-74 n p = n ≢ 74
+
+apart-from : {P : ℕ → ℕ → Type 0} (v : Verdict) (N : ℕ → Type 0) → ((n p : ℕ) → P n p → N n) → ¬ N 74 → Says P v → ¬ Gives 74 v
+apart-from v N f m s = says-not 74 v (says-also v (λ n p k e. m (subst N e (f n p k))) s)
+
+×-iff : {A B C D : Type 0} → A ↔ B → C ↔ D → (A × C) ↔ (B × D)
+×-iff f g = ((λ p. (f .0 (p .0), g .0 (p .1))), λ p. (f .1 (p .0), g .1 (p .1)))
+
+second-iff : (k : TableKind) → (isSecond k ≡ true) ↔ (k ≡ Second)
+unfolding isSecond
+second-iff First = (λ h. absurd (true≢false (sym h)), λ h. absurd (first-second h))
+second-iff Second = (λ h. refl, λ h. refl)
+
+module _ (img : List ℕ) (o : ℕ) where
+  open-not-74 : ¬ Gives 74 (openVerdict img o)
+  open-not-74 = apart-from _ openingNumber (λ n p k. k .0) (⊎-elim (λ f. omega arith) (λ f. omega arith)) (open-says img o NoSector)
+
+  second-forth : (openVerdict img o ≡ Passes) × (isSecond (opened img o .kind) ≡ true) → OpensSecond img o
+  unfolding opened openedAs
+  second-forth (h, e) =
+      record { table = tableAt img o; opens = subst (λ (k : TableKind). Opens img o k (tableAt img o)) (second-iff _ .0 e) (opens-forth img o (open-ok img o .0 h)) }
+
+  second-back : OpensSecond img o → (openVerdict img o ≡ Passes) × (isSecond (opened img o .kind) ≡ true)
+  unfolding openedAs
+  second-back s = (
+    open-ok img o .1 (opens-back img o Second (s .table) (s .opens)),
+    second-iff _ .1 (ap (λ (t : Opened). t .kind) (opened-as img o Second (s .table) (s .opens))),
+  )
+
+  writable-74 : (writableVerdict img o ≡ Refuses (refusal 74 0)) ↔ OpensSecond img o
+  unfolding writableVerdict
+  writable-74 =
+      let g = then-gives (openVerdict img o) _ (refusal 74 0) open-not-74 in
+      let w = row-gives (isSecond (opened img o .kind)) (refusal 74 0) in
+      ((λ h. let k = g .0 h in second-forth (k .0, w .0 (k .1))), λ s. let k = second-back s in g .1 (k .0, w .1 (k .1)))
+
+  -- 20, and the sectors' numbers
+  rest-not-74 : (addresses : List ℤ) → ¬ Gives 74 (row (anyOutside (opened img o) addresses) (refusal 20 0) then sectorsVerdict img (entries img o) (opened img o))
+  unfolding sectorsVerdict
+  rest-not-74 addresses =
+      says-not 74 _
+      (then-says Not-74 _ _ (row-says Not-74 _ (refusal 20 0) (λ e. omega arith))
+      (first-says Not-74 _ (opened img o .count) _ 0 (omega arith) (λ i h.
+      other-says Not-74 _
+      (says-also _ (λ n p s d. s .0)
+      (sector-says img o (λ n. Unit {0}) (λ n. n ≢ 74) (λ n f e. omega arith) i tt (row-says _ _ (refusal 73 0) ((λ e. omega arith), atNone (inr (inr (omega arith))))))))))
+
+  disc-74 : (addresses : List ℤ) → (discVerdict img o addresses ≡ Refuses (refusal 74 0)) ↔ OpensSecond img o
+  unfolding discVerdict
+  disc-74 addresses = Iff·trans (gives-then _ _ (refusal 74 0) (rest-not-74 addresses)) writable-74
+
+pub second-refused : SecondRefused
+unfolding commit append commitVerdict rollback rollbackVerdict
+second-refused = record {
+  committing = λ buffer used addresses size sectors time.
+      let u : ¬ Gives 74 (argumentsVerdict buffer used addresses size sectors) = apart-from _ (FromTo 30 35) (λ n p k. k .0) (λ f. omega arith) (arguments-say [] 0 NoSector _ (λ n f. f) buffer used addresses size sectors) in
+      Iff·trans (outcome-refuses _ _ _ _ (refusal 74 0))
+      (Iff·trans (then-gives _ _ (refusal 74 0) u)
+      (×-iff Iff·rfl (Iff·trans (gives-then _ _ (refusal 74 0) (says-not 74 _ (row-says _ _ (refusal 35 0) (λ e. omega arith)))) (disc-74 _ _ addresses))));
+  rollingBack = λ buffer used offset time.
+      let u : ¬ Gives 74 (bufferVerdict buffer used) = apart-from _ (FromTo 30 35) (λ n p k. k .0) (λ f. omega arith) (buffer-says [] 0 NoSector _ (omega arith) (omega arith) buffer used) in
+      Iff·trans (outcome-refuses _ _ _ _ (refusal 74 0)) (Iff·trans (then-gives _ _ (refusal 74 0) u) (×-iff Iff·rfl (writable-74 _ offset)));
 }

@@ -91,6 +91,11 @@ pub or-rest : {a : Bool} (b : Bool) → a ≡ false → (a or b) ≡ b
 unfolding _or_
 or-rest b p = rw p
 
+pub or-left : {b : Bool} (a : Bool) → b ≡ false → (a or b) ≡ a
+unfolding _or_
+or-left true p = refl
+or-left false p = p
+
 pub and-on : (a b : Bool) → (a and b) ≡ true → (a ≡ true) × (b ≡ true)
 unfolding _and_
 and-on true b h = (refl, h)

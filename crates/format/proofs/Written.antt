@@ -1,25 +1,34 @@
 -- A written block, table and index, read back: the facts of their checks hold, and an image that holds a table and an index opens.
+use Prim.{tt}
+use mathlib.Core.Bool.{false}
 use mathlib.Core.List.{List, [], _∷_, _++_, map, append-nil, flatten}
 use mathlib.Core.Logic.{_≢_}
 use mathlib.Core.Path.{_≡_, refl, sym, ap, _∙_}
-use Prim.Native.Nat.{ℕ, zero, suc, _+_, _*_, _^_, _≤_, _<_}
+use Prim.Native.Nat.{ℕ, zero, suc, _+_, _*_, _^_, _≤_, _<_, zero-le}
 use native.Mathlib.Nat.{add-zero, mul-div-cancel, mul-mod-left, not-suc-le-zero, le-of-suc-le-suc}
 use native.Mathlib.Omega.{arith}
 use lib.Dec.{lit<}
 use lib.ListN.{length, getD, length-append, length-map}
 use Rattle.crc64.specs.Crc.{crcOf}
 use Rattle.crc64.proofs.Bound.{crcOf-lt}
-use Rattle.fields.specs.Bytes.{part, field}
+use Rattle.fields.specs.Bytes.{part, field, equal}
 use Rattle.fields.proofs.Holds.{Holds, holds-all, holds-left, holds-right}
 use Rattle.fields.proofs.Records.{length-layout, holds-num, holds-raw}
 use Rattle.format.specs.declared.Entry.{Entry}
+use Rattle.format.specs.declared.TableKind.{TableKind}
+use Rattle.format.specs.declared.TableKind.the-variants.{First, Second}
 use Rattle.format.specs.Lists.{All, done, more}
-use Rattle.format.specs.Layouts.{IDX2, DBLK, DDT*, headerLength, applicationLength, headerBytes, entryCount, entryAt, entriesFrom, entries, entryBytes, indexHeader, indexBytes, sectorSize, blockLength, blockPayload, blockHeader, blockBytes, tableShift, tableCount, tableLength, tablePayload, tableHeader, tableBytes, tableHeaderLength, blockHeaderLength, indexHeaderLength, entryLength, tableEntryLength}
-use Rattle.format.specs.Opening.{offsetsOf, tableAt, Opened, openedAt, opened}
+use Rattle.format.specs.Layouts.{IDX2, DBLK, DDT*, DDT2, headerLength, applicationLength, headerBytes, entryCount, entryAt, entriesFrom, entries, entryBytes, indexHeader, indexBytes, sectorSize, blockLength, blockPayload, blockHeader, blockBytes, tableShift, tableCount, tableLength, tablePayload, tableHeader, tableBytes, tableAlignment, tableNegative, tableHeaderLength, blockHeaderLength, indexHeaderLength, entryLength, tableEntryLength}
+use Rattle.format.specs.Opening.{offsetsWith, isTable, tableAt, kindAt, Opened, openedAs, openedAt, opened}
 use Rattle.format.specs.Writing.{largestSize}
-use Rattle.format.specs.Facts.{Identified, HeaderOk, IndexOk, EntryOk, TableOk, ItemOk}
+use Rattle.format.specs.Facts.{Identified, HeaderOk, IndexOk, EntryOk, OfKind, ExtentOk, TableOk, ItemOk}
 use Rattle.format.proofs.Lists.{Sized, all-image, length-flatten}
-use Rattle.format.proofs.Checks.{tableAt-only, OpenOk}
+use Rattle.format.proofs.Named.{apart}
+use Rattle.format.proofs.Checks.{kind-iff, tableAt-only, OpenOk}
+
+pub ddt-ddt2 : DDT* ≢ DDT2
+unfolding equal
+ddt-ddt2 = apart refl
 
 -- ---- the image header
 pub length-headerBytes : (application : List ℕ) (major minor mediaType index created written : ℕ) → length application ≡ applicationLength
@@ -57,30 +66,36 @@ module _ (y : List ℕ) (t s c : ℕ) (payload : List ℕ) (h : Holds y t (table
   unfolding tableBytes
   table-entries = holds-right y t (tableHeader s c payload) payload h (ap (λ n. t + n) (length-tableHeader s c payload))
 
-  table-shift : s ≤ 32 → tableShift y t ≡ s
+  table-shift : s ≤ 32 → tableShift y First t ≡ s
   unfolding tableBytes tableHeader
   table-shift small = holds-num y t _ _ h 3 1 s (lit< tt) refl (omega arith)
 
-  table-count : c < 256 ^ 8 → tableCount y t ≡ c
+  table-count : c < 256 ^ 8 → tableCount y First t ≡ c
   unfolding tableBytes tableHeader
   table-count few = holds-num y t _ _ h 4 8 c (lit< tt) refl few
 
-  table-length : length payload < 256 ^ 8 → tableLength y t ≡ length payload
+  table-length : length payload < 256 ^ 8 → tableLength y First t ≡ length payload
   unfolding tableBytes tableHeader
   table-length long = holds-num y t _ _ h 6 8 (length payload) (lit< tt) refl long
 
-  table-written : s ≤ 32 → length payload ≡ tableEntryLength * c → length payload < 256 ^ 8 → TableOk y t
-  unfolding tableBytes tableHeader
+  table-first : kindAt y t ≡ First
+  unfolding OfKind Identified
+  table-first = kind-iff y t First .1 (λ i. ddt-ddt2 (sym table-identified ∙ i))
+
+  table-written : s ≤ 32 → length payload ≡ tableEntryLength * c → length payload < 256 ^ 8 → TableOk y First t
+  unfolding tableBytes tableHeader ExtentOk tableAlignment
   table-written small whole long =
       let f : t + length (tableBytes s c payload) ≤ length y = h .fits in
       let l : length (tableBytes s c payload) ≡ tableHeaderLength + length payload = length-tableBytes s c payload in
-      let en : tableLength y t ≡ length payload = table-length long in
-      let ep : crcOf (tablePayload y t) ≡ crcOf payload = ap crcOf (ap (part y (t + tableHeaderLength)) en ∙ holds-all y (t + tableHeaderLength) payload table-entries) in
+      let en : tableLength y First t ≡ length payload = table-length long in
+      let ep : crcOf (tablePayload y First t) ≡ crcOf payload = ap crcOf (ap (part y (t + tableHeaderLength)) en ∙ holds-all y (t + tableHeaderLength) payload table-entries) in
       record {
         head = omega arith;
         compression = holds-num y t _ _ h 2 2 0 (lit< tt) refl (lit< tt);
         type = holds-num y t _ _ h 1 2 1 (lit< tt) refl (lit< tt);
+        extent = tt;
         shift = rw (table-shift small) small;
+        alignment = zero-le;
         whole = en ∙ whole ∙ ap (λ n. tableEntryLength * n) (sym (table-count (omega arith)));
         unpacked = holds-num y t _ _ h 5 8 (length payload) (lit< tt) refl long ∙ sym en;
         fits = rw en (omega arith);
@@ -210,6 +225,10 @@ module _ (y : List ℕ) (o : ℕ) (es : List Entry) (h : Holds y o (indexBytes e
             ∙ sym (holds-num y o _ _ h 2 8 (crcOf indexPayload) (lit< tt) refl (crcOf-lt indexPayload));
       }
 
+-- a table of the first kind, opened
+abbrev pub openedFirst : ℕ → ℕ → ℕ → Opened
+openedFirst table count shift = record { kind = First; table = table; count = count; shift = shift; alignment = 0; negative = 0 }
+
 -- ---- an image that holds both opens: its index at o has the entries es, of which one names the table at t
 pub record Opens (y : List ℕ) (o : ℕ) (es : List Entry) (t : Opened) : Type 0 where
   pub ok : OpenOk y o
@@ -218,25 +237,27 @@ pub record Opens (y : List ℕ) (o : ℕ) (es : List Entry) (t : Opened) : Type 
 
 module _ (y : List ℕ) (o : ℕ) (es : List Entry) (hi : Holds y o (indexBytes es)) (few : length es < 256 ^ 8) (fit : All EntryFits es)
     (t s c : ℕ) (payload : List ℕ) (ht : Holds y t (tableBytes s c payload)) (small : s ≤ 32) (whole : length payload ≡ tableEntryLength * c)
-    (long : length payload < 256 ^ 8) (only : offsetsOf DDT* es ≡ t ∷ []) where
+    (long : length payload < 256 ^ 8) (only : offsetsWith isTable es ≡ t ∷ []) where
   entries-are : entries y o ≡ es
   entries-are = index-entries y o es hi few fit
 
   table-at : tableAt y o ≡ t
-  table-at = tableAt-only y o t (ap (offsetsOf DDT*) entries-are ∙ only)
+  table-at = tableAt-only y o t (ap (offsetsWith isTable) entries-are ∙ only)
 
-  pub opens-written : HeaderOk y → headerLength ≤ o → All (EntryOk y) es → Opens y o es (record { table = t; count = c; shift = s })
-  unfolding opened openedAt
+  -- what is found: a table of the first kind
+  pub opens-written : HeaderOk y → headerLength ≤ o → All (EntryOk y) es → Opens y o es (openedFirst t c s)
+  unfolding opened openedAs tableAlignment tableNegative
   opens-written header low entriesOk =
+      let kind : kindAt y t ≡ First = table-first y t s c payload ht in
       record {
         ok = record {
           header = header;
           index = index-written y o es hi few low;
           entriesOk = rw entries-are entriesOk;
           only = rw (entries-are, table-at) only;
-          table = rw table-at (table-written y t s c payload ht small whole long);
+          table = rw (table-at, kind) (table-written y t s c payload ht small whole long);
         };
         named = entries-are;
-        found = ap (openedAt y) table-at
-            ∙ (λ i. record { table = t; count = table-count y t s c payload ht (omega arith) i; shift = table-shift y t s c payload ht small i });
+        found = ap (openedAt y) table-at ∙ ap (λ k. openedAs y k t) kind
+            ∙ (λ i. openedFirst t (table-count y t s c payload ht (omega arith) i) (table-shift y t s c payload ht small i));
       }

@@ -2,6 +2,7 @@
 -- each of its cases. The promises use that definition."
 use mathlib.Core.List.{List, []}
 use Prim.Native.Nat.{ℕ}
+use Rattle.format.specs.declared.AddressRange.{AddressRange}
 use Rattle.format.specs.declared.Counted.{Counted}
 use Rattle.format.specs.declared.Counted.the-variants as count
 use Rattle.format.specs.declared.Located.{Located}
@@ -13,8 +14,8 @@ use Rattle.format.specs.declared.Updated.the-variants as update
 use Rattle.format.specs.Refusals.{Answer, refused, accepted}
 use Rattle.format.specs.Writing.{Outcome}
 
-unfoldable pub counted : Counted → Answer ℕ
-counted (count.Sectors n) = accepted n
+unfoldable pub counted : Counted → Answer AddressRange
+counted (count.Sectors s) = accepted s
 counted (count.Refused r) = refused r
 
 unfoldable pub located : Located → Answer Place

@@ -5,36 +5,41 @@ use mathlib.Core.List.{List, [], _∷_, _++_, map, flatten}
 use mathlib.Core.Option.{Option, none, some, orElse}
 use Prim.Native.Nat.{ℕ, zero, suc, _+_, _*_, _^_, max}
 use lib.ListN.{length, take, drop, getD}
+use lib.IntN.{ℤ}
 use Rattle.fields.specs.Bytes.{overwrite, toLe, equal}
 use Rattle.format.specs.declared.Entry.{Entry}
 use Rattle.format.specs.declared.Pointer.{Pointer}
 use Rattle.format.specs.declared.Verdict.{Verdict}
 use Rattle.format.specs.declared.Verdict.the-variants.{Passes, Refuses}
-use Rattle.format.specs.Tests.{same, differs, below, atLeast, _or_, _and_, choose}
+use Rattle.format.specs.Tests.{same, differs, below, lessThan, _or_, _and_, choose}
 use Rattle.format.specs.Refusals.{refusal, row, _then_, firstRefusal}
 use Rattle.format.specs.Layouts.{DBLK, DDT*, CKSM, indexOffset, entries, userDataEntry, indexBytes, blockBytes, tableBytes, tableEntryLength, encode}
-use Rattle.format.specs.Opening.{isType, isUserData, Opened, opened, openVerdict}
-use Rattle.format.specs.Reading.{notWritten, pointerAt, itemBytes, sectorVerdict}
-use Rattle.format.specs.Writing.{largestSize, mostAddresses, bufferVerdict, Outcome, outcome, placed, setHeader}
+use Rattle.format.specs.Opening.{isType, isUserData, Opened, opened}
+use Rattle.format.specs.Reading.{outside, entryNumber, notWritten, pointerAt, itemBytes, sectorVerdict}
+use Rattle.format.specs.Writing.{largestSize, mostAddresses, bufferVerdict, writableVerdict, Outcome, outcome, placed, setHeader}
 
 -- ---- "Order: 31, 32, 30, 33, 34, opening's numbers, 20, then sectors by rising address: the first that reads as a refusal other
--- than 21 gives that number; last 35."
-unfoldable pub rising : List ℕ → Bool
-rising [] = true
-rising (a ∷ []) = true
-rising (a ∷ b ∷ addresses) = below a b and rising (b ∷ addresses)
+-- than 21 gives that number; last 35." 11/13: 74 "after opening's".
+-- each is less than the next
+unfoldable pub risingBy : {A : Type 0} → (A → A → Bool) → List A → Bool
+risingBy less [] = true
+risingBy less (a ∷ []) = true
+risingBy less (a ∷ b ∷ l) = less a b and risingBy less (b ∷ l)
 
-unfoldable pub argumentsVerdict : List ℕ → ℕ → List ℕ → ℕ → List ℕ → Verdict
+abbrev pub rising : List ℤ → Bool
+rising addresses = risingBy lessThan addresses
+
+unfoldable pub argumentsVerdict : List ℕ → ℕ → List ℤ → ℕ → List ℕ → Verdict
 argumentsVerdict buffer used addresses size sectors =
     bufferVerdict buffer used
     then row (same size 0 or below largestSize size or below mostAddresses (length addresses)) (refusal 30 0)
     then row (differs (length sectors) (length addresses * size)) (refusal 33 0)
     then row (not (rising addresses)) (refusal 34 0)
 
--- an address of the list is not below the count
-unfoldable pub anyOutside : ℕ → List ℕ → Bool
-anyOutside count [] = false
-anyOutside count (a ∷ addresses) = atLeast a count or anyOutside count addresses
+-- an address of the list has no table entry
+unfoldable pub anyOutside : Opened → List ℤ → Bool
+anyOutside t [] = false
+anyOutside t (a ∷ addresses) = outside t a or anyOutside t addresses
 
 -- a verdict, but for the number 21
 unfoldable pub otherThan21 : Verdict → Verdict
@@ -43,13 +48,17 @@ otherThan21 (Refuses r) = choose (same (r .number) 21) Passes (Refuses r)
 
 -- the sectors of the whole disc, also those that the commit replaces
 unfoldable pub sectorsVerdict : List ℕ → List Entry → Opened → Verdict
-sectorsVerdict img es t = firstRefusal (λ a. otherThan21 (sectorVerdict img es t a)) (t .count) 0
+sectorsVerdict img es t = firstRefusal (λ n. otherThan21 (sectorVerdict img es t n)) (t .count) 0
 
-unfoldable pub discVerdict : List ℕ → ℕ → List ℕ → Verdict
+unfoldable pub discVerdict : List ℕ → ℕ → List ℤ → Verdict
 discVerdict img o addresses =
-    openVerdict img o
-    then row (anyOutside (opened img o .count) addresses) (refusal 20 0)
+    writableVerdict img o
+    then row (anyOutside (opened img o) addresses) (refusal 20 0)
     then sectorsVerdict img (entries img o) (opened img o)
+
+-- From here on an address stands for its table entry, by its number.
+unfoldable pub entryNumbers : Opened → List ℤ → List ℕ
+entryNumbers t addresses = map (entryNumber t) addresses
 
 -- ---- "Equal sectors are stored once: for each handed-in sector, the old disc is searched by rising address, then the stored sectors of
 -- this commit in order; the search stops at the first sector that holds the same bytes, length included, and its pointer is used.
@@ -221,14 +230,15 @@ append buffer used verdict new time =
     (setHeader (overwrite buffer used (appendedBytes new)) (indexStart used new) time)
 
 -- the whole order of checks
-unfoldable pub commitVerdict : List ℕ → ℕ → List ℕ → ℕ → List ℕ → Appended → Verdict
+unfoldable pub commitVerdict : List ℕ → ℕ → List ℤ → ℕ → List ℕ → Appended → Verdict
 commitVerdict buffer used addresses size sectors new =
     argumentsVerdict buffer used addresses size sectors
     then discVerdict (take used buffer) (indexOffset (take used buffer)) addresses
     then row (below (length buffer) (usedAfter used new)) (refusal 35 0)
 
-unfoldable pub commit : List ℕ → ℕ → List ℕ → ℕ → List ℕ → ℕ → Outcome
+unfoldable pub commit : List ℕ → ℕ → List ℤ → ℕ → List ℕ → ℕ → Outcome
 commit buffer used addresses size sectors time =
     let img = take used buffer in
-    let new = appended img (indexOffset img) addresses size sectors in
+    let o = indexOffset img in
+    let new = appended img o (entryNumbers (opened img o) addresses) size sectors in
     append buffer used (commitVerdict buffer used addresses size sectors new) new time

@@ -5,23 +5,27 @@ use mathlib.Core.Logic.{_≢_, _⊎_, _↔_}
 use mathlib.Core.Path.{_≡_}
 use Prim.Native.Nat.{ℕ, _+_, _*_, _/_, _%_, _^_, _≤_, _<_}
 use lib.ListN.{length, take, getD}
+use lib.IntN.{ℤ, pos, _+ℤ_}
 use Rattle.fields.specs.Bytes.{part, field}
 use Rattle.format.specs.declared.Entry.{Entry}
 use Rattle.format.specs.declared.Place.{Place}
 use Rattle.format.specs.declared.Placed.{Placed}
 use Rattle.format.specs.declared.Refusal.{Refusal}
-use Rattle.format.specs.Lists.{All, Any, Only, IsBytes}
-use Rattle.format.specs.Refusals.{Answer, refused, accepted}
-use Rattle.format.specs.Layouts.{DBLK, DDT*, CKSM, tag, indexOffset, indexHeaderLength, entryCount, entryLength, entryAt, entries, blockHeaderLength, sectorSize, tableHeaderLength, tableShift, tableCount, tableEntryLength}
+use Rattle.format.specs.declared.TableKind.{TableKind}
+use Rattle.format.specs.declared.TableKind.the-variants.{Second}
+use Rattle.format.specs.declared.Verdict.the-variants.{Passes}
+use Rattle.format.specs.Lists.{All, Any, IsBytes}
+use Rattle.format.specs.Refusals.{refusal, Answer, refused, accepted}
+use Rattle.format.specs.Layouts.{DBLK, CKSM, tag, indexOffset, indexHeaderLength, entryCount, entryLength, entryAt, entries, blockHeaderLength, sectorSize, tableHeaderLengthOf, tableShift, tableCount, entryWidth, tableAlignment, tableNegative}
 use Rattle.format.specs.Opening.{lacks, isType, tableAt, opened, sectorCount}
-use Rattle.format.specs.Reading.{tableEntryAt, pointerAt, read, locate}
+use Rattle.format.specs.Reading.{entryNumber, tableEntryAt, pointerAt, read, locate}
 use Rattle.format.specs.Answers.{bytesRead}
-use Rattle.format.specs.Writing.{placed}
+use Rattle.format.specs.Writing.{bufferVerdict, placed}
 use Rattle.format.specs.Creating.{create}
-use Rattle.format.specs.Committing.{commit}
+use Rattle.format.specs.Committing.{argumentsVerdict, commit}
 use Rattle.format.specs.RollingBack.{rollback}
 use Rattle.format.specs.Histories.{Call, commits, rollsBack, Point, Moment, reads, ReadTheSame, started, outcomeOf, after, atEnd, Throughout, Permitted}
-use Rattle.format.specs.Facts.{HeaderOk, IndexOk, EntryOk, UserData, TableOk, ItemOk}
+use Rattle.format.specs.Facts.{UserData, Opens, PointsWith, ItemOk}
 
 -- ---- Demand 1: every call refuses by 01's numbers, and says where: "number and place". (That they are given in 01's order, and exactly when their
 -- check applies, is how the calls are defined.) These are the numbers that each call gives; none is 0, so that an interface can answer 0 for "accepted".
@@ -29,21 +33,21 @@ abbrev pub FromTo : ℕ → ℕ → ℕ → Type 0
 FromTo least most n = (least ≤ n) × (n ≤ most)
 
 abbrev pub openingNumber : ℕ → Type 0
-openingNumber n = FromTo 1 14 n
+openingNumber n = FromTo 1 14 n ⊎ FromTo 70 72 n
 
 abbrev pub readingNumber : ℕ → Type 0
-readingNumber n = FromTo 1 14 n ⊎ FromTo 20 27 n
+readingNumber n = openingNumber n ⊎ FromTo 20 27 n ⊎ (n ≡ 73)
 
 abbrev pub creatingNumber : ℕ → Type 0
 creatingNumber n = FromTo 30 31 n ⊎ (n ≡ 33) ⊎ (n ≡ 35)
 
 abbrev pub committingNumber : ℕ → Type 0
-committingNumber n = FromTo 1 14 n ⊎ (n ≡ 20) ⊎ FromTo 22 27 n ⊎ FromTo 30 35 n
+committingNumber n = openingNumber n ⊎ (n ≡ 74) ⊎ (n ≡ 20) ⊎ FromTo 22 27 n ⊎ FromTo 30 35 n
 
 abbrev pub rollingBackNumber : ℕ → Type 0
-rollingBackNumber n = FromTo 1 14 n ⊎ FromTo 31 32 n
+rollingBackNumber n = openingNumber n ⊎ (n ≡ 74) ⊎ FromTo 31 32 n
 
--- 1/13's list: the place of each number, of a call that opens the image at o and looks at the sectors at such addresses
+-- 1/13's list: the place of each number, of a call that opens the image at o and looks at such table entries
 pub data PlaceFor (img : List ℕ) (o : ℕ) (LookedAt : ℕ → Type 0) : ℕ → ℕ → Type 0 where
   -- "0 for 1, 2 and 3"
   atHeader : {n : ℕ} → FromTo 1 3 n → PlaceFor img o LookedAt n 0
@@ -54,11 +58,11 @@ pub data PlaceFor (img : List ℕ) (o : ℕ) (LookedAt : ℕ → Type 0) : ℕ �
   -- "the table's offset for 11 to 14"
   atTable : {n : ℕ} → FromTo 11 14 n → PlaceFor img o LookedAt n (tableAt img o)
   -- "the place of the table entry for 22"
-  atTableEntry : (a : ℕ) → LookedAt a → PlaceFor img o LookedAt 22 (tableEntryAt (opened img o) a)
+  atTableEntry : (n : ℕ) → LookedAt n → PlaceFor img o LookedAt 22 (tableEntryAt (opened img o) n)
   -- "the block's offset for 23 to 27"
-  atBlock : {n : ℕ} (a : ℕ) → FromTo 23 27 n → LookedAt a → PlaceFor img o LookedAt n (pointerAt img (opened img o) a .block .0)
+  atBlock : {n : ℕ} (i : ℕ) → FromTo 23 27 n → LookedAt i → PlaceFor img o LookedAt n (pointerAt img (opened img o) i .block .0)
   -- "0 for all others"
-  atNone : {n : ℕ} → FromTo 20 21 n ⊎ FromTo 30 35 n → PlaceFor img o LookedAt n 0
+  atNone : {n : ℕ} → FromTo 20 21 n ⊎ FromTo 30 35 n ⊎ FromTo 70 74 n → PlaceFor img o LookedAt n 0
 
 -- where the answer is a refusal, its number and its place are such
 abbrev pub RefusesBy : {A : Type 0} → (ℕ → Type 0) → (ℕ → ℕ → Type 0) → Answer A → Type 0
@@ -70,14 +74,28 @@ NoSector a = ⊥
 
 pub record Demand1Refusals : Type 0 where
   pub counting : (img : List ℕ) → RefusesBy openingNumber (PlaceFor img (indexOffset img) NoSector) (sectorCount img)
-  pub locating : (img : List ℕ) (a : ℕ) → RefusesBy readingNumber (PlaceFor img (indexOffset img) (λ b. b ≡ a)) (locate img a)
+  pub locating : (img : List ℕ) (a : ℤ)
+      → RefusesBy readingNumber (PlaceFor img (indexOffset img) (λ n. n ≡ entryNumber (opened img (indexOffset img)) a)) (locate img a)
   pub creating : (buffer : List ℕ) (count : ℕ) (application : List ℕ) (major minor mediaType creationTime lastWrittenTime : ℕ)
       → RefusesBy creatingNumber (λ n p. p ≡ 0) (create buffer count application major minor mediaType creationTime lastWrittenTime .result)
-  pub committing : (buffer : List ℕ) (used : ℕ) (addresses : List ℕ) (size : ℕ) (sectors : List ℕ) (time : ℕ)
+  pub committing : (buffer : List ℕ) (used : ℕ) (addresses : List ℤ) (size : ℕ) (sectors : List ℕ) (time : ℕ)
       → let img = take used buffer in
       RefusesBy committingNumber (PlaceFor img (indexOffset img) (λ a. a < opened img (indexOffset img) .count)) (commit buffer used addresses size sectors time .result)
   pub rollingBack : (buffer : List ℕ) (used offset time : ℕ)
       → RefusesBy rollingBackNumber (PlaceFor (take used buffer) offset NoSector) (rollback buffer used offset time .result)
+
+-- ---- 11/13: "Commit, rollback, .. are refused" on a table of the second kind, with 74, "(rollback: at its offset), after opening's": exactly if the image
+-- opens with such a table and no check before it applies
+pub record OpensSecond (img : List ℕ) (o : ℕ) : Type 0 where
+  pub table : ℕ
+  pub opens : Opens img o Second table
+
+pub record SecondRefused : Type 0 where
+  pub committing : (buffer : List ℕ) (used : ℕ) (addresses : List ℤ) (size : ℕ) (sectors : List ℕ) (time : ℕ)
+      → (commit buffer used addresses size sectors time .result ≡ refused (refusal 74 0))
+      ↔ ((argumentsVerdict buffer used addresses size sectors ≡ Passes) × OpensSecond (take used buffer) (indexOffset (take used buffer)))
+  pub rollingBack : (buffer : List ℕ) (used offset time : ℕ)
+      → (rollback buffer used offset time .result ≡ refused (refusal 74 0)) ↔ ((bufferVerdict buffer used ≡ Passes) × OpensSecond (take used buffer) offset)
 
 -- ---- 6/13: the test of an identifier "says yes exactly if the bytes are those letters in that order", at a place and in an index entry
 pub record TestsLetters (img : List ℕ) (letters : List ℕ) : Type 0 where
@@ -91,37 +109,35 @@ LettersTested = (img : List ℕ) → IsBytes img → (letters : List ℕ) → Te
 -- unpacked data block, and then it is that item's bytes.
 -- Address a of the image names an item, whose bytes are the sector's. No check is mentioned here: only places, fields, checksums and
 -- index entries.
-pub record NamesItem (img : List ℕ) (a : ℕ) (sector : List ℕ) : Type 0 where
-  -- the image opens, at its header's index offset, with the one table that its index names
-  pub header : HeaderOk img
-  pub index : IndexOk img (indexOffset img)
-  pub entriesOk : All (EntryOk img) (entries img (indexOffset img))
-  pub tableNamedBy : Entry
-  pub only : Only (UserData DDT*) tableNamedBy (entries img (indexOffset img))
+pub record NamesItem (img : List ℕ) (a : ℤ) (sector : List ℕ) : Type 0 where
+  -- the image opens, at its header's index offset
+  pub kind : TableKind
   pub table : ℕ
-  pub tablePlace : tableNamedBy .offset .0 ≡ table
-  pub tableOk : TableOk img table
-  -- the address has a table entry, which is not 0
-  pub inside : a < tableCount img table
+  pub opens : Opens img (indexOffset img) kind table
+  -- the address has a table entry, by its number, which points with a number
+  pub number : ℕ
+  pub numbered : a +ℤ pos (tableNegative img kind table) ≡ pos number
+  pub inside : number < tableCount img kind table
   pub entry : ℕ
-  pub entryThere : field img (table + tableHeaderLength + tableEntryLength * a) tableEntryLength ≡ entry
-  pub written : entry ≢ 0
+  pub entryThere : field img (table + tableHeaderLengthOf kind + entryWidth kind * number) (entryWidth kind) ≡ entry
+  pub pointer : ℕ
+  pub written : PointsWith kind entry pointer
   -- it names an item of an indexed, intact, unpacked data block
   pub block : ℕ
-  pub blockPlace : entry / 2 ^ tableShift img table ≡ block
+  pub blockPlace : pointer / 2 ^ tableShift img kind table * 2 ^ tableAlignment img kind table ≡ block
   pub item : ℕ
-  pub itemNumber : entry % 2 ^ tableShift img table ≡ item
+  pub itemNumber : pointer % 2 ^ tableShift img kind table ≡ item
   pub indexed : Any (λ (e : Entry). UserData DBLK e × (e .offset .0 ≡ block)) (entries img (indexOffset img))
   pub itemOk : ItemOk img block item
   -- the sector is that item's bytes
   pub bytes : part img (block + blockHeaderLength + item * sectorSize img block) (sectorSize img block) ≡ sector
 
 abbrev pub Demand2Reading : Type 0
-Demand2Reading = (img : List ℕ) (a : ℕ) (sector : List ℕ) → (read img a ≡ accepted sector) ↔ NamesItem img a sector
+Demand2Reading = (img : List ℕ) (a : ℤ) (sector : List ℕ) → (read img a ≡ accepted sector) ↔ NamesItem img a sector
 
 -- the same of what the call hands out: some bytes exactly if the address names an item, and then that item's; else none
 abbrev pub Demand2Returned : Type 0
-Demand2Returned = (img : List ℕ) (a : ℕ) (sector : List ℕ) → ((bytesRead (read img a) ≡ sector) × (sector ≢ [])) ↔ NamesItem img a sector
+Demand2Returned = (img : List ℕ) (a : ℤ) (sector : List ℕ) → ((bytesRead (read img a) ≡ sector) × (sector ≢ [])) ↔ NamesItem img a sector
 
 -- and it is the part that `locate` names, none exactly where `locate` refuses
 unfoldable pub partAt : List ℕ → Answer Place → List ℕ
@@ -130,32 +146,32 @@ partAt img (refused r) = []
 
 abbrev pub ReadIsLocated : Type 0
 ReadIsLocated =
-    (img : List ℕ) (a : ℕ) → (bytesRead (read img a) ≡ partAt img (locate img a)) × ((p : Place) → locate img a ≡ accepted p → bytesRead (read img a) ≢ [])
+    (img : List ℕ) (a : ℤ) → (bytesRead (read img a) ≡ partAt img (locate img a)) × ((p : Place) → locate img a ≡ accepted p → bytesRead (read img a) ≢ [])
 
 -- which lies in the image: whoever is told the place may follow it
 abbrev pub LocatedInside : Type 0
-LocatedInside = (img : List ℕ) (a : ℕ) (p : Place) → locate img a ≡ accepted p → p .start .0 + p .size ≤ length img
+LocatedInside = (img : List ℕ) (a : ℤ) (p : Place) → locate img a ≡ accepted p → p .start .0 + p .size ≤ length img
 
 -- ---- Demand 2, committing: an accepted commit makes the named sectors read as handed in and every other sector read as before: the same bytes, or the
 -- same refusal, number and place.
 -- A disc that read as `before`, after such a commit reads as `later`
-pub record ReadsCommitted (before later : ℕ → Answer (List ℕ)) (addresses : List ℕ) (size : ℕ) (sectors : List ℕ) : Type 0 where
-  pub named : (i : ℕ) → i < length addresses → later (getD addresses i 0) ≡ accepted (part sectors (i * size) size)
-  pub others : (a : ℕ) → All (λ (b : ℕ). b ≢ a) addresses → later a ≡ before a
+pub record ReadsCommitted (before later : ℤ → Answer (List ℕ)) (addresses : List ℤ) (size : ℕ) (sectors : List ℕ) : Type 0 where
+  pub named : (i : ℕ) → i < length addresses → later (getD addresses i (pos 0)) ≡ accepted (part sectors (i * size) size)
+  pub others : (a : ℤ) → All (λ (b : ℤ). b ≢ a) addresses → later a ≡ before a
 
 -- and its index names no 'CKSM' block (01: "004 calls it stale")
 abbrev pub NoStaleChecksum : List ℕ → ℕ → Type 0
 NoStaleChecksum img o = All (λ (e : Entry). e .blockType ≢ tag CKSM) (entries img o)
 
 -- what demand 2 asks of an accepted commit that answered p and left `after`
-pub record CommitKept (buffer : List ℕ) (used : ℕ) (addresses : List ℕ) (size : ℕ) (sectors : List ℕ) (p : Placed) (after : List ℕ) : Type 0 where
+pub record CommitKept (buffer : List ℕ) (used : ℕ) (addresses : List ℤ) (size : ℕ) (sectors : List ℕ) (p : Placed) (after : List ℕ) : Type 0 where
   pub disc : ReadsCommitted (read (take used buffer)) (read (take (p .used) after)) addresses size sectors
   pub index : NoStaleChecksum (take (p .used) after) (p .index .0)
 
 -- the buffer is one of bytes, as every lent buffer is
 abbrev pub Demand2Committing : Type 0
 Demand2Committing =
-    (buffer : List ℕ) → IsBytes buffer → (used : ℕ) (addresses : List ℕ) (size : ℕ) (sectors : List ℕ) (time : ℕ) (p : Placed)
+    (buffer : List ℕ) → IsBytes buffer → (used : ℕ) (addresses : List ℤ) (size : ℕ) (sectors : List ℕ) (time : ℕ) (p : Placed)
     → commit buffer used addresses size sectors time .result ≡ accepted p
     → CommitKept buffer used addresses size sectors p (commit buffer used addresses size sectors time .buffer)
 

@@ -1,13 +1,15 @@
--- A header as bytes, the identifiers as bytes and what the tests of them say, worked out by hand, as a table of tests.
+-- A header as bytes, the identifiers as bytes and what the tests of them say, what a table entry means, worked out by hand, as a table of tests.
 -- proofs/Examples proves that all hold.
 use mathlib.Core.Bool.{Bool, not}
 use mathlib.Core.List.{List, [], _∷_, _++_}
 use Prim.Native.Nat.{ℕ}
 use lib.ListN.{length, replicate}
 use Rattle.fields.specs.Bytes.{field, equal}
+use Rattle.format.specs.declared.TableKind.the-variants.{First, Second}
 use Rattle.format.specs.Tests.{same}
-use Rattle.format.specs.Layouts.{ascii, AARUFRMT, DICMFRMT, IDX2, DBLK, DDT*, CKSM, headerLength, imageMajorAt, indexOffsetAt, lastWrittenAt, headerBytes, entryBytes, userDataEntry}
-use Rattle.format.specs.Opening.{lacks, isType}
+use Rattle.format.specs.Layouts.{ascii, AARUFRMT, DICMFRMT, IDX2, DBLK, DDT*, DDT2, CKSM, headerLength, imageMajorAt, indexOffsetAt, lastWrittenAt, headerBytes, entryBytes, userDataEntry, entryPointer, decode}
+use Rattle.format.specs.Opening.{lacks, isType, isTable}
+use Rattle.format.specs.Reading.{unwritten, unknown}
 
 -- P1's: a name of 64 bytes, versions 2.0 and 1.2, mediaType 3, indexOffset 177, times 4 and 5
 abbrev pub p1Header : List ℕ
@@ -24,11 +26,21 @@ examples =
     -- the letters' codes
     ∷ equal AARUFRMT (65 ∷ 65 ∷ 82 ∷ 85 ∷ 70 ∷ 82 ∷ 77 ∷ 84 ∷ []) ∷ equal DICMFRMT (68 ∷ 73 ∷ 67 ∷ 77 ∷ 70 ∷ 82 ∷ 77 ∷ 84 ∷ [])
     ∷ equal IDX2 (73 ∷ 68 ∷ 88 ∷ 50 ∷ []) ∷ equal DDT* (68 ∷ 68 ∷ 84 ∷ 42 ∷ []) ∷ equal DBLK (68 ∷ 66 ∷ 76 ∷ 75 ∷ [])
-    ∷ equal CKSM (67 ∷ 75 ∷ 83 ∷ 77 ∷ [])
+    ∷ equal CKSM (67 ∷ 75 ∷ 83 ∷ 77 ∷ []) ∷ equal DDT2 (68 ∷ 68 ∷ 84 ∷ 50 ∷ [])
     -- those letters in that order, at their place; then two exchanged, one changed, one left out, the place wrong
     ∷ not (lacks (7 ∷ IDX2 ++ (7 ∷ [])) 1 IDX2) ∷ lacks (ascii "IXD2") 0 IDX2 ∷ lacks (ascii "IDX1") 0 IDX2 ∷ lacks (ascii "IDX") 0 IDX2
     ∷ lacks (7 ∷ IDX2) 0 IDX2
     -- the same of an entry's blockType, and the entry as it is written
     ∷ isType DDT* (userDataEntry DDT* 104) ∷ not (isType DDT* (userDataEntry (ascii "DD*T") 104))
-    ∷ not (isType DDT* (userDataEntry (ascii "DDT2") 104)) ∷ not (isType DDT* (userDataEntry (ascii "DDT") 104))
-    ∷ equal (entryBytes (userDataEntry DDT* 104)) (DDT* ++ (1 ∷ 0 ∷ 0 ∷ 0 ∷ 104 ∷ 0 ∷ 0 ∷ 0 ∷ 0 ∷ 0 ∷ 0 ∷ 0 ∷ [])) ∷ []
+    ∷ not (isType DDT* (userDataEntry DDT2 104)) ∷ not (isType DDT* (userDataEntry (ascii "DDT") 104))
+    ∷ equal (entryBytes (userDataEntry DDT* 104)) (DDT* ++ (1 ∷ 0 ∷ 0 ∷ 0 ∷ 104 ∷ 0 ∷ 0 ∷ 0 ∷ 0 ∷ 0 ∷ 0 ∷ 0 ∷ []))
+    -- a table is of either kind
+    ∷ isTable (userDataEntry DDT* 104) ∷ isTable (userDataEntry DDT2 104) ∷ not (isTable (userDataEntry DBLK 104))
+    -- not written: an entry of 0; of the second kind a status of 0, whatever the pointer. 1 is dumped, 2 and 15 are another status
+    ∷ unwritten First 0 ∷ not (unwritten First 1) ∷ not (unknown First 0x20000000)
+    ∷ unwritten Second 0 ∷ unwritten Second 0x0FFFFFFF ∷ not (unwritten Second 0x10000000) ∷ not (unwritten Second 0x20000000)
+    ∷ not (unknown Second 0x10000000) ∷ not (unknown Second 0x1FFFFFFF) ∷ unknown Second 0x20000000 ∷ unknown Second 0xF0000000
+    -- a pointer of 28 ones: all item number, all block, and the block aligned
+    ∷ same (entryPointer Second 0x1FFFFFFF) 0x0FFFFFFF ∷ same (decode 28 32 0x0FFFFFFF .block .0) 0 ∷ same (decode 28 32 0x0FFFFFFF .item .0) 0x0FFFFFFF
+    ∷ same (decode 0 0 0x0FFFFFFF .block .0) 0x0FFFFFFF ∷ same (decode 0 32 0x0FFFFFFF .block .0) 0x0FFFFFFF00000000 ∷ same (decode 0 32 0x0FFFFFFF .item .0) 0
+    ∷ []

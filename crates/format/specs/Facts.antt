@@ -1,13 +1,17 @@
 -- What the checks stand for, as facts about places, fields and checksums. proofs/ shows each group of checks passes exactly if its facts hold.
+use Prim.{Unit}
 use mathlib.Core.List.{List}
 use mathlib.Core.Logic.{_≢_, _⊎_}
 use mathlib.Core.Path.{_≡_}
-use Prim.Native.Nat.{ℕ, _+_, _*_, _/_, _%_, _≤_, _<_}
+use Prim.Native.Nat.{ℕ, _+_, _*_, _/_, _%_, _^_, _≤_, _<_}
 use lib.ListN.{length}
 use Rattle.crc64.specs.Crc.{crcOf}
 use Rattle.fields.specs.Bytes.{part, field, toLe}
 use Rattle.format.specs.declared.Entry.{Entry}
-use Rattle.format.specs.Layouts.{AARUFRMT, DICMFRMT, IDX2, headerLength, imageMajorAt, indexHeaderLength, entryCount, indexCrc64, entryLength, entriesPart, blockHeaderLength, blockDataType, blockCompression, sectorSize, blockCmpLength, blockLength, blockCmpCrc64, blockCrc64, blockPayload, tableHeaderLength, tableDataType, tableCompression, tableShift, tableCount, tableCmpLength, tableLength, tableCmpCrc64, tableCrc64, tablePayload, tableEntryLength}
+use Rattle.format.specs.declared.TableKind.{TableKind}
+use Rattle.format.specs.declared.TableKind.the-variants.{First, Second}
+use Rattle.format.specs.Lists.{All, Only}
+use Rattle.format.specs.Layouts.{AARUFRMT, DICMFRMT, IDX2, DDT*, DDT2, headerLength, imageMajorAt, indexHeaderLength, entryCount, indexCrc64, entryLength, entries, entriesPart, blockHeaderLength, blockDataType, blockCompression, sectorSize, blockCmpLength, blockLength, blockCmpCrc64, blockCrc64, blockPayload, tableHeaderLengthOf, tableDataType, tableCompression, tableShift, tableCount, tableCmpLength, tableLength, tableCmpCrc64, tableCrc64, tablePayload, entryWidth, tableLevels, tableBlocks, tableOverflow, tableSizeType, tableAlignment, tableNegative}
 
 -- the identifier at a place is this one
 unfoldable pub Identified : List ℕ → ℕ → List ℕ → Type 0
@@ -38,17 +42,55 @@ pub record UserData (letters : List ℕ) (e : Entry) : Type 0 where
   pub type : toLe 4 (e .blockType) ≡ letters
   pub userData : e .dataType ≡ 1
 
--- the table at t: checks 11 to 14. Its identifier is its index entry's fact
-pub record TableOk (img : List ℕ) (t : ℕ) : Type 0 where
-  pub head : t + tableHeaderLength ≤ length img
+-- an index entry for a table of either kind
+abbrev pub NamesTable : Entry → Type 0
+NamesTable e = UserData DDT* e ⊎ UserData DDT2 e
+
+-- the table at t is of this kind: of the second exactly if its identifier is 'DDT2'. (An index entry names it, for a table of one of the two.)
+unfoldable pub OfKind : List ℕ → ℕ → TableKind → Type 0
+OfKind img t First = ¬ Identified img t DDT2
+OfKind img t Second = Identified img t DDT2
+
+-- a table of the second kind: checks 70 to 72
+pub record SecondOk (img : List ℕ) (t : ℕ) : Type 0 where
+  pub levels : tableLevels img t ≡ 1
+  pub sizeType : tableSizeType img t ≡ 0
+  pub blocks : tableNegative img Second t + tableOverflow img t ≤ tableBlocks img t
+
+unfoldable pub ExtentOk : List ℕ → TableKind → ℕ → Type 0
+ExtentOk img First t = Unit {0}
+ExtentOk img Second t = SecondOk img t
+
+-- the table at t, of kind k: checks 11 to 14 and 70 to 72. Its identifier is its index entry's fact
+pub record TableOk (img : List ℕ) (k : TableKind) (t : ℕ) : Type 0 where
+  pub head : t + tableHeaderLengthOf k ≤ length img
   pub compression : tableCompression img t ≡ 0
+  pub extent : ExtentOk img k t
   pub type : tableDataType img t ≡ 1
-  pub shift : tableShift img t ≤ 32
-  pub whole : tableLength img t ≡ tableEntryLength * tableCount img t
-  pub unpacked : tableCmpLength img t ≡ tableLength img t
-  pub fits : t + tableHeaderLength + tableLength img t ≤ length img
-  pub cmpSum : crcOf (tablePayload img t) ≡ tableCmpCrc64 img t
-  pub sum : crcOf (tablePayload img t) ≡ tableCrc64 img t
+  pub shift : tableShift img k t ≤ 32
+  pub alignment : tableAlignment img k t ≤ 32
+  pub whole : tableLength img k t ≡ entryWidth k * tableCount img k t
+  pub unpacked : tableCmpLength img k t ≡ tableLength img k t
+  pub fits : t + tableHeaderLengthOf k + tableLength img k t ≤ length img
+  pub cmpSum : crcOf (tablePayload img k t) ≡ tableCmpCrc64 img k t
+  pub sum : crcOf (tablePayload img k t) ≡ tableCrc64 img k t
+
+-- the image opens, with o for its index's offset: the one table that its index names stands at t and is of kind k
+pub record Opens (img : List ℕ) (o : ℕ) (k : TableKind) (t : ℕ) : Type 0 where
+  pub header : HeaderOk img
+  pub index : IndexOk img o
+  pub entriesOk : All (EntryOk img) (entries img o)
+  pub namedBy : Entry
+  pub only : Only NamesTable namedBy (entries img o)
+  pub place : namedBy .offset .0 ≡ t
+  pub ofKind : OfKind img t k
+  pub tableOk : TableOk img k t
+
+-- a table entry points with this number: of the first kind, every entry but 0, with itself; of the second, status 1 and the pointer in the
+-- other 28 bits. "for demand 2 an entry whose status gives 21 or 73 names no item"
+pub data PointsWith : TableKind → ℕ → ℕ → Type 0 where
+  written : {entry : ℕ} → entry ≢ 0 → PointsWith First entry entry
+  dumped : {pointer : ℕ} → pointer < 2 ^ 28 → PointsWith Second (1 * 2 ^ 28 + pointer) pointer
 
 -- the data block at b, but for its checksums: checks 23 to 25. Its identifier is its index entry's fact
 pub record BlockOk (img : List ℕ) (b : ℕ) : Type 0 where

@@ -4,6 +4,7 @@ use mathlib.Core.List.{List, [], _∷_}
 use mathlib.Core.Path.{_≡_}
 use Prim.Native.Nat.{ℕ}
 use lib.ListN.{take}
+use lib.IntN.{ℤ}
 use Rattle.format.specs.declared.Placed.{Placed}
 use Rattle.format.specs.Lists.{Any, IsBytes}
 use Rattle.format.specs.Refusals.{Answer, refused, accepted}
@@ -13,13 +14,13 @@ use Rattle.format.specs.Committing.{commit}
 use Rattle.format.specs.RollingBack.{rollback}
 
 pub data Call : Type 0 where
-  commits : (addresses : List ℕ) (size : ℕ) (sectors : List ℕ) (time : ℕ) → Call
+  commits : (addresses : List ℤ) (size : ℕ) (sectors : List ℕ) (time : ℕ) → Call
   rollsBack : (offset time : ℕ) → Call
 
 -- a point (01's own term): "the disc as it reads right after the creation or an accepted commit", with the offset that was returned
 pub record Point : Type 0 where
   pub offset : ℕ
-  pub disc : ℕ → Answer (List ℕ)
+  pub disc : ℤ → Answer (List ℕ)
 
 -- a moment (01's own term) of a history, with the points so far, the newest first
 pub record Moment : Type 0 where
@@ -28,13 +29,13 @@ pub record Moment : Type 0 where
   pub points : List Point
 
 -- "a read of the first `used` bytes, with the buffer and `used` of its moment"
-unfoldable pub reads : Moment → ℕ → Answer (List ℕ)
+unfoldable pub reads : Moment → ℤ → Answer (List ℕ)
 reads m = read (take (m .used) (m .buffer))
 
 -- "Two moments read the same if, for every address that a read can be handed, a read .. gives the same bytes, length included, or the
 -- same refusal." By 1/13 a refusal is its number and its place: two moments read the same only if the places agree too.
-unfoldable pub ReadTheSame : (ℕ → Answer (List ℕ)) → (ℕ → Answer (List ℕ)) → Type 0
-ReadTheSame one other = (a : ℕ) → one a ≡ other a
+unfoldable pub ReadTheSame : (ℤ → Answer (List ℕ)) → (ℤ → Answer (List ℕ)) → Type 0
+ReadTheSame one other = (a : ℤ) → one a ≡ other a
 
 -- the point that a creation or a commit makes, which answered p and left this buffer
 unfoldable pub pointNow : List ℕ → Placed → Point

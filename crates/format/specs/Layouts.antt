@@ -11,6 +11,8 @@ use Rattle.fields.specs.Bytes.{part, field, fromLe}
 use Rattle.fields.specs.Layout.{num, raw, layout}
 use Rattle.format.specs.declared.Entry.{Entry}
 use Rattle.format.specs.declared.Pointer.{Pointer}
+use Rattle.format.specs.declared.TableKind.{TableKind}
+use Rattle.format.specs.declared.TableKind.the-variants.{First, Second}
 
 -- ---- identifiers, by their letters. The bytes of a text in ASCII:
 abbrev pub ascii : String → List ℕ
@@ -31,6 +33,9 @@ DBLK = ascii "DBLK"
 
 abbrev pub DDT* : List ℕ
 DDT* = ascii "DDT*"
+
+abbrev pub DDT2 : List ℕ
+DDT2 = ascii "DDT2"
 
 abbrev pub CKSM : List ℕ
 CKSM = ascii "CKSM"
@@ -150,9 +155,34 @@ unfoldable pub blockBytes : ℕ → List ℕ → List ℕ
 blockBytes size payload = blockHeader size payload ++ payload
 
 -- ---- Table, 49: 'DDT*' at 0; type 4 (2); compression 6 (2); shift 8 (1); entries 9 (8); cmpLength 17 (8); length 25 (8);
--- cmpCrc64 33 (8); crc64 41 (8)
+-- cmpCrc64 33 (8); crc64 41 (8). The one kind that is written.
 abbrev pub tableHeaderLength : ℕ
 tableHeaderLength = 49
+
+-- "A table entry is 8 bytes"
+abbrev pub tableEntryLength : ℕ
+tableEntryLength = 8
+
+-- 11/13, the second kind, 82: 'DDT2' at 0; type 4 (2); compression 6 (2); levels 8 (1); tableLevel 9 (1); previousLevel 10 (8); negative 18 (2);
+-- blocks 20 (8); overflow 28 (2); "start (8), blockAlignmentShift, dataShift, tableShift and sizeType (1 each)": 30, 38, 39, 40, 41; "then
+-- entries to crc64 as in 'DDT*'": entries 42 (8); cmpLength 50 (8); length 58 (8); cmpCrc64 66 (8); crc64 74 (8). "4-byte entries"
+abbrev pub tableHeaderLengthOf : TableKind → ℕ
+tableHeaderLengthOf First = tableHeaderLength
+tableHeaderLengthOf Second = 82
+
+abbrev pub entryWidth : TableKind → ℕ
+entryWidth First = tableEntryLength
+entryWidth Second = 4
+
+-- where entries, and behind it cmpLength, length, cmpCrc64 and crc64 stand in the header
+abbrev pub entriesAt : TableKind → ℕ
+entriesAt First = 9
+entriesAt Second = 42
+
+-- where shift, of the second kind dataShift, stands
+abbrev pub shiftAt : TableKind → ℕ
+shiftAt First = 8
+shiftAt Second = 39
 
 module _ (img : List ℕ) (t : ℕ) where
   abbrev pub tableDataType : ℕ
@@ -161,26 +191,49 @@ module _ (img : List ℕ) (t : ℕ) where
   abbrev pub tableCompression : ℕ
   tableCompression = field img (t + 6) 2
 
+  -- the second kind alone
+  abbrev pub tableLevels : ℕ
+  tableLevels = field img (t + 8) 1
+
+  abbrev pub tableBlocks : ℕ
+  tableBlocks = field img (t + 20) 8
+
+  abbrev pub tableOverflow : ℕ
+  tableOverflow = field img (t + 28) 2
+
+  abbrev pub tableSizeType : ℕ
+  tableSizeType = field img (t + 41) 1
+
+module _ (img : List ℕ) (k : TableKind) (t : ℕ) where
   abbrev pub tableShift : ℕ
-  tableShift = field img (t + 8) 1
+  tableShift = field img (t + shiftAt k) 1
 
   abbrev pub tableCount : ℕ
-  tableCount = field img (t + 9) 8
+  tableCount = field img (t + entriesAt k) 8
 
   abbrev pub tableCmpLength : ℕ
-  tableCmpLength = field img (t + 17) 8
+  tableCmpLength = field img (t + (entriesAt k + 8)) 8
 
   abbrev pub tableLength : ℕ
-  tableLength = field img (t + 25) 8
+  tableLength = field img (t + (entriesAt k + 16)) 8
 
   abbrev pub tableCmpCrc64 : ℕ
-  tableCmpCrc64 = field img (t + 33) 8
+  tableCmpCrc64 = field img (t + (entriesAt k + 24)) 8
 
   abbrev pub tableCrc64 : ℕ
-  tableCrc64 = field img (t + 41) 8
+  tableCrc64 = field img (t + (entriesAt k + 32)) 8
 
   abbrev pub tablePayload : List ℕ
-  tablePayload = part img (t + tableHeaderLength) tableLength
+  tablePayload = part img (t + tableHeaderLengthOf k) tableLength
+
+-- "the alignment and `negative` of its table, 0 for the old one"
+unfoldable pub tableAlignment : List ℕ → TableKind → ℕ → ℕ
+tableAlignment img First t = 0
+tableAlignment img Second t = field img (t + 38) 1
+
+unfoldable pub tableNegative : List ℕ → TableKind → ℕ → ℕ
+tableNegative img First t = 0
+tableNegative img Second t = field img (t + 18) 2
 
 -- of `count` entries, which are the payload
 unfoldable pub tableHeader : ℕ → ℕ → List ℕ → List ℕ
@@ -191,14 +244,19 @@ tableHeader shift count payload =
 unfoldable pub tableBytes : ℕ → ℕ → List ℕ → List ℕ
 tableBytes shift count payload = tableHeader shift count payload ++ payload
 
--- ---- "A table entry is 8 bytes; entry n is sector address n."
-abbrev pub tableEntryLength : ℕ
-tableEntryLength = 8
+-- ---- What a table entry means. The pointer of an entry. 11/13: "upper four bits are status, the other 28 the pointer"
+unfoldable pub entryStatus : ℕ → ℕ
+entryStatus entry = entry / 2 ^ 28
 
--- An entry of 0 means not written (Reading). Otherwise "byte offset = entry / 2^shift, whole part, and item number = the remainder"
-unfoldable pub decode : ℕ → ℕ → Pointer
-decode shift entry = record { block = record { 0 = entry / 2 ^ shift }; item = record { 0 = entry % 2 ^ shift } }
+unfoldable pub entryPointer : TableKind → ℕ → ℕ
+entryPointer First entry = entry
+entryPointer Second entry = entry % 2 ^ 28
 
--- the entry of a pointer whose item number is below 2^shift
+-- What both kinds share. An entry that is not written (Reading) has none; otherwise "byte offset = entry / 2^shift, whole part, and item number =
+-- the remainder"; 11/13: "pointer / 2^dataShift, whole part, times 2^blockAlignmentShift; item number = the remainder"
+unfoldable pub decode : ℕ → ℕ → ℕ → Pointer
+decode shift alignment pointer = record { block = record { 0 = pointer / 2 ^ shift * 2 ^ alignment }; item = record { 0 = pointer % 2 ^ shift } }
+
+-- the entry of a pointer whose item number is below 2^shift, as it is written: of the first kind
 unfoldable pub encode : ℕ → Pointer → ℕ
 encode shift p = p .block .0 * 2 ^ shift + p .item .0

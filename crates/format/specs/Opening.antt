@@ -1,17 +1,21 @@
 -- Opening, with o for the index's offset: a rollback checks at the offset that it is handed, all else at the header's.
 -- "All sums are whole numbers. Checks in this order", with 2/13's 104 where 01 says 72.
-use mathlib.Core.Bool.{Bool, not}
+use mathlib.Core.Bool.{Bool, true, false, not}
 use mathlib.Core.List.{List, [], _∷_}
 use Prim.Native.Nat.{ℕ, zero, suc, _+_, _*_}
 use lib.ListN.{length, getD}
+use lib.IntN.{pos, negℤ}
 use Rattle.crc64.specs.Crc.{crcOf}
 use Rattle.fields.specs.Bytes.{part, field, toLe, equal}
+use Rattle.format.specs.declared.AddressRange.{AddressRange}
 use Rattle.format.specs.declared.Entry.{Entry}
+use Rattle.format.specs.declared.TableKind.{TableKind}
+use Rattle.format.specs.declared.TableKind.the-variants.{First, Second}
 use Rattle.format.specs.declared.Verdict.{Verdict}
 use Rattle.format.specs.declared.Verdict.the-variants.{Passes, Refuses}
 use Rattle.format.specs.Tests.{same, differs, below, _or_, _and_, choose}
 use Rattle.format.specs.Refusals.{refusal, row, _then_, Answer, answer}
-use Rattle.format.specs.Layouts.{AARUFRMT, DICMFRMT, IDX2, DDT*, headerLength, imageMajorAt, indexOffset, indexHeaderLength, entryCount, indexCrc64, entryLength, entryAt, entries, entriesPart, tableHeaderLength, tableEntryLength, tableDataType, tableCompression, tableShift, tableCount, tableCmpLength, tableLength, tableCmpCrc64, tableCrc64, tablePayload}
+use Rattle.format.specs.Layouts.{AARUFRMT, DICMFRMT, IDX2, DDT*, DDT2, headerLength, imageMajorAt, indexOffset, indexHeaderLength, entryCount, indexCrc64, entryLength, entryAt, entries, entriesPart, tableHeaderLengthOf, entryWidth, tableDataType, tableCompression, tableShift, tableCount, tableCmpLength, tableLength, tableCmpCrc64, tableCrc64, tablePayload, tableLevels, tableBlocks, tableOverflow, tableSizeType, tableAlignment, tableNegative}
 
 -- 6/13: "test each block's identifier against its printed letters: the test says yes exactly if the bytes are those letters in that order."
 -- the identifier at a place is not this one
@@ -55,10 +59,18 @@ isType letters e = equal (toLe 4 (e .blockType)) letters
 unfoldable pub isUserData : List ℕ → Entry → Bool
 isUserData letters e = isType letters e and same (e .dataType) 1
 
--- the offsets of the entries for this kind of block, of user data, in order
-unfoldable pub offsetsOf : List ℕ → List Entry → List ℕ
-offsetsOf letters [] = []
-offsetsOf letters (e ∷ es) = choose (isUserData letters e) (e .offset .0 ∷ offsetsOf letters es) (offsetsOf letters es)
+-- the offsets of the entries that a test says yes to, in order
+unfoldable pub offsetsWith : (Entry → Bool) → List Entry → List ℕ
+offsetsWith f [] = []
+offsetsWith f (e ∷ es) = choose (f e) (e .offset .0 ∷ offsetsWith f es) (offsetsWith f es)
+
+-- of those for this kind of block, of user data
+abbrev pub offsetsOf : List ℕ → List Entry → List ℕ
+offsetsOf letters es = offsetsWith (isUserData letters) es
+
+-- 11/13: "in opening's step 4 both kinds count, so one of each is 10"
+unfoldable pub isTable : Entry → Bool
+isTable e = isUserData DDT* e or isUserData DDT2 e
 
 -- where the index at o names these tables
 unfoldable pub oneOf : ℕ → List ℕ → Verdict
@@ -67,30 +79,52 @@ oneOf o (t ∷ []) = Passes
 oneOf o (t ∷ u ∷ ts) = Refuses (refusal 10 o)
 
 unfoldable pub oneVerdict : List ℕ → ℕ → Verdict
-oneVerdict img o = oneOf o (offsetsOf DDT* (entries img o))
+oneVerdict img o = oneOf o (offsetsWith isTable (entries img o))
 
 -- the table's place, where the index names one table
 unfoldable pub tableAt : List ℕ → ℕ → ℕ
-tableAt img o = getD (offsetsOf DDT* (entries img o)) 0 0
+tableAt img o = getD (offsetsWith isTable (entries img o)) 0 0
+
+-- its kind, by its identifier, which is its index entry's blockType (8)
+unfoldable pub kindBy : Bool → TableKind
+kindBy true = First
+kindBy false = Second
+
+unfoldable pub kindAt : List ℕ → ℕ → TableKind
+kindAt img t = kindBy (lacks img t DDT2)
 
 -- 5. "Table header past the end: 11. Compression not 0: 13. Type not 1, shift over 32, length not 8 x entries, or cmpLength not
 -- length: 12. Payload past the end: 11. Either checksum wrong: 14."
-unfoldable pub tableMalformed : List ℕ → ℕ → Bool
-tableMalformed img t =
-    differs (tableDataType img t) 1 or below 32 (tableShift img t)
-    or differs (tableLength img t) (tableEntryLength * tableCount img t) or differs (tableCmpLength img t) (tableLength img t)
+-- 11/13, of the second kind: "70, levels not 1; 71, sizeType not 0; 72, `negative` and `overflow` together exceed blocks; in that order after 13"
+unfoldable pub extentVerdict : List ℕ → TableKind → ℕ → Verdict
+extentVerdict img First t = Passes
+extentVerdict img Second t =
+    row (differs (tableLevels img t) 1) (refusal 70 0)
+    then row (differs (tableSizeType img t) 0) (refusal 71 0)
+    then row (below (tableBlocks img t) (tableNegative img Second t + tableOverflow img t)) (refusal 72 0)
+
+-- "12 then asks for 4 x entries and both shifts up to 32"
+unfoldable pub tableMalformed : List ℕ → TableKind → ℕ → Bool
+tableMalformed img k t =
+    differs (tableDataType img t) 1 or below 32 (tableShift img k t) or below 32 (tableAlignment img k t)
+    or differs (tableLength img k t) (entryWidth k * tableCount img k t) or differs (tableCmpLength img k t) (tableLength img k t)
 
 -- either of two stored checksums is not this one
 unfoldable pub sumsDiffer : ℕ → ℕ → ℕ → Bool
 sumsDiffer sum stored1 stored2 = differs sum stored1 or differs sum stored2
 
-unfoldable pub tableVerdict : List ℕ → ℕ → Verdict
-tableVerdict img t =
-    row (below (length img) (t + tableHeaderLength)) (refusal 11 t)
+unfoldable pub payloadVerdict : List ℕ → TableKind → ℕ → Verdict
+payloadVerdict img k t =
+    row (below (length img) (t + tableHeaderLengthOf k + tableLength img k t)) (refusal 11 t)
+    then row (sumsDiffer (crcOf (tablePayload img k t)) (tableCmpCrc64 img k t) (tableCrc64 img k t)) (refusal 14 t)
+
+unfoldable pub tableVerdict : List ℕ → TableKind → ℕ → Verdict
+tableVerdict img k t =
+    row (below (length img) (t + tableHeaderLengthOf k)) (refusal 11 t)
     then row (differs (tableCompression img t) 0) (refusal 13 t)
-    then row (tableMalformed img t) (refusal 12 t)
-    then row (below (length img) (t + tableHeaderLength + tableLength img t)) (refusal 11 t)
-    then row (sumsDiffer (crcOf (tablePayload img t)) (tableCmpCrc64 img t) (tableCrc64 img t)) (refusal 14 t)
+    then extentVerdict img k t
+    then row (tableMalformed img k t) (refusal 12 t)
+    then payloadVerdict img k t
 
 -- all of opening's checks
 unfoldable pub openVerdict : List ℕ → ℕ → Verdict
@@ -99,17 +133,33 @@ openVerdict img o =
     then indexVerdict img o
     then entriesVerdict img (entryCount img o) (o + indexHeaderLength)
     then oneVerdict img o
-    then tableVerdict img (tableAt img o)
+    then tableVerdict img (kindAt img (tableAt img o)) (tableAt img o)
 
 -- "An opened image travels as one record holding the lent bytes and the table's place (that of its header), count and shift."
+-- 11/13: "The opened record carries the kind, the alignment and `negative` of its table, 0 for the old one"
 -- This is what opening finds, beside the bytes; it means something only where opening accepts.
 pub record Opened : Type 0 where
+  pub kind : TableKind
   pub table : ℕ
   pub count : ℕ
   pub shift : ℕ
+  pub alignment : ℕ
+  pub negative : ℕ
 
-unfoldable pub openedAt : List ℕ → ℕ → Opened
-openedAt img t = record { table = t; count = tableCount img t; shift = tableShift img t }
+unfoldable pub openedAs : List ℕ → TableKind → ℕ → Opened
+openedAs img k t =
+    record {
+      kind = k;
+      table = t;
+      count = tableCount img k t;
+      shift = tableShift img k t;
+      alignment = tableAlignment img k t;
+      negative = tableNegative img k t;
+    }
+
+-- whose table is at t
+abbrev pub openedAt : List ℕ → ℕ → Opened
+openedAt img t = openedAs img (kindAt img t) t
 
 -- with o for the index's offset
 unfoldable pub opened : List ℕ → ℕ → Opened
@@ -118,6 +168,9 @@ opened img o = openedAt img (tableAt img o)
 unfoldable pub opening : List ℕ → Answer Opened
 opening img = answer (openVerdict img (indexOffset img)) (opened img (indexOffset img))
 
--- how many sectors an image has
-unfoldable pub sectorCount : List ℕ → Answer ℕ
-sectorCount img = answer (openVerdict img (indexOffset img)) (opened img (indexOffset img) .count)
+-- how many sectors an image has, and its lowest address: "the lowest is minus `negative`" (11/13)
+unfoldable pub rangeOf : Opened → AddressRange
+rangeOf t = record { count = t .count; lowest = record { 0 = negℤ (pos (t .negative)) } }
+
+unfoldable pub sectorCount : List ℕ → Answer AddressRange
+sectorCount img = answer (openVerdict img (indexOffset img)) (rangeOf (opened img (indexOffset img)))

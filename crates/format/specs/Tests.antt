@@ -3,6 +3,8 @@ use mathlib.Core.Bool.{Bool, true, false, not}
 use mathlib.Core.List.{List, [], _∷_}
 use Prim.Native.Nat.{ℕ}
 use lib.Dec.{ltb, leb, eqb}
+use lib.IntN.{ℤ}
+use lib.Signed.{ltZ}
 
 unfoldable pub same : ℕ → ℕ → Bool
 same a b = eqb a b
@@ -15,6 +17,10 @@ below a b = ltb a b
 
 unfoldable pub atLeast : ℕ → ℕ → Bool
 atLeast a b = leb b a
+
+-- of signed numbers
+unfoldable pub lessThan : ℤ → ℤ → Bool
+lessThan a b = ltZ a b
 
 infixr 25 _or_
 unfoldable pub _or_ : Bool → Bool → Bool

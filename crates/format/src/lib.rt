@@ -1,5 +1,5 @@
 // Internal: the types that travel between the crates, in code and in the definitions of specs/, and the header's layout. A byte offset,
-// an item number and a sector address are three separate things, and none is passed for another.
+// an item number, a sector address and an entry number are separate things, and none is passed for another.
 
 // A place in an image.
 pub struct ByteOffset(pub u64);
@@ -7,8 +7,17 @@ pub struct ByteOffset(pub u64);
 // Which item of a data block.
 pub struct ItemNumber(pub u64);
 
-// Which sector of a disc.
-pub struct SectorAddress(pub u64);
+// Which sector of a disc. 11/13: "Addresses become signed".
+pub struct SectorAddress(pub i64);
+
+// Which entry of a disc's table: "the entry number is address + `negative`".
+pub struct EntryNumber(pub u64);
+
+// The two kinds of table: 'DDT*' and 'DDT2' (11/13).
+pub enum TableKind {
+    First,
+    Second,
+}
 
 // Why a call is refused: the number of document 01, and the byte offset in the image of what it is about, 0 where there is none.
 pub struct Refusal {
@@ -41,9 +50,15 @@ pub struct Place {
     pub size: u64,
 }
 
+// The addresses of a disc: how many there are, and the lowest; the others follow it.
+pub struct AddressRange {
+    pub count: u64,
+    pub lowest: SectorAddress,
+}
+
 // What asking for the number of sectors answers.
 pub enum Counted {
-    Sectors(u64),
+    Sectors(AddressRange),
     Refused(Refusal),
 }
 

@@ -1,10 +1,10 @@
 // What rows ask of a buffer, and the lines that answer.
 use aaru::Counted;
-use aaru::SectorAddress;
 use fields::get;
 use printing::bytes;
 use printing::located;
 use printing::number;
+use printing::range;
 use printing::refused;
 use printing::text;
 
@@ -20,7 +20,6 @@ pub const BYTES: u64 = 9;
 
 // Discs have at most 7 sectors here.
 fn sectors(image: &[u8], count: u64) {
-    number(b"sectors ", count);
     if 7 < count {
         return;
     }
@@ -28,9 +27,10 @@ fn sectors(image: &[u8], count: u64) {
     // an iteration for each address, and one for that after the last
     while address <= count {
         text(b"; ");
-        located(aaru::locate(image, SectorAddress(address)));
+        let a = printing::address(address);
+        located(aaru::locate(image, a));
         text(b" \"");
-        text(aaru::read(image, SectorAddress(address)));
+        text(aaru::read(image, a));
         text(b"\"");
         address += 1;
     }
@@ -40,7 +40,10 @@ fn disc(image: &[u8]) {
     let answer = aaru::sector_count(image);
     match answer {
         Counted::Refused(r) => refused(r),
-        Counted::Sectors(n) => sectors(image, n),
+        Counted::Sectors(s) => {
+            range(s);
+            sectors(image, s.count);
+        }
     }
 }
 

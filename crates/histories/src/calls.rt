@@ -1,8 +1,9 @@
 // The calls that rows make, and the lines that say what they answer and whether they wrote what document 01 allows and nothing else.
-use super::ONES;
 use aaru::ByteOffset;
 use aaru::Refusal;
 use aaru::Updated;
+use printing::MINUS;
+use printing::address;
 use printing::number;
 use printing::refused;
 use printing::text;
@@ -30,7 +31,7 @@ pub const AT_2: u64 = 3;
 
 pub const AT_3: u64 = 4;
 
-pub const LAST: u64 = 5; // 2^64 - 1
+pub const BELOW: u64 = 5; // -1
 
 pub const AT_0_1: u64 = 6;
 
@@ -63,7 +64,7 @@ const LISTS: [[u64; 6]; 18] = [
     [1, 1, 0, 0, 0, 0],
     [1, 2, 0, 0, 0, 0],
     [1, 3, 0, 0, 0, 0],
-    [1, ONES, 0, 0, 0, 0],
+    [1, MINUS + 1, 0, 0, 0, 0],
     [2, 0, 1, 0, 0, 0],
     [2, 0, 2, 0, 0, 0],
     [2, 0, 3, 0, 0, 0],
@@ -96,7 +97,12 @@ fn create(buffer: &mut [u8], row: &[u64; 5]) -> Updated {
 
 // Commits at the addresses of a list.
 fn commit_at(buffer: &mut [u8], row: &[u64; 5], list: &[u64; 6], sectors: &[u8]) -> Updated {
-    let addresses = [list[1], list[2], list[3], list[4], list[5]];
+    let first = address(list[1]);
+    let second = address(list[2]);
+    let third = address(list[3]);
+    let fourth = address(list[4]);
+    let fifth = address(list[5]);
+    let addresses = [first.0, second.0, third.0, fourth.0, fifth.0];
     let n = list[0] as usize;
     if 5 < n {
         return no_call();
@@ -115,7 +121,7 @@ fn commit(buffer: &mut [u8], row: &[u64; 5], sectors: &[u8]) -> Updated {
 
 fn commit_many(buffer: &mut [u8], row: &[u64; 5], sectors: &[u8]) -> Updated {
     let n = row[2] as usize;
-    let addresses = [0u64; 65537];
+    let addresses = [0i64; 65537];
     if 65537 < n {
         return no_call();
     }

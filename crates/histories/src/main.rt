@@ -9,6 +9,7 @@ mod order; // each call's order of checks
 mod takes; // commits and rollbacks, forth and back
 mod sharing; // equal sectors, shifts and sector sizes
 mod strange; // images that no call here writes
+mod second; // a table of the second kind
 mod damage; // two blocks, one of them damaged
 
 // All 64 bits one: the largest number of 8 bytes.
@@ -22,4 +23,5 @@ fn main() {
     sharing::all();
     strange::all();
     damage::all();
+    second::all();
 }

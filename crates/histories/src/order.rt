@@ -10,9 +10,9 @@ use super::calls::AT_1;
 use super::calls::AT_1_1;
 use super::calls::AT_3;
 use super::calls::AT_3_3;
+use super::calls::BELOW;
 use super::calls::COMMIT;
 use super::calls::CREATE;
-use super::calls::LAST;
 use super::calls::MANY;
 use super::calls::NONE;
 use super::calls::ROLLBACK;
@@ -113,7 +113,7 @@ const SECTOR_ROWS: [[u64; 5]; 32] = [
     [SET, BLOCK + 28, 8, 0, 0], // crc64
     [COMMIT, 382, AT_3, 4, 7],
     [COMMIT, 382, AT_0_3, 4, 7],
-    [COMMIT, 382, LAST, 4, 7],
+    [COMMIT, 382, BELOW, 4, 7],
     [COMMIT, 382, AT_1, 4, 7],
     [COMMIT, 382, AT_0_2, 4, 7],
     [COMMIT, 382, NONE, 4, 7],
@@ -145,7 +145,7 @@ fn sectors() {
           commit, 14 before 20, address 3\nAAAA\n\
           commit, 20 before 27, address 3\nAAAA\n\
           commit, 20 before 27, addresses 0, 3\nAAAABBBB\n\
-          commit, 20 before 27, address 2^64 - 1\nAAAA\n\
+          commit, 20 before 27, address -1\nAAAA\n\
           commit, 27 before 35, address 1\nCCCC\n\
           commit, 27 before 35, the refused sectors themselves\nCCCCDDDD\n\
           commit, 27 before 35, no addresses\n\n\

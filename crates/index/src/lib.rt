@@ -7,8 +7,8 @@ ghost use Prim.Native.Nat.{ℕ, _+_, _*_, _≤_};
 ghost use lib.ListN.{length};
 ghost use Rattle.format.specs.Tests.{_and_, choose};
 ghost use Rattle.format.specs.Refusals.{answer};
-ghost use Rattle.format.specs.Layouts.{AARUFRMT, DICMFRMT, DDT*, indexHeaderLength, entryCount, entryLength, entryAt};
-ghost use Rattle.format.specs.Opening.{lacks, headerVerdict, indexVerdict, entryVerdict, isType, isUserData, tableAt};
+ghost use Rattle.format.specs.Layouts.{AARUFRMT, DICMFRMT, indexHeaderLength, entryCount, entryLength, entryAt};
+ghost use Rattle.format.specs.Opening.{lacks, headerVerdict, indexVerdict, entryVerdict, isType, isUserData, isTable, tableAt};
 ghost use Rattle.index.specs.Tables.{namedVerdict, oneAnswer, before, onlyOne};
 use crc64::checksum;
 use fields::get;
@@ -150,11 +150,21 @@ pub fn is_user_data(e: Entry, letters: &[u8; 4]) -> bool
     true
 }
 
-// The tables seen so far, and one more entry.
-fn with_entry(seen: Tables, e: Entry) -> Tables
-    ensures { λ r. ⌜ ((o : ℕ) (l : List ℕ) → oneAnswer o (before r l) ≡ oneAnswer o (before seen (choose (isUserData DDT* e) (e .offset .0 ∷ l) l))) ⌝ }
+// The entry is for a table of either kind, of user data.
+fn is_table(e: Entry) -> bool
+    ensures { λ r. ⌜ r ≡ isTable e ⌝ }
 {
     if is_user_data(e, b"DDT*") {
+        return true;
+    }
+    is_user_data(e, b"DDT2")
+}
+
+// The tables seen so far, and one more entry.
+fn with_entry(seen: Tables, e: Entry) -> Tables
+    ensures { λ r. ⌜ ((o : ℕ) (l : List ℕ) → oneAnswer o (before r l) ≡ oneAnswer o (before seen (choose (isTable e) (e .offset .0 ∷ l) l))) ⌝ }
+{
+    if is_table(e) {
         let offset = e.offset;
         return match seen {
             Tables::None => Tables::One(offset),

@@ -1,74 +1,93 @@
--- The whole text of every input fits a buffer of 139,264 bytes (8,192 lines of 17): an image of at most 65,536 bytes has at most 8,185
--- sectors, so an address has at most 4 digits, and a place and a size at most 5.
+-- The whole text of every input fits a buffer of 311,296 bytes (16,384 lines of 19): an image of at most 65,536 bytes has at most 16,384 sectors, and its
+-- lowest address is above -65,536, so an address has at most a minus and 5 digits, and a place and a size have at most 5.
 -- Assumes nothing.
+use mathlib.Core.Bool.{Bool, true, false}
 use mathlib.Core.List.{List, _++_}
-use mathlib.Core.Path.{_≡_, refl, sym, ap, _∙_}
+use mathlib.Core.Path.{_≡_, refl, sym, ap, _∙_, subst}
 use Prim.Native.Nat.{ℕ, zero, suc, _+_, _*_, _≤_, _<_}
 use native.Mathlib.Omega.{arith}
+use lib.Dec.{ltb}
+use lib.IntN.{ℤ, pos, negsuc, negℤ, natAbs, _+ℤ_, +ℤ-idr}
 use lib.ListN.{length, take, length-append}
 use lib.Seq.{length-take-le}
 use Rattle.fields.proofs.Overwrite.{length-overwrite}
+use Rattle.format.specs.declared.AddressRange.{AddressRange}
 use Rattle.format.specs.declared.Place.{Place}
+use Rattle.format.specs.declared.Refusal.{Refusal}
 use Rattle.format.specs.Refusals.{Answer, refused, accepted}
-use Rattle.format.specs.Opening.{sectorCount}
+use Rattle.format.specs.Opening.{Opened, rangeOf, sectorCount}
 use Rattle.format.specs.Reading.{locate}
-use Rattle.format.proofs.Tests.{below-iff, choose-cases}
 use Rattle.format.proofs.Reading.{located-inside}
 use Rattle.listing.specs.Buffer.{Writes, Prints}
-use Rattle.listing.specs.Listing.{head, line, linesFrom, lines, imageText, longestInput, listing}
+use Rattle.listing.specs.Listing.{decimal, signed, head, line, linesFrom, lines, imageText, longestInput, listing}
 use Rattle.listing.proofs.Decimal.{length-decimal}
+use Rattle.listing.proofs.Pieces.{address-next}
 use Rattle.listing.proofs.Short.{count-refusal, locate-refusal, count-short}
 
 abbrev pub longestText : ℕ
-longestText = 139264
+longestText = 311296
+
+length-signed : (a : ℤ) → natAbs a < 100000 → length (signed a) ≤ 6
+unfolding signed
+length-signed (pos n) h = let u = length-decimal 4 n h in omega arith
+length-signed (negsuc n) h = let u = length-decimal 4 (suc n) h in simp length-append (omega arith)
+
+-- the address that follows the lowest one by n
+low : (m n : ℕ) → m < 65536 → n < 16384 → natAbs (negℤ (pos m) +ℤ pos n) < 100000
+low zero n h k = omega arith
+low (suc m) n h k = go (ltb n (suc m)) refl
+  where
+    go : (b : Bool) → ltb n (suc m) ≡ b → natAbs (negsuc m +ℤ pos n) < 100000
+    go true e = rw e (omega arith)
+    go false e = rw e (omega arith)
 
 module _ (img : List ℕ) (short : length img ≤ longestInput) where
-  line-fits : (a : ℕ) → a < 10000 → (x : Answer Place) → locate img a ≡ x → length (line a x) ≤ 17
+  line-fits : (a : ℤ) → natAbs a < 100000 → (x : Answer Place) → locate img a ≡ x → length (line a x) ≤ 19
   unfolding line
   line-fits a b (accepted p) e =
       let i = located-inside img a p e in
-      let u = length-decimal 3 a b in
+      let u = length-signed a b in
       let v = length-decimal 4 (p .start .0) (omega arith) in
       let w = length-decimal 4 (p .size) (omega arith) in
       simp length-append (omega arith)
   line-fits a b (refused r) e =
-      let u = length-decimal 3 a b in
+      let u = length-signed a b in
       let v = length-decimal 1 (r .number) (locate-refusal img a r e) in
       simp length-append (omega arith)
 
-  lines-fit : (k a : ℕ) → a + k ≤ 10000 → length (linesFrom img k a) ≤ k * 17
+  lines-fit : (m : ℕ) → m < 65536 → (k n : ℕ) → n + k ≤ 16384 → length (linesFrom img k (negℤ (pos m) +ℤ pos n)) ≤ k * 19
   unfolding linesFrom
-  lines-fit zero a b = omega arith
-  lines-fit (suc k) a b =
-      let u = line-fits a (omega arith) (locate img a) refl in
-      let v = lines-fit k (suc a) (omega arith) in
-      simp length-append (omega arith)
+  lines-fit m h zero n b = omega arith
+  lines-fit m h (suc k) n b =
+      let u = line-fits (negℤ (pos m) +ℤ pos n) (low m n h (omega arith)) (locate img (negℤ (pos m) +ℤ pos n)) refl in
+      let v = lines-fit m h k (suc n) (omega arith) in
+      rw (address-next) (simp length-append (omega arith))
 
-  image-fits : (x : Answer ℕ) → sectorCount img ≡ x → length (head x ++ lines img x) ≤ longestText
-  unfolding head lines
-  image-fits (accepted n) e =
-      let c = count-short img n e in
-      let u = length-decimal 3 n (omega arith) in
-      let v = lines-fit n 0 (omega arith) in
-      simp length-append (omega arith)
-  image-fits (refused r) e =
-      let u = length-decimal 1 (r .number) (count-refusal img r e) in
-      simp length-append (omega arith)
+  -- an image that opens
+  pub opened-fits : (t : Opened) → accepted (rangeOf t) ≡ sectorCount img → t .negative < 65536 → length (imageText img) ≤ longestText
+  unfolding imageText head lines rangeOf
+  opened-fits t e h =
+      let c = count-short img (rangeOf t) (sym e) in
+      let u : length (decimal (rangeOf t .count)) ≤ 5 = length-decimal 4 (t .count) (omega arith) in
+      let v : length (lines img (accepted (rangeOf t))) ≤ t .count * 19 = rw +ℤ-idr at (lines-fit (t .negative) h (t .count) 0 (omega arith)) in
+      rw (← e) (simp length-append (omega arith))
 
-pub listing-fits : (input : List ℕ) → length (listing input) ≤ longestText
-unfolding listing imageText
-listing-fits input =
-    choose-cases (λ (l : List ℕ). length l ≤ longestText) _ _ _ (λ e. omega arith) (λ e. image-fits input (below-iff .0 e) (sectorCount input) refl)
+  -- one that does not
+  pub refused-fits : (r : Refusal) → refused r ≡ sectorCount img → length (imageText img) ≤ longestText
+  unfolding imageText head lines
+  refused-fits r e =
+      let u = length-decimal 1 (r .number) (count-refusal img r (sym e)) in
+      rw (← e) (simp length-append (omega arith))
 
 -- so it is written whole
-pub listing-prints : {s t : List ℕ} {n : ℕ} (input : List ℕ) → length s ≡ longestText → Writes s 0 (listing input) t n → Prints s (listing input) t n
-listing-prints input l w = let f = listing-fits input in let e = w .place in record { bytes = w .bytes; whole = omega arith }
+pub writes-prints : {s text t : List ℕ} {n : ℕ} → length text ≤ length s → Writes s 0 text t n → Prints s text t n
+writes-prints f w = let e = w .place in record { bytes = w .bytes; whole = omega arith; room = f }
 
 -- what a caller needs to hand the text on
-pub prints-count : {s t : List ℕ} {n : ℕ} (input : List ℕ) → length s ≡ longestText → Prints s (listing input) t n → (n ≤ length t) × (n ≡ length (take n t))
-prints-count {s} {t} {n} input l w =
-    let f = listing-fits input in
+pub prints-count : {s text t : List ℕ} {n : ℕ} → Prints s text t n → (n ≤ length t) × (n ≡ length (take n t))
+prints-count {s} {text} {t} {n} w =
+    let f = w .room in
     let e = w .whole in
-    let k : length t ≡ length s = ap length (w .bytes) ∙ length-overwrite s 0 (listing input) in
+    let k : length t ≡ length s = ap length (w .bytes) ∙ length-overwrite s 0 text in
     let h : n ≤ length t = omega arith in
     (h, sym (length-take-le n t h))

@@ -1,13 +1,17 @@
 -- How the text is made of the pieces that the code writes: a line of its words and numbers, the lines of an image one after the other, and
 -- the whole.
 -- Assumes nothing.
+use mathlib.Core.Bool.{true, false, true≢false}
 use mathlib.Core.List.{List, _++_, append-assoc, append-nil}
-use mathlib.Core.Path.{_≡_, ap}
+use mathlib.Core.Path.{_≡_, sym, ap, _∙_}
 use Prim.Native.Nat.{ℕ, zero, suc, _+_, _≤_, _<_}
-use native.Mathlib.Nat.{add-zero, zero-add}
 use native.Mathlib.Numerals.{add-one}
 use native.Mathlib.Omega.{arith}
 use lib.ListN.{length}
+use lib.IntN.{ℤ, pos, negsuc, natAbs, _+ℤ_, +ℤ-assoc, +ℤ-idr}
+use lib.Signed.{ltZ}
+use borrow.Author.Tests.{ltb-true}
+use Rattle.format.specs.declared.AddressRange.{AddressRange}
 use Rattle.format.specs.declared.Counted.{Counted}
 use Rattle.format.specs.declared.Counted.the-variants as count
 use Rattle.format.specs.declared.Located.{Located}
@@ -20,12 +24,12 @@ use Rattle.format.specs.Opening.{sectorCount}
 use Rattle.format.specs.Reading.{locate}
 use Rattle.format.proofs.Tests.{below-true, below-iff, choose-true, choose-false}
 use Rattle.listing.specs.Buffer.{Writes}
-use Rattle.listing.specs.Listing.{SECTORS, REFUSED, SPACE, DASH, NEWLINE, decimal, head, line, linesFrom, lines, imageText, TOO-LONG, longestInput, listing}
+use Rattle.listing.specs.Listing.{SECTORS, REFUSED, SPACE, DASH, MINUS, NEWLINE, decimal, signed, head, line, linesFrom, lines, imageText, TOO-LONG, longestInput, listing}
 use Rattle.listing.proofs.Writes.{writes-then}
 
 -- ---- the first line
 module _ {s t : List ℕ} {at p : ℕ} {c : Counted} where
-  pub head-sectors : {n : ℕ} → c ≡ count.Sectors n → Writes s at (SECTORS ++ decimal n ++ NEWLINE) t p → Writes s at (head (counted c)) t p
+  pub head-sectors : {r : AddressRange} → c ≡ count.Sectors r → Writes s at (SECTORS ++ decimal (r .count) ++ NEWLINE) t p → Writes s at (head (counted c)) t p
   unfolding head counted
   head-sectors e w = rw e w
 
@@ -33,8 +37,20 @@ module _ {s t : List ℕ} {at p : ℕ} {c : Counted} where
   unfolding head counted
   head-refused e w = rw e w
 
+-- ---- an address
+-- by its sign, n from 0
+pub signed-up : (x : ℤ) {n : ℕ} → n ≡ natAbs x → ltZ x (pos 0) ≡ false → signed x ≡ decimal n
+unfolding signed
+signed-up (pos m) e s = ap decimal (sym e)
+signed-up (negsuc m) e s = absurd (true≢false s)
+
+pub signed-down : (x : ℤ) {n : ℕ} → n ≡ natAbs x → ltZ x (pos 0) ≡ true → signed x ≡ MINUS ++ decimal n
+unfolding signed
+signed-down (pos m) e s = absurd (omega (arith, ltb-true m 0 s))
+signed-down (negsuc m) e s = ap (λ k. MINUS ++ decimal k) (sym e)
+
 -- ---- the line of an address
-module _ {s t u : List ℕ} {at p q : ℕ} {l : Located} (a : ℕ) (w : Writes s at (decimal a) t p) where
+module _ {s t u : List ℕ} {at p q : ℕ} {l : Located} (a : ℤ) (w : Writes s at (signed a) t p) where
   pub line-refused : {r : Refusal} → l ≡ place.Refused r → Writes t p (DASH ++ decimal (r .number) ++ NEWLINE) u q → Writes s at (line a (located l)) u q
   unfolding line located
   line-refused e v = rw e (simp append-assoc (writes-then w v))
@@ -45,24 +61,27 @@ module _ {s t u : List ℕ} {at p q : ℕ} {l : Located} (a : ℕ) (w : Writes s
   line-at e y z = rw e (simp append-assoc (writes-then w (writes-then y z)))
 
 -- ---- the lines of an image
-linesFrom-last : (img : List ℕ) (k a : ℕ) → linesFrom img (suc k) a ≡ linesFrom img k a ++ line (a + k) (locate img (a + k))
-unfolding linesFrom
-linesFrom-last img zero a = rw (append-nil, add-zero)
-linesFrom-last img (suc k) a =
-    let e : a + suc k ≡ suc a + k = omega arith in
-    rw (e, append-assoc) (ap (λ (l : List ℕ). line a (locate img a) ++ l) (linesFrom-last img k (suc a)))
+pub address-next : (a : ℤ) (n : ℕ) → a +ℤ pos n +ℤ pos 1 ≡ a +ℤ pos (suc n)
+address-next a n = +ℤ-assoc a (pos n) (pos 1) ∙ ap (λ (k : ℕ). a +ℤ pos k) (omega arith)
 
--- an iteration of a loop over the addresses: where the lines before that of a are written, and then that one
-pub lines-next : {s t u : List ℕ} {at p q : ℕ} (img : List ℕ) (a : ℕ) → Writes s at (linesFrom img a 0) t p
-    → Writes t p (line a (locate img a)) u q → Writes s at (linesFrom img (a + 1) 0) u q
-lines-next img a w v = rw (add-one, linesFrom-last, zero-add) (writes-then w v)
+linesFrom-last : (img : List ℕ) (k : ℕ) (a : ℤ) → linesFrom img (suc k) a ≡ linesFrom img k a ++ line (a +ℤ pos k) (locate img (a +ℤ pos k))
+unfolding linesFrom
+linesFrom-last img zero a = rw (append-nil, +ℤ-idr)
+linesFrom-last img (suc k) a =
+    let e : a +ℤ pos 1 +ℤ pos k ≡ a +ℤ pos (suc k) = +ℤ-assoc a (pos 1) (pos k) ∙ ap (λ (n : ℕ). a +ℤ pos n) (omega arith) in
+    rw (append-assoc, ← e) (ap (λ (l : List ℕ). line a (locate img a) ++ l) (linesFrom-last img k (a +ℤ pos 1)))
+
+-- an iteration of a loop over the addresses from `low` on: where the lines of n of them are written, and then the next one
+pub lines-next : {s t u : List ℕ} {at p q : ℕ} (img : List ℕ) (low : ℤ) (n : ℕ) → Writes s at (linesFrom img n low) t p
+    → Writes t p (line (low +ℤ pos n) (locate img (low +ℤ pos n))) u q → Writes s at (linesFrom img (n + 1) low) u q
+lines-next img low n w v = rw (add-one, linesFrom-last) (writes-then w v)
 
 -- ---- the whole, after the first line
 module _ {s t : List ℕ} {at p : ℕ} (img : List ℕ) where
-  pub image-opens : {q : ℕ} {u : List ℕ} (n : ℕ) → accepted n ≡ sectorCount img → Writes s at (head (accepted n)) t p
-      → Writes t p (linesFrom img n 0) u q → Writes s at (imageText img) u q
+  pub image-opens : {q : ℕ} {u : List ℕ} (r : AddressRange) → accepted r ≡ sectorCount img → Writes s at (head (accepted r)) t p
+      → Writes t p (linesFrom img (r .count) (r .lowest .0)) u q → Writes s at (imageText img) u q
   unfolding imageText lines
-  image-opens n e w v = rw (← e) (writes-then w v)
+  image-opens r e w v = rw (← e) (writes-then w v)
 
   pub image-refused : (r : Refusal) → refused r ≡ sectorCount img → Writes s at (head (refused r)) t p → Writes s at (imageText img) t p
   unfolding imageText lines

@@ -1,9 +1,12 @@
 -- The text of the listing program. "The listing program reads an image of at most 65,536 bytes from standard input and prints the sector
--- count, then for each address the place of its first byte and its size, or a dash and the refusal."
+-- count, then for each address the place of its first byte and its size, or a dash and the refusal." 11/13: "Addresses become signed", so the
+-- addresses go from the lowest on, and a negative one has a minus.
 -- A text is the list of its bytes.
 use mathlib.Core.List.{List, [], _∷_, _++_}
 use Prim.Native.Nat.{ℕ, zero, suc, _+_, _/_, _%_}
 use lib.ListN.{length}
+use lib.IntN.{ℤ, pos, negsuc, _+ℤ_}
+use Rattle.format.specs.declared.AddressRange.{AddressRange}
 use Rattle.format.specs.declared.Place.{Place}
 use Rattle.format.specs.Tests.{below, choose}
 use Rattle.format.specs.Refusals.{Answer, refused, accepted}
@@ -26,6 +29,9 @@ SPACE = 32 ∷ []
 abbrev pub DASH : List ℕ
 DASH = 32 ∷ 45 ∷ 32 ∷ []
 
+abbrev pub MINUS : List ℕ
+MINUS = 45 ∷ []
+
 -- the end of every line
 abbrev pub NEWLINE : List ℕ
 NEWLINE = 10 ∷ []
@@ -44,25 +50,30 @@ digits (suc k) n = choose (below n 10) [] (digits k (n / 10)) ++ (lastDigit n �
 unfoldable pub decimal : ℕ → List ℕ
 decimal n = digits 20 n
 
+-- an address
+unfoldable pub signed : ℤ → List ℕ
+signed (pos n) = decimal n
+signed (negsuc n) = MINUS ++ decimal (suc n)
+
 -- ---- lines
 -- "prints the sector count"; "A refused opening prints `refused` and the number on one line."
-unfoldable pub head : Answer ℕ → List ℕ
-head (accepted n) = SECTORS ++ decimal n ++ NEWLINE
+unfoldable pub head : Answer AddressRange → List ℕ
+head (accepted s) = SECTORS ++ decimal (s .count) ++ NEWLINE
 head (refused r) = REFUSED ++ decimal (r .number) ++ NEWLINE
 
 -- "then for each address the place of its first byte and its size, or a dash and the refusal"
-unfoldable pub line : ℕ → Answer Place → List ℕ
-line a (accepted p) = decimal a ++ SPACE ++ decimal (p .start .0) ++ SPACE ++ decimal (p .size) ++ NEWLINE
-line a (refused r) = decimal a ++ DASH ++ decimal (r .number) ++ NEWLINE
+unfoldable pub line : ℤ → Answer Place → List ℕ
+line a (accepted p) = signed a ++ SPACE ++ decimal (p .start .0) ++ SPACE ++ decimal (p .size) ++ NEWLINE
+line a (refused r) = signed a ++ DASH ++ decimal (r .number) ++ NEWLINE
 
 -- the k addresses from a on
-unfoldable pub linesFrom : List ℕ → ℕ → ℕ → List ℕ
+unfoldable pub linesFrom : List ℕ → ℕ → ℤ → List ℕ
 linesFrom img zero a = []
-linesFrom img (suc k) a = line a (locate img a) ++ linesFrom img k (suc a)
+linesFrom img (suc k) a = line a (locate img a) ++ linesFrom img k (a +ℤ pos 1)
 
 -- all addresses of an image that opens
-unfoldable pub lines : List ℕ → Answer ℕ → List ℕ
-lines img (accepted n) = linesFrom img n 0
+unfoldable pub lines : List ℕ → Answer AddressRange → List ℕ
+lines img (accepted s) = linesFrom img (s .count) (s .lowest .0)
 lines img (refused r) = []
 
 -- ---- the whole text

@@ -15,7 +15,7 @@ pub fn head(out: &mut [u8], at: usize, c: Counted) -> usize
     ensures { λ r. ⌜ Writes (now (out .entry)) at (head (counted c)) (now (out .exit)) r ⌝ }
 {
     match c {
-        Counted::Sectors(n) => text::write_end(out, at, b"sectors ", n),
+        Counted::Sectors(s) => text::write_end(out, at, b"sectors ", s.count),
         Counted::Refused(r) => text::write_end(out, at, b"refused ", r.number as u64),
     }
 }
@@ -25,7 +25,7 @@ pub fn line(out: &mut [u8], at: usize, a: SectorAddress, l: Located) -> usize
     requires { ⌜ at ≤ length (now out) ⌝ }
     ensures { λ r. ⌜ Writes (now (out .entry)) at (line (a .0) (located l)) (now (out .exit)) r ⌝ }
 {
-    let next = text::write_number(out, at, a.0);
+    let next = text::write_signed(out, at, a.0);
     match l {
         Located::At(p) => {
             let last = text::write_both(out, next, b" ", p.start.0);

@@ -4,7 +4,8 @@ ghost use mathlib.Core.List.{[], _∷_, _++_};
 ghost use Prim.Native.Nat.{_≤_};
 ghost use lib.ListN.{length};
 ghost use Rattle.listing.specs.Buffer.{Writes};
-ghost use Rattle.listing.specs.Listing.{NEWLINE, decimal};
+ghost use Rattle.listing.specs.Listing.{NEWLINE, decimal, signed};
+use fields::magnitude;
 
 // One byte.
 fn write_byte(out: &mut [u8], at: usize, b: u8) -> usize
@@ -44,6 +45,18 @@ pub fn write_number(out: &mut [u8], at: usize, n: u64) -> usize
     }
     let next = write_number(out, at, n / 10);
     write_byte(out, next, last)
+}
+
+// A number that may be negative, in decimal.
+pub fn write_signed(out: &mut [u8], at: usize, x: i64) -> usize
+    requires { ⌜ at ≤ length (now out) ⌝ }
+    ensures { λ r. ⌜ Writes (now (out .entry)) at (signed x) (now (out .exit)) r ⌝ }
+{
+    let n = magnitude(x);
+    if x < 0 {
+        return write_both(out, at, b"-", n);
+    }
+    write_number(out, at, n)
 }
 
 // A word and a number.

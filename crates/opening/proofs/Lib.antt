@@ -3,4 +3,4 @@ pub mod Passed
 pub mod Promises
 pub mod Views
 mod Walks
-mod Zero
+mod Wraps

@@ -1,47 +1,55 @@
-// Internal: opening an image, checks 1 to 14 of document 01 (1 to 10 by `index`), and the opened image, which nothing else makes.
+// Internal: opening an image, checks 1 to 14 of document 01 and 70 to 72 of 11/13 (1 to 10 by `index`, the table's by `tables`), and 74; the opened image, which
+// nothing else makes; the entries of its table, and which of them an address has.
 //
 // A function over an opened image takes it apart and hands the slice and the numbers to one that does the work, `.._at`; beside it
 // `.._of` makes the opened image for callers that have the two apart.
 //
 // Cost: the index is passed over twice, for its checksum and for its entries, and the table once, for its checksum.
-ghost use mathlib.Core.List.{List};
 ghost use mathlib.Core.Path.{_≡_};
-ghost use Prim.Native.Nat.{ℕ, _+_, _^_, _≤_, _<_};
+ghost use Prim.Native.Nat.{_+_, _^_, _≤_, _<_};
 ghost use lib.ListN.{length};
-ghost use Rattle.crc64.specs.Crc.{crcOf};
+ghost use lib.IntN.{pos, negℤ, _+ℤ_};
 ghost use Rattle.format.specs.declared.Verdict.the-variants.{Passes};
-ghost use Rattle.format.specs.Refusals.{accepted, answer};
-ghost use Rattle.format.specs.Layouts.{decode};
-ghost use Rattle.format.specs.Opening.{headerVerdict, tableMalformed, sumsDiffer, tableVerdict, openVerdict, openedAt, opened, opening};
-ghost use Rattle.format.specs.Reading.{tableEntryAt, tableEntry, notWritten, pointerAt};
-ghost use Rattle.opening.specs.Answers.{contents, outcome, numbersOf, viewOf, held};
-use crc64::checksum;
+ghost use Rattle.format.specs.Refusals.{refusal, row, accepted, answer};
+ghost use Rattle.format.specs.Layouts.{entryPointer, decode};
+ghost use Rattle.format.specs.Opening.{headerVerdict, kindAt, tableVerdict, openVerdict, openedAt, opened, opening, rangeOf};
+ghost use Rattle.format.specs.Reading.{outside, tableEntryAt, tableEntry, unwritten, notWritten, unknown, pointerAt};
+ghost use Rattle.format.specs.Writing.{isSecond, writableVerdict};
+ghost use Rattle.opening.specs.Answers.{contents, outcome, numbersOf, viewOf, held, kindNumbered, Decodes, IsNumbered};
 use fields::get;
-use fields::part;
-use fields::room;
+use fields::magnitude;
+use format::AddressRange;
 use format::ByteOffset;
+use format::EntryNumber;
 use format::INDEX_OFFSET;
-use format::ItemNumber;
 use format::Pointer;
 use format::Refusal;
 use format::SectorAddress;
+use format::TableKind;
 use format::Verdict;
 use index::Named;
+use tables::layout_of;
 
-// What opening finds: the table's place (that of the header), count and shift. The fields are private, so that opening alone makes
-// one.
+// What opening finds of the table: its kind (by a number, 1 for 'DDT*' and 2 for 'DDT2', as the walks over a view take no enum), place (that of the
+// header), count and shift, alignment and negative, which are 0 for 'DDT*'. The fields are private, so that opening alone makes one.
 pub struct Opened {
+    kind: u64,
     table: ByteOffset,
     count: u64,
     shift: u64,
+    alignment: u64,
+    negative: u16,
 }
 
 // An opened image: the lent bytes, and what opening found in them.
 pub struct Image<'a> {
     bytes: &'a [u8],
+    kind: u64,
     table: ByteOffset,
     count: u64,
     shift: u64,
+    alignment: u64,
+    negative: u16,
 }
 
 // What opening answers. No enum can hold a slice, so `view` puts the bytes and what was found together.
@@ -50,89 +58,47 @@ pub enum Opening {
     Refused(Refusal),
 }
 
-// Either of two stored checksums is not that of the payload. One pass over the payload.
-pub fn sums_differ(payload: &[u8], stored1: u64, stored2: u64) -> bool
-    ensures { λ r. ⌜ r ≡ sumsDiffer (crcOf (now (payload .entry))) stored1 stored2 ⌝ }
+// The number of a kind, and the kind of a number.
+fn kind_number(kind: TableKind) -> u64
+    ensures { λ r. ⌜ kindNumbered r ≡ kind ⌝ }
 {
-    let sum = checksum(payload);
-    if sum != stored1 {
-        return true;
+    match kind {
+        TableKind::First => 1,
+        TableKind::Second => 2,
     }
-    if sum != stored2 {
-        return true;
-    }
-    false
 }
 
-// The table at t: check 12. Its length is 8 x entries exactly if it is a multiple of 8 with that quotient; so no product wraps.
-fn table_malformed(s: &[u8], t: ByteOffset) -> bool
-    requires { ⌜ t .0 + 49 ≤ length (now s) ⌝ }
-    ensures { λ r. ⌜ r ≡ tableMalformed (now (s .entry)) (t .0) ⌝ }
+fn kind_of(t: Opened) -> TableKind
+    ensures { λ r. ⌜ r ≡ contents t .kind ⌝ }
 {
-    let table = t.0;
-    if get(s, table + 4, 2) != 1 {
-        return true;
+    if t.kind == 2 {
+        return TableKind::Second;
     }
-    if 32 < get(s, table + 8, 1) {
-        return true;
-    }
-    let length = get(s, table + 25, 8);
-    if length % 8 != 0 {
-        return true;
-    }
-    if length / 8 != get(s, table + 9, 8) {
-        return true;
-    }
-    if get(s, table + 17, 8) != length {
-        return true;
-    }
-    false
-}
-
-// The table at t: checks 11 to 14. One pass over its entries for the checksum.
-fn table_verdict(s: &[u8], t: ByteOffset) -> Verdict
-    ensures { λ r. ⌜ r ≡ tableVerdict (now (s .entry)) (t .0) ⌝ }
-{
-    let place = t;
-    let table = t.0;
-    if room(s, table) < 49 {
-        return Verdict::Refuses(Refusal { number: 11, place });
-    }
-    if get(s, table + 6, 2) != 0 {
-        return Verdict::Refuses(Refusal { number: 13, place });
-    }
-    if table_malformed(s, t) {
-        return Verdict::Refuses(Refusal { number: 12, place });
-    }
-    let length = get(s, table + 25, 8);
-    if room(s, table + 49) < length {
-        return Verdict::Refuses(Refusal { number: 11, place });
-    }
-    if sums_differ(
-        part(s, table + 49, length),
-        get(s, table + 33, 8),
-        get(s, table + 41, 8),
-    ) {
-        return Verdict::Refuses(Refusal { number: 14, place });
-    }
-    Verdict::Passes
+    TableKind::First
 }
 
 // The image whose table is at t, if the table passes.
 fn open_table(s: &[u8], t: ByteOffset) -> Opening
-    ensures { λ r. ⌜ outcome r ≡ answer (tableVerdict (now (s .entry)) (t .0)) (openedAt (now (s .entry)) (t .0)) ⌝ }
+    requires { ⌜ t .0 + 4 ≤ length (now s) ⌝ }
+    ensures { λ r. ⌜ outcome r ≡ answer (tableVerdict (now (s .entry)) (kindAt (now (s .entry)) (t .0)) (t .0)) (openedAt (now (s .entry)) (t .0)) ⌝ }
 {
-    let v = table_verdict(s, t);
+    let kind = tables::kind_at(s, t);
+    let v = tables::table_verdict(s, kind, t);
     if let Verdict::Refuses(r) = v {
         return Opening::Refused(r);
     }
-    let table = t.0;
-    let count = get(s, table + 9, 8);
-    let shift = get(s, table + 8, 1);
+    let l = layout_of(kind);
+    let count = get(s, t.0 + l.entries, 8);
+    let shift = get(s, t.0 + l.shift, 1);
+    let alignment = tables::alignment_at(s, kind, t);
+    let negative = tables::negative_at(s, kind, t);
     Opening::Opens(Opened {
+        kind: kind_number(kind),
         table: t,
         count,
         shift,
+        alignment,
+        negative,
     })
 }
 
@@ -163,9 +129,23 @@ pub fn open(s: &[u8]) -> Opening
     open_index(s, ByteOffset(get(s, INDEX_OFFSET, 8)))
 }
 
-// All of opening's checks, with o for the index's offset.
-pub fn open_verdict(s: &[u8], o: ByteOffset) -> Verdict
-    ensures { λ r. ⌜ r ≡ openVerdict (now (s .entry)) (o .0) ⌝ }
+// The image that opened as t may be written to: check 74.
+pub fn kind_verdict(t: Opened) -> Verdict
+    ensures { λ r. ⌜ r ≡ row (isSecond (contents t .kind)) (refusal 74 0) ⌝ }
+{
+    let kind = kind_of(t);
+    if tables::is_second(kind) {
+        return Verdict::Refuses(Refusal {
+            number: 74,
+            place: ByteOffset(0),
+        });
+    }
+    Verdict::Passes
+}
+
+// All of opening's checks, with o for the index's offset, and 74.
+pub fn writable_verdict(s: &[u8], o: ByteOffset) -> Verdict
+    ensures { λ r. ⌜ r ≡ writableVerdict (now (s .entry)) (o .0) ⌝ }
 {
     let v = index::header_verdict(s);
     if let Verdict::Refuses(r) = v {
@@ -174,7 +154,7 @@ pub fn open_verdict(s: &[u8], o: ByteOffset) -> Verdict
     let opened = open_index(s, o);
     match opened {
         Opening::Refused(r) => Verdict::Refuses(r),
-        Opening::Opens(_) => Verdict::Passes,
+        Opening::Opens(t) => kind_verdict(t),
     }
 }
 
@@ -185,9 +165,12 @@ pub fn view<'a>(s: &'a [u8], t: Opened) -> Image<'a>
 {
     Image {
         bytes: s,
+        kind: t.kind,
         table: t.table,
         count: t.count,
         shift: t.shift,
+        alignment: t.alignment,
+        negative: t.negative,
     }
 }
 
@@ -203,9 +186,12 @@ pub fn numbers<'a>(image: Image<'a>) -> Opened
     ensures { λ r. ⌜ r ≡ numbersOf (image .entry) ⌝ }
 {
     Opened {
+        kind: image.kind,
         table: image.table,
         count: image.count,
         shift: image.shift,
+        alignment: image.alignment,
+        negative: image.negative,
     }
 }
 
@@ -216,77 +202,155 @@ pub fn count(t: Opened) -> u64
     t.count
 }
 
-// Where the table entry of address a stands.
-pub fn entry_place(t: Opened, a: SectorAddress) -> ByteOffset
-    requires { ⌜ tableEntryAt (contents t) (a .0) < 2 ^ 64 ⌝ }
-    ensures { λ r. ⌜ r .0 ≡ tableEntryAt (contents t) (a .0) ⌝ }
+// Its lowest address: "the lowest is minus `negative`".
+pub fn lowest(t: Opened) -> SectorAddress
+    ensures { λ r. ⌜ r .0 ≡ negℤ (pos (contents t .negative)) ⌝ }
 {
-    let table = t.table;
-    ByteOffset(table.0 + 49 + 8 * a.0)
+    SectorAddress(0 - (t.negative as i64))
 }
 
-// The table entry of address a.
-fn table_entry(s: &[u8], t: Opened, a: SectorAddress) -> u64
-    requires { ⌜ (opening (now s) ≡ accepted (contents t)) × (a .0 < contents t .count) ⌝ }
-    ensures { λ r. ⌜ r ≡ tableEntry (now (s .entry)) (contents t) (a .0) ⌝ }
+// The address of table entry n: the lowest one and n.
+pub fn address(t: Opened, n: EntryNumber) -> SectorAddress
+    requires { ⌜ n .0 < 2 ^ 63 ⌝ }
+    ensures { λ r. ⌜ r .0 ≡ negℤ (pos (contents t .negative)) +ℤ pos (n .0) ⌝ }
 {
-    let place = entry_place(t, a);
-    get(s, place.0, 8)
+    SectorAddress((n.0 as i64) - (t.negative as i64))
 }
 
-// Whether address a is not written.
-pub fn not_written(s: &[u8], t: Opened, a: SectorAddress) -> bool
-    requires { ⌜ (opening (now s) ≡ accepted (contents t)) × (a .0 < contents t .count) ⌝ }
-    ensures { λ r. ⌜ r ≡ notWritten (now (s .entry)) (contents t) (a .0) ⌝ }
+// Its addresses. The lowest has two bytes and a sign.
+pub fn range(t: Opened) -> AddressRange
+    ensures { λ r. ⌜ (r ≡ rangeOf (contents t)) × (contents t .negative < 2 ^ 16) ⌝ }
 {
-    table_entry(s, t, a) == 0
-}
-
-// What a table entry encodes: "byte offset = entry / 2^shift, whole part, and item number = the remainder".
-fn decode(shift: u64, entry: u64) -> Pointer
-    requires { ⌜ shift ≤ 32 ⌝ }
-    ensures { λ r. ⌜ r ≡ decode shift entry ⌝ }
-{
-    let unit = 1u64 << shift;
-    Pointer {
-        block: ByteOffset(entry / unit),
-        item: ItemNumber(entry % unit),
+    AddressRange {
+        count: t.count,
+        lowest: lowest(t),
     }
 }
 
-// What the table entry of address a encodes.
-pub fn pointer_at(s: &[u8], t: Opened, a: SectorAddress) -> Pointer
-    requires { ⌜ (opening (now s) ≡ accepted (contents t)) × (a .0 < contents t .count) ⌝ }
-    ensures { λ r. ⌜ r ≡ pointerAt (now (s .entry)) (contents t) (a .0) ⌝ }
+// Where table entry n stands.
+pub fn entry_place(t: Opened, n: EntryNumber) -> ByteOffset
+    requires { ⌜ tableEntryAt (contents t) (n .0) < 2 ^ 64 ⌝ }
+    ensures { λ r. ⌜ r .0 ≡ tableEntryAt (contents t) (n .0) ⌝ }
 {
-    decode(t.shift, table_entry(s, t, a))
+    let kind = kind_of(t);
+    let l = layout_of(kind);
+    let table = t.table;
+    ByteOffset(table.0 + l.header + l.width * n.0)
+}
+
+// The number there.
+pub fn table_entry(s: &[u8], t: Opened, n: EntryNumber) -> u64
+    requires { ⌜ (opening (now s) ≡ accepted (contents t)) × (n .0 < contents t .count) ⌝ }
+    ensures { λ r. ⌜ r ≡ tableEntry (now (s .entry)) (contents t) (n .0) ⌝ }
+{
+    let kind = kind_of(t);
+    let l = layout_of(kind);
+    let place = entry_place(t, n);
+    get(s, place.0, l.width)
+}
+
+// Whether such an entry is not written.
+pub fn is_unwritten(t: Opened, entry: u64) -> bool
+    ensures { λ r. ⌜ r ≡ unwritten (contents t .kind) entry ⌝ }
+{
+    let kind = kind_of(t);
+    match kind {
+        TableKind::First => entry == 0,
+        TableKind::Second => entry / 0x1000_0000 == 0,
+    }
+}
+
+// Whether it has a status other than dumped, where it is not unwritten.
+pub fn is_unknown(t: Opened, entry: u64) -> bool
+    ensures { λ r. ⌜ r ≡ unknown (contents t .kind) entry ⌝ }
+{
+    let kind = kind_of(t);
+    match kind {
+        TableKind::First => false,
+        TableKind::Second => entry / 0x1000_0000 != 1,
+    }
+}
+
+// What a table entry of the image that opened as t encodes.
+pub fn entry_decoded(t: Opened, entry: u64) -> Pointer
+    requires { ⌜ Decodes (contents t) ⌝ }
+    ensures { λ r. ⌜ r ≡ decode (contents t .shift) (contents t .alignment) (entryPointer (contents t .kind) entry) ⌝ }
+{
+    let kind = kind_of(t);
+    tables::decode(t.shift, t.alignment, tables::entry_pointer(kind, entry))
+}
+
+// Whether table entry n is not written.
+pub fn not_written(s: &[u8], t: Opened, n: EntryNumber) -> bool
+    requires { ⌜ (opening (now s) ≡ accepted (contents t)) × (n .0 < contents t .count) ⌝ }
+    ensures { λ r. ⌜ r ≡ notWritten (now (s .entry)) (contents t) (n .0) ⌝ }
+{
+    is_unwritten(t, table_entry(s, t, n))
+}
+
+// What table entry n encodes.
+pub fn pointer_at(s: &[u8], t: Opened, n: EntryNumber) -> Pointer
+    requires { ⌜ (opening (now s) ≡ accepted (contents t)) × (n .0 < contents t .count) ⌝ }
+    ensures { λ r. ⌜ r ≡ pointerAt (now (s .entry)) (contents t) (n .0) ⌝ }
+{
+    entry_decoded(t, table_entry(s, t, n))
 }
 
 // Over an opened image, which it takes apart.
-pub fn pointer<'a>(image: Image<'a>, a: SectorAddress) -> Pointer
-    requires { ⌜ (opening (now (image .bytes)) ≡ accepted (held image)) × (a .0 < held image .count) ⌝ }
-    ensures { λ r. ⌜ r ≡ pointerAt (now (image .entry .bytes)) (held (image .entry)) (a .0) ⌝ }
+pub fn pointer<'a>(image: Image<'a>, n: EntryNumber) -> Pointer
+    requires { ⌜ (opening (now (image .bytes)) ≡ accepted (held image)) × (n .0 < held image .count) ⌝ }
+    ensures { λ r. ⌜ r ≡ pointerAt (now (image .entry .bytes)) (held (image .entry)) (n .0) ⌝ }
 {
-    pointer_at(bytes(image), numbers(image), a)
+    pointer_at(bytes(image), numbers(image), n)
 }
 
 // Makes the opened image and hands it on.
-pub fn pointer_of(s: &[u8], t: Opened, a: SectorAddress) -> Pointer
-    requires { ⌜ (opening (now s) ≡ accepted (contents t)) × (a .0 < contents t .count) ⌝ }
-    ensures { λ r. ⌜ r ≡ pointerAt (now (s .entry)) (contents t) (a .0) ⌝ }
+pub fn pointer_of(s: &[u8], t: Opened, n: EntryNumber) -> Pointer
+    requires { ⌜ (opening (now s) ≡ accepted (contents t)) × (n .0 < contents t .count) ⌝ }
+    ensures { λ r. ⌜ r ≡ pointerAt (now (s .entry)) (contents t) (n .0) ⌝ }
 {
-    pointer(view(s, t), a)
+    pointer(view(s, t), n)
 }
 
-// Whether the entry that encodes p is that of an address that is not written: exactly 0 encodes block 0 and item 0. A caller that wants
-// both reads the entry once.
-pub fn encodes_nothing(p: Pointer) -> bool
-    ensures { λ r. ⌜ ((img : List ℕ) (t : Opened) (a : ℕ) → p ≡ pointerAt img (contents t) a → r ≡ notWritten img (contents t) a) ⌝ }
+// An address, by the number of its table entry.
+pub enum Numbered {
+    At(EntryNumber),
+    Outside,
+}
+
+// The number of an address's table entry: address + negative, where that is not below 0 and below the count. The only function that sees a sign.
+pub fn entry_number(t: Opened, a: SectorAddress) -> Numbered
+    ensures { λ r. ⌜ IsNumbered (contents t) (a .0) r ⌝ }
 {
-    let block = p.block;
-    if block.0 != 0 {
-        return false;
+    let n = magnitude(a.0);
+    let up = t.negative as u64;
+    let count = t.count;
+    if a.0 < 0 {
+        if up < n {
+            return Numbered::Outside;
+        }
+        let number = up - n;
+        if number < count {
+            return Numbered::At(EntryNumber(number));
+        }
+        return Numbered::Outside;
     }
-    let item = p.item;
-    item.0 == 0
+    if count <= up {
+        return Numbered::Outside;
+    }
+    if n < count - up {
+        return Numbered::At(EntryNumber(n + up));
+    }
+    Numbered::Outside
+}
+
+// Whether an address has no table entry.
+pub fn is_outside(t: Opened, a: SectorAddress) -> bool
+    ensures { λ r. ⌜ r ≡ outside (contents t) (a .0) ⌝ }
+{
+    let numbered = entry_number(t, a);
+    match numbered {
+        Numbered::At(_) => false,
+        Numbered::Outside => true,
+    }
 }

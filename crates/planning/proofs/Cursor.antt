@@ -14,11 +14,12 @@ use lib.Seq.{drop-cons}
 use Rattle.fields.proofs.Steps.{sub-step, sub-done}
 use Rattle.format.specs.declared.Pointer.{Pointer}
 use Rattle.format.specs.Lists.{All, done, more}
+use Rattle.format.specs.Tests.{below}
 use Rattle.format.specs.Opening.{Opened}
-use Rattle.format.specs.Committing.{rising, anyOutside, pieces, given, storeOne, storeAll, oldPointer, newPointer, newPointers}
+use Rattle.format.specs.Committing.{risingBy, pieces, given, storeOne, storeAll, oldPointer, newPointer, newPointers}
 use Rattle.format.proofs.Tests.{below-on, same-on, same-true, same-iff, and-on, never, choose-true, choose-false}
 use Rattle.format.proofs.Lists.{all-get}
-use Rattle.format.proofs.Addresses.{given-other, outside-other}
+use Rattle.format.proofs.Addresses.{given-other}
 use Rattle.format.proofs.Storing.{getD-pieces, length-pieces}
 use Rattle.planning.specs.Plans.{heads, isNext, sectorOf, storedBy}
 
@@ -27,12 +28,12 @@ unfoldable pub Above : ℕ → List ℕ → Type 0
 Above a [] = Unit
 Above a (b ∷ l) = (a ≤ b) × Above (suc b) l
 
-above-cons : (n a : ℕ) (l : List ℕ) → rising (a ∷ l) ≡ true → n ≤ a → Above n (a ∷ l)
-unfolding rising Above
+above-cons : (n a : ℕ) (l : List ℕ) → risingBy below (a ∷ l) ≡ true → n ≤ a → Above n (a ∷ l)
+unfolding risingBy Above
 above-cons n a [] h q = (q, tt)
 above-cons n a (b ∷ l) h q = let r = and-on _ _ h in (q, above-cons (suc a) b l (r .1) (below-on a b (r .0)))
 
-above-all : (l : List ℕ) → rising l ≡ true → Above 0 l
+above-all : (l : List ℕ) → risingBy below l ≡ true → Above 0 l
 unfolding Above
 above-all [] h = tt
 above-all (a ∷ l) h = above-cons 0 a l h (omega arith)
@@ -91,7 +92,7 @@ module _ (img : List ℕ) (t : Opened) (addresses : List ℕ) (size : ℕ) (sect
     pub above : Above a (drop k addresses)
     pub items : storeAll img t (length img) st (drop k all) .items ≡ storedBy img t addresses size sectors .items
 
-  pub walk-starts : rising addresses ≡ true → Walks 0 0 []
+  pub walk-starts : risingBy below addresses ≡ true → Walks 0 0 []
   walk-starts h = record { above = above-all addresses h; items = refl }
 
   pub left-starts : left 0 0 [] ≡ newPointers img t addresses (storedBy img t addresses size sectors .pointers) (t .count) 0
@@ -102,16 +103,17 @@ module _ (img : List ℕ) (t : Opened) (addresses : List ℕ) (size : ℕ) (sect
   left-done a k st h = rw (sub-done a (t .count) h)
 
   -- all that is handed in is used up
-  used-up : (a k : ℕ) → anyOutside (t .count) addresses ≡ false → Above a (drop k addresses) → t .count ≤ a → length addresses ≤ k
+  used-up : (a k : ℕ) → All (λ (n : ℕ). n < t .count) addresses → Above a (drop k addresses) → t .count ≤ a → length addresses ≤ k
   unfolding Above
   used-up a k o h c =
       le-of-suc-le-suc
       (lt-of-not-le
       (λ (l : k < length addresses).
       let b : a ≤ getD addresses k 0 = subst (Above a) (drop-cons addresses k 0 l) h .0 in
-      all-get 0 (outside-other (t .count) (getD addresses k 0) addresses o (omega arith)) k l refl))
+      let i : getD addresses k 0 < t .count = all-get 0 o k l in
+      absurd (omega arith)))
 
-  pub walk-done : {a k : ℕ} {st : List (List ℕ)} → Walks a k st → anyOutside (t .count) addresses ≡ false → t .count ≤ a
+  pub walk-done : {a k : ℕ} {st : List (List ℕ)} → Walks a k st → All (λ (n : ℕ). n < t .count) addresses → t .count ≤ a
       → st ≡ storedBy img t addresses size sectors .items
   unfolding storeAll
   walk-done {a} {k} w o h =

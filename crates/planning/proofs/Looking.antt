@@ -8,7 +8,7 @@ use lib.ListN.{length, drop}
 use Rattle.fields.proofs.Overwrite.{length-part}
 use Rattle.format.specs.declared.ItemNumber.{ItemNumber}
 use Rattle.format.specs.declared.Pointer.{Pointer}
-use Rattle.format.specs.declared.SectorAddress.{SectorAddress}
+use Rattle.format.specs.declared.EntryNumber.{EntryNumber}
 use Rattle.format.specs.Opening.{Opened}
 use Rattle.format.specs.Reading.{notWritten, pointerAt}
 use Rattle.format.specs.Committing.{onDisc, amongStored, pieces, oldPointer, itemOrZero}
@@ -48,11 +48,11 @@ module _ (img : List ℕ) (t : Opened) (size : ℕ) (sectors : List ℕ) (k stor
   pub earlier-inside : 0 + k * length d ≤ length sectors
   earlier-inside = rw long (omega (arith, looks .1))
 
-  pub found-inside : (a : SectorAddress) → r ≡ address.Is a → a .0 < t .count
+  pub found-inside : (a : EntryNumber) → r ≡ address.Is a → a .0 < t .count
   unfolding addressFound
   found-inside a e = onDisc-found img t d (a .0) (sym (rw e at disc)) .inside
 
-  pub looked-old : (a : SectorAddress) (p : Pointer) → r ≡ address.Is a → p ≡ pointerAt img t (a .0)
+  pub looked-old : (a : EntryNumber) (p : Pointer) → r ≡ address.Is a → p ≡ pointerAt img t (a .0)
       → record { item = p .item; stored = stored; k = k + 1 } ≡ looked img t size sectors k stored
   unfolding looked lookedFor addressFound
   looked-old a p e f = rw (← is, ← disc, e, f)

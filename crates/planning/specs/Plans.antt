@@ -8,11 +8,12 @@ use Prim.Native.Nat.{ℕ, _+_, _*_, _≤_, _<_}
 use lib.ListN.{length, drop}
 use Rattle.fields.specs.Bytes.{part}
 use Rattle.format.specs.declared.Pointer.{Pointer}
-use Rattle.format.specs.Tests.{same, choose}
+use Rattle.format.specs.Tests.{same, below, choose}
+use Rattle.format.specs.Lists.{All}
 use Rattle.format.specs.Opening.{Opened}
 use Rattle.format.specs.Reading.{pointerAt}
 use Rattle.format.specs.Writing.{longestBuffer, largestSize, mostAddresses}
-use Rattle.format.specs.Committing.{rising, anyOutside, onDisc, amongStored, pieces, Stored, storeAll, oldPointer, newPointers, itemOrZero, largestItem}
+use Rattle.format.specs.Committing.{risingBy, onDisc, amongStored, pieces, Stored, storeAll, oldPointer, newPointers, itemOrZero, largestItem}
 use Rattle.search.specs.Found.{Checked}
 use Rattle.planning.specs.declared.Planned.{Planned}
 use Rattle.planning.specs.declared.Looked.{Looked}
@@ -26,12 +27,12 @@ heads (b ∷ bs) a = same b a
 unfoldable pub isNext : List ℕ → ℕ → ℕ → Bool
 isNext addresses k a = heads (drop k addresses) a
 
--- a commit all of whose checks but 35 have passed, to the image img, opened as t
+-- a commit all of whose checks but 35 have passed, to the image img, opened as t; its addresses by the numbers of their table entries
 pub record Commits (img : List ℕ) (t : Opened) (addresses : List ℕ) (size : ℕ) (sectors : List ℕ) : Type 0 where
   pub checked : Checked img t
   pub short : length img ≤ longestBuffer
-  pub rises : rising addresses ≡ true
-  pub inside : anyOutside (t .count) addresses ≡ false
+  pub rises : risingBy below addresses ≡ true
+  pub inside : All (λ (n : ℕ). n < t .count) addresses
   pub few : length addresses ≤ mostAddresses
   pub pos : size ≢ 0
   pub small : size ≤ largestSize

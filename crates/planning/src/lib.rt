@@ -3,16 +3,19 @@
 //
 // Cost: each handed-in sector is compared with the sectors of the disc and with those handed in before it, up to the first
 // that is equal.
+ghost use mathlib.Core.Bool.{false};
 ghost use mathlib.Core.Path.{_≡_};
 ghost use Prim.Native.Nat.{_≤_, _<_, max};
 ghost use Rattle.format.specs.Refusals.{accepted};
 ghost use Rattle.format.specs.Opening.{opening};
-ghost use Rattle.format.specs.Committing.{oldPointer, itemOrZero, shiftFor};
+ghost use Rattle.format.specs.Committing.{anyOutside, entryNumbers, oldPointer, itemOrZero, shiftFor};
 ghost use Rattle.opening.specs.Answers.{contents};
 ghost use Rattle.planning.specs.Plans.{isNext, Commits, planFor, Looks, looked, lookedAt};
 use format::ByteOffset;
+use format::EntryNumber;
 use format::ItemNumber;
 use format::SectorAddress;
+use opening::Numbered;
 use opening::Opened;
 use search::Address;
 use search::Item;
@@ -38,25 +41,31 @@ pub fn shift_for(largest: ItemNumber) -> u64
     (64 - zeros) as u64
 }
 
-// Whether a is the next address of the list, of which k are used up.
-pub fn is_next(addresses: &[u64], k: usize, a: SectorAddress) -> bool
-    ensures { λ r. ⌜ r ≡ isNext (now (addresses .entry)) k (a .0) ⌝ }
+// Whether n is the table entry of the next address of the list, of which k are used up. None of them is outside.
+pub fn is_next(t: Opened, addresses: &[i64], k: usize, n: EntryNumber) -> bool
+    requires { ⌜ anyOutside (contents t) (now addresses) ≡ false ⌝ }
+    ensures { λ r. ⌜ r ≡ isNext (entryNumbers (contents t) (now (addresses .entry))) k (n .0) ⌝ }
 {
     if addresses.len() <= k {
         return false;
     }
-    addresses[k] == a.0
+    let x = addresses[k];
+    let numbered = opening::entry_number(t, SectorAddress(x));
+    match numbered {
+        Numbered::At(next) => next.0 == n.0,
+        Numbered::Outside => false,
+    }
 }
 
-// The item number that address a has, 0 where it is not written. Its table entry is read once.
-fn old_item(s: &[u8], t: Opened, a: SectorAddress) -> ItemNumber
-    requires { ⌜ (opening (now s) ≡ accepted (contents t)) × (a .0 < contents t .count) ⌝ }
-    ensures { λ r. ⌜ r .0 ≡ itemOrZero (oldPointer (now (s .entry)) (contents t) (a .0)) ⌝ }
+// The item number that table entry n has, 0 where it is not written.
+fn old_item(s: &[u8], t: Opened, n: EntryNumber) -> ItemNumber
+    requires { ⌜ (opening (now s) ≡ accepted (contents t)) × (n .0 < contents t .count) ⌝ }
+    ensures { λ r. ⌜ r .0 ≡ itemOrZero (oldPointer (now (s .entry)) (contents t) (n .0)) ⌝ }
 {
-    let p = opening::pointer_of(s, t, a);
-    if opening::encodes_nothing(p) {
+    if opening::not_written(s, t, n) {
         return ItemNumber(0);
     }
+    let p = opening::pointer_of(s, t, n);
     p.item
 }
 
@@ -96,17 +105,17 @@ fn look(s: &[u8], t: Opened, size: u64, sectors: &[u8], k: usize, stored: u64) -
 fn look_at(
     s: &[u8],
     t: Opened,
-    addresses: &[u64],
+    addresses: &[i64],
     size: u64,
     sectors: &[u8],
     k: usize,
-    a: SectorAddress,
+    a: EntryNumber,
     stored: u64,
 ) -> Looked
-    requires { ⌜ Commits (now s) (contents t) (now addresses) size (now sectors) × (a .0 < contents t .count) × (stored ≤ k) ⌝ }
-    ensures { λ r. ⌜ r ≡ lookedAt (now (s .entry)) (contents t) (now (addresses .entry)) size (now (sectors .entry)) k (a .0) stored ⌝ }
+    requires { ⌜ Commits (now s) (contents t) (entryNumbers (contents t) (now addresses)) size (now sectors) × (anyOutside (contents t) (now addresses) ≡ false) × (a .0 < contents t .count) × (stored ≤ k) ⌝ }
+    ensures { λ r. ⌜ r ≡ lookedAt (now (s .entry)) (contents t) (entryNumbers (contents t) (now (addresses .entry))) size (now (sectors .entry)) k (a .0) stored ⌝ }
 {
-    if is_next(addresses, k, a) {
+    if is_next(t, addresses, k, a) {
         return look(s, t, size, sectors, k, stored);
     }
     Looked {
@@ -127,9 +136,9 @@ fn larger(x: u64, y: u64) -> u64
 }
 
 // What a commit will store.
-pub fn plan(s: &[u8], t: Opened, addresses: &[u64], size: u64, sectors: &[u8]) -> Planned
-    requires { ⌜ Commits (now s) (contents t) (now addresses) size (now sectors) ⌝ }
-    ensures { λ r. ⌜ r ≡ planFor (now (s .entry)) (contents t) (now (addresses .entry)) size (now (sectors .entry)) ⌝ }
+pub fn plan(s: &[u8], t: Opened, addresses: &[i64], size: u64, sectors: &[u8]) -> Planned
+    requires { ⌜ Commits (now s) (contents t) (entryNumbers (contents t) (now addresses)) size (now sectors) × (anyOutside (contents t) (now addresses) ≡ false) ⌝ }
+    ensures { λ r. ⌜ r ≡ planFor (now (s .entry)) (contents t) (entryNumbers (contents t) (now (addresses .entry))) size (now (sectors .entry)) ⌝ }
 {
     let count = opening::count(t);
     let mut largest: u64 = 0;
@@ -138,7 +147,7 @@ pub fn plan(s: &[u8], t: Opened, addresses: &[u64], size: u64, sectors: &[u8]) -
     let mut a: u64 = 0;
     // an iteration for each address of the disc
     while a < count {
-        let l = look_at(s, t, addresses, size, sectors, k, SectorAddress(a), stored);
+        let l = look_at(s, t, addresses, size, sectors, k, EntryNumber(a), stored);
         let item = l.item;
         largest = larger(largest, item.0);
         stored = l.stored;

@@ -1,9 +1,12 @@
 // Internal: what the programs that run cases print, on standard output; and letters, as their rows of numbers have them.
 ghost use Prim.Native.Nat.{_≤_};
 ghost use lib.ListN.{length};
+use fields::magnitude;
+use format::AddressRange;
 use format::Counted;
 use format::Located;
 use format::Refusal;
+use format::SectorAddress;
 use libc::STDOUT_FILENO;
 
 pub mod letters;
@@ -45,10 +48,39 @@ pub fn refused(r: Refusal) {
     number(b" at ", place.0);
 }
 
+// A whole number, with a minus where it is negative.
+pub fn signed(x: i64) {
+    if x < 0 {
+        text(b"-");
+    }
+    number(b"", magnitude(x));
+}
+
+// An address from 2^63 on stands for minus what it is above that, in rows of numbers.
+pub const MINUS: u64 = 0x8000_0000_0000_0000;
+
+// The address that a number of a row stands for; negative ones have at most two bytes.
+pub fn address(n: u64) -> SectorAddress {
+    if n < MINUS {
+        return SectorAddress(n as i64);
+    }
+    SectorAddress(0 - ((n % 65536) as i64))
+}
+
+// How many sectors there are, and the lowest address where it is not 0.
+pub fn range(s: AddressRange) {
+    number(b"sectors ", s.count);
+    let lowest = s.lowest;
+    if lowest.0 != 0 {
+        text(b" from ");
+        signed(lowest.0);
+    }
+}
+
 // A sector count, or the refusal.
 pub fn counted(answer: Counted) {
     match answer {
-        Counted::Sectors(n) => number(b"sectors ", n),
+        Counted::Sectors(s) => range(s),
         Counted::Refused(r) => refused(r),
     }
 }

@@ -31,7 +31,7 @@ pub sector-good : (img : List ℕ) (t : Opened) (a : ℕ) → Checked img t → 
 unfolding sectorsVerdict
 sector-good img t a k h w =
     ⊎-elim (λ e. absurd (never e w)) (λ s. s)
-    (firstRefusal-iff (t .count) (t .count) 0 (omega arith) (address-ok img (entries img (indexOffset img)) t) .0 (k .1) a (omega arith) h)
+    (firstRefusal-iff (t .count) (t .count) 0 (omega arith) (λ n l. address-ok img (entries img (indexOffset img)) t n) .0 (k .1) a (omega arith) h)
 
 -- ---- what an address has, by whether it is written
 module _ (img : List ℕ) (t : Opened) (a : ℕ) {b : Bool} (w : b ≡ notWritten img t a) where
@@ -57,29 +57,38 @@ unfolding choose
 is-sector true p q e = let z : _≡_ {A = ℕ} 0 1 = cc in absurd (omega arith)
 is-sector false p q e = (refl, cc)
 
+module _ (img : List ℕ) (t : Opened) (a : ℕ) where
+  pub slot-gap : slot.Empty ≡ slotAt img t a → notWritten img t a ≡ true
+  unfolding slotAt
+  slot-gap e = is-empty _ _ e
+
+  module _ (p : Place) (e : slot.Sector p ≡ slotAt img t a) where
+    pub slot-written : notWritten img t a ≡ false
+    unfolding slotAt
+    slot-written = is-sector _ _ _ e .0
+
+    pub slot-place : placeOf img (pointerAt img t a) ≡ p
+    unfolding slotAt
+    slot-place = is-sector _ _ _ e .1
+
+    pub slot-inside : Checked img t → a < t .count → p .start .0 + p .size ≤ length img
+    unfolding placeOf
+    slot-inside k h =
+        let good = sector-good img t a k h slot-written .item in
+        rw (← slot-place) (omega (arith, item-inside img _ _ good, good .block .fits))
+
 module _ (img : List ℕ) (t : Opened) (sector : List ℕ) (a : ℕ) where
   pub empty-other : slot.Empty ≡ slotAt img t a → holdsSector img t sector a ≡ false
   unfolding slotAt holdsSector _and_
   empty-other e = rw (is-empty _ _ e)
 
   module _ (p : Place) (k : Checked img t) (h : a < t .count) (e : slot.Sector p ≡ slotAt img t a) where
-    written : notWritten img t a ≡ false
-    unfolding slotAt
-    written = is-sector _ _ _ e .0
-
-    place : placeOf img (pointerAt img t a) ≡ p
-    unfolding slotAt
-    place = is-sector _ _ _ e .1
-
     inside : p .start .0 + p .size ≤ length img
-    unfolding placeOf
-    inside =
-        let good = sector-good img t a k h written .item in
-        rw (← place) (omega (arith, item-inside img _ _ good, good .block .fits))
+    inside = slot-inside img t a p e k h
 
     holds : holdsSector img t sector a ≡ equal (part img (p .start .0) (p .size)) sector
     unfolding holdsSector itemBytes _and_
-    holds = rw (written, place)
+    holds = rw (slot-written img t a p e, slot-place img t a p e)
 
     pub size-other : p .size ≢ length sector → holdsSector img t sector a ≡ false
     size-other n =

@@ -17,7 +17,7 @@ use Rattle.search.specs.declared.Address.the-variants as address
 use Rattle.search.specs.declared.Item.the-variants as item
 use Rattle.search.specs.declared.Slot.the-variants as slot
 
--- an image that opens to t, all of whose sectors pass a commit's checks
+-- an image that opens to t, all of whose sectors pass a commit's checks: each is good or not written
 abbrev pub Checked : List ℕ → Opened → Type 0
 Checked img t = (opening img ≡ accepted t) × (sectorsVerdict img (entries img (indexOffset img)) t ≡ Passes)
 

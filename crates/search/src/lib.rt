@@ -9,15 +9,15 @@ ghost use Rattle.format.specs.Committing.{onDisc, amongStored, pieces};
 ghost use Rattle.opening.specs.Answers.{contents, held};
 ghost use Rattle.search.specs.Found.{Checked, addressFound, itemFound, slotAt};
 use format::ByteOffset;
+use format::EntryNumber;
 use format::ItemNumber;
 use format::Place;
-use format::SectorAddress;
 use opening::Image;
 use opening::Opened;
 
-// The address at which a search ends.
+// The table entry at which a search ends.
 pub enum Address {
-    Is(SectorAddress),
+    Is(EntryNumber),
     Missing,
 }
 
@@ -27,21 +27,22 @@ pub enum Item {
     Missing,
 }
 
-// What an address of a disc has: nothing, or a sector.
+// What a table entry of a disc has: nothing, or a sector.
 enum Slot {
     Empty,
     Sector(Place),
 }
 
-// What address a has. Its table entry is read once.
-fn slot_at(s: &[u8], t: Opened, a: SectorAddress) -> Slot
+// What table entry a has. It is read once.
+fn slot_at(s: &[u8], t: Opened, a: EntryNumber) -> Slot
     requires { ⌜ Checked (now s) (contents t) × (a .0 < contents t .count) ⌝ }
     ensures { λ r. ⌜ r ≡ slotAt (now (s .entry)) (contents t) (a .0) ⌝ }
 {
-    let p = opening::pointer_at(s, t, a);
-    if opening::encodes_nothing(p) {
+    let e = opening::table_entry(s, t, a);
+    if opening::is_unwritten(t, e) {
         return Slot::Empty;
     }
+    let p = opening::entry_decoded(t, e);
     Slot::Sector(sectors::place(s, p))
 }
 
@@ -54,7 +55,7 @@ pub fn on_disc_at(s: &[u8], t: Opened, sector: &[u8]) -> Address
     let mut found = Address::Missing;
     // an iteration for each address, up to the one that is found; within it at most one for each byte, up to the first that differs
     'search: for a in 0..opening::count(t) {
-        let slot = slot_at(s, t, SectorAddress(a));
+        let slot = slot_at(s, t, EntryNumber(a));
         let Slot::Sector(place) = slot else {
             continue 'search;
         };
@@ -66,7 +67,7 @@ pub fn on_disc_at(s: &[u8], t: Opened, sector: &[u8]) -> Address
         let mut j: usize = 0;
         loop {
             if j == size {
-                found = Address::Is(SectorAddress(a));
+                found = Address::Is(EntryNumber(a));
                 break 'search;
             }
             if s[start + j] != sector[j] {

@@ -18,7 +18,7 @@ has-choose x y l false = refl
 module _ (letters img : List ℕ) (left p x : ℕ) {b : Bool} (all : has x (offsetsOf letters (entriesFrom img left p)) ≡ b) where
   next : 0 < left → has x (offsetsOf letters (entriesFrom img left p))
       ≡ ((isUserData letters (entryAt img p) and same (entryAt img p .offset .0) x) or has x (offsetsOf letters (entriesFrom img (left - 1) (p + entryLength))))
-  next h = ap (has x) (offsets-next letters img left p h) ∙ has-choose x _ _ _
+  next h = ap (has x) (offsets-next (isUserData letters) img left p h) ∙ has-choose x _ _ _
 
   pub indexed-found : 0 < left → (isUserData letters (entryAt img p) and same (entryAt img p .offset .0) x) ≡ true → true ≡ b
   unfolding _or_
@@ -30,4 +30,4 @@ module _ (letters img : List ℕ) (left p x : ℕ) {b : Bool} (all : has x (offs
 
   pub indexed-done : left ≤ 0 → false ≡ b
   unfolding has
-  indexed-done h = sym (ap (has x) (offsets-done letters img left p h)) ∙ all
+  indexed-done h = sym (ap (has x) (offsets-done (isUserData letters) img left p h)) ∙ all

@@ -8,14 +8,18 @@ use Rattle.format.specs.Answers.{located, bytesRead}
 use Rattle.format.proofs.Located as located-type
 use Rattle.format.proofs.Located.Laws as located-type′
 use Rattle.opening.specs.Answers.{contents}
-use Rattle.opening.proofs.Passed.{struct-of, enum-of, the-bytes}
-use Rattle.opening.proofs.Promises.{address}
+use Rattle.format.proofs.SectorAddress as A
+use Rattle.format.proofs.SectorAddress.Laws as A′
+use Rattle.opening.proofs.Passed.{Kind, struct-of, enum-of, the-bytes}
 use Rattle.opening.proofs.Views.{Promise}
 use Rattle.sectors.specs.Found.{Known}
 use Rattle.sectors.proofs.Near as near
 use Rattle.sectors.proofs.Near.Laws as near′
 use Rattle.sectors.proofs.Visit as visit
 use Rattle.sectors.proofs.Visit.Laws as visit′
+
+abbrev pub address : Kind 0
+address = struct-of A.the-type A′.the-laws A′.lowers refl
 
 abbrev pub locate-near-promise : Promise
 locate-near-promise = record {

@@ -1,15 +1,15 @@
-// Internal: one sector of an opened image, checks 20 to 27 of document 01 in its order.
+// Internal: one sector of an opened image, checks 20 to 27 of document 01 in its order, and 73 of 11/13.
 //
 // Cost of finding one: at most one pass over the index, for the block's entry, and one over the block, for its checksum.
 ghost use mathlib.Core.Path.{_≡_};
-ghost use Prim.Native.Nat.{_+_, _*_, _/_, _≤_};
+ghost use Prim.Native.Nat.{_+_, _*_, _/_, _≤_, _<_};
 ghost use lib.ListN.{length};
 ghost use Rattle.format.specs.declared.Verdict.the-variants.{Passes};
 ghost use Rattle.format.specs.Tests.{same, differs, atLeast, _and_};
 ghost use Rattle.format.specs.Refusals.{refusal, row, accepted, answer};
 ghost use Rattle.format.specs.Layouts.{DBLK, indexOffset, indexHeaderLength, entryCount, entryLength, entriesFrom, entries, blockLength, sectorSize};
 ghost use Rattle.format.specs.Opening.{isUserData, offsetsOf, openVerdict, opening};
-ghost use Rattle.format.specs.Reading.{has, pointerAt, blockMalformed, blockVerdict, itemVerdict, pointerVerdict, sectorVerdict, placeOf, locate, read};
+ghost use Rattle.format.specs.Reading.{has, pointerAt, blockMalformed, blockVerdict, itemVerdict, pointerVerdict, sectorVerdict, addressVerdict, pointerOf, placeOf, locate, read};
 ghost use Rattle.format.specs.Facts.{BlockOk, ItemOk};
 ghost use Rattle.format.specs.Answers.{located, bytesRead};
 ghost use Rattle.opening.specs.Answers.{contents, held};
@@ -19,6 +19,7 @@ use fields::part;
 use fields::room;
 use format::ByteOffset;
 use format::Entry;
+use format::EntryNumber;
 use format::INDEX_OFFSET;
 use format::Located;
 use format::Place;
@@ -29,6 +30,7 @@ use format::Verdict;
 use index::entry;
 use index::is_user_data;
 use opening::Image;
+use opening::Numbered;
 use opening::Opened;
 
 // What finding a sector answers: its block and item.
@@ -165,7 +167,7 @@ fn item_verdict(s: &[u8], p: Pointer) -> Verdict
     }
     let block = place.0;
     let length = get(s, block + 16, 4);
-    if opening::sums_differ(
+    if tables::sums_differ(
         part(s, block + 36, length),
         get(s, block + 20, 8),
         get(s, block + 28, 8),
@@ -203,25 +205,41 @@ fn pointer_verdict(s: &[u8], place: ByteOffset, p: Pointer, known: ByteOffset) -
     Verdict::Refuses(Refusal { number: 22, place })
 }
 
-// The sector at address a of the image that opened as t: checks 20 to 27. Its table entry is read once; of the block that is known only the
+// The sector of table entry n of the image that opened as t: checks 21 to 27, 73. Its table entry is read once; of the block that is known only the
 // item's number is looked at.
-fn find(s: &[u8], t: Opened, a: SectorAddress, known: ByteOffset) -> Found
-    requires { ⌜ (opening (now s) ≡ accepted (contents t)) × Known (now s) (known .0) ⌝ }
-    ensures { λ r. ⌜ found r ≡ answer (sectorVerdict (now (s .entry)) (entries (now (s .entry)) (indexOffset (now (s .entry)))) (contents t) (a .0)) (pointerAt (now (s .entry)) (contents t) (a .0)) ⌝ }
+fn find(s: &[u8], t: Opened, n: EntryNumber, known: ByteOffset) -> Found
+    requires { ⌜ (opening (now s) ≡ accepted (contents t)) × (n .0 < contents t .count) × Known (now s) (known .0) ⌝ }
+    ensures { λ r. ⌜ found r ≡ answer (sectorVerdict (now (s .entry)) (entries (now (s .entry)) (indexOffset (now (s .entry)))) (contents t) (n .0)) (pointerAt (now (s .entry)) (contents t) (n .0)) ⌝ }
 {
     let place = ByteOffset(0);
-    if opening::count(t) <= a.0 {
-        return Found::Refused(Refusal { number: 20, place });
-    }
-    let p = opening::pointer_at(s, t, a);
-    if opening::encodes_nothing(p) {
+    let e = opening::table_entry(s, t, n);
+    if opening::is_unwritten(t, e) {
         return Found::Refused(Refusal { number: 21, place });
     }
-    let v = pointer_verdict(s, opening::entry_place(t, a), p, known);
+    if opening::is_unknown(t, e) {
+        return Found::Refused(Refusal { number: 73, place });
+    }
+    let p = opening::entry_decoded(t, e);
+    let v = pointer_verdict(s, opening::entry_place(t, n), p, known);
     if let Verdict::Refuses(r) = v {
         return Found::Refused(r);
     }
     Found::At(p)
+}
+
+// The sector at address a: check 20, and its table entry's.
+fn find_address(s: &[u8], t: Opened, a: SectorAddress, known: ByteOffset) -> Found
+    requires { ⌜ (opening (now s) ≡ accepted (contents t)) × Known (now s) (known .0) ⌝ }
+    ensures { λ r. ⌜ found r ≡ answer (addressVerdict (now (s .entry)) (entries (now (s .entry)) (indexOffset (now (s .entry)))) (contents t) (a .0)) (pointerOf (now (s .entry)) (contents t) (a .0)) ⌝ }
+{
+    let numbered = opening::entry_number(t, a);
+    match numbered {
+        Numbered::At(n) => find(s, t, n, known),
+        Numbered::Outside => Found::Refused(Refusal {
+            number: 20,
+            place: ByteOffset(0),
+        }),
+    }
 }
 
 // Where the item of p lies.
@@ -244,7 +262,7 @@ fn locate_near_at(s: &[u8], t: Opened, v: Visit) -> Near
     ensures { λ r. ⌜ (located (r .located) ≡ locate (now (s .entry)) (v .address .0)) × Known (now (s .entry)) (r .known .0) ⌝ }
 {
     let known = v.known;
-    let f = find(s, t, v.address, known);
+    let f = find_address(s, t, v.address, known);
     match f {
         Found::Refused(r) => Near {
             located: Located::Refused(r),

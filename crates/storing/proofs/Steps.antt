@@ -13,7 +13,7 @@ use lib.Seq.{length-take-le}
 use Rattle.fields.specs.Bytes.{part, overwrite}
 use Rattle.format.specs.declared.ItemNumber.{ItemNumber}
 use Rattle.format.specs.declared.Pointer.{Pointer}
-use Rattle.format.specs.declared.SectorAddress.{SectorAddress}
+use Rattle.format.specs.declared.EntryNumber.{EntryNumber}
 use Rattle.format.specs.Layouts.{blockHeaderLength, encode}
 use Rattle.format.specs.Refusals.{accepted}
 use Rattle.format.specs.Opening.{Opened, opening}
@@ -112,7 +112,7 @@ module _ {buf : List ℕ} {used : ℕ} {t : Opened} {sector : List ℕ} {n : ℕ
       }
 
   -- found on the disc; there the pointer is read
-  module _ {s s′ : List ℕ} {r : Address} {a : SectorAddress} (es : s ≡ part buf 0 used) (e : addressFound r ≡ onDisc s t sector) (q : r ≡ address.Is a)
+  module _ {s s′ : List ℕ} {r : Address} {a : EntryNumber} (es : s ≡ part buf 0 used) (e : addressFound r ≡ onDisc s t sector) (q : r ≡ address.Is a)
       (es′ : s′ ≡ part buf 0 used) where
     at-address : onDisc img t sector ≡ some (a .0)
     unfolding addressFound

@@ -3,21 +3,22 @@
 //
 // Cost: each handed-in sector is compared with the sectors of the disc and with those stored before it, up to the first that
 // is equal; else linear in what is read and written.
+ghost use mathlib.Core.Bool.{false};
 ghost use mathlib.Core.Path.{_≡_};
 ghost use Prim.Native.Nat.{_^_, _≤_, _<_};
 ghost use lib.ListN.{length};
 ghost use Rattle.format.specs.Layouts.{encode};
 ghost use Rattle.format.specs.Writing.{longestBuffer};
-ghost use Rattle.format.specs.Committing.{oldPointer};
+ghost use Rattle.format.specs.Committing.{anyOutside, entryNumbers, oldPointer};
 ghost use Rattle.opening.specs.Answers.{contents};
 ghost use Rattle.search.specs.Found.{Checked};
 ghost use Rattle.storing.specs.Stores.{Stores, stored};
 ghost use Rattle.storing.specs.Turns.{entryOf, Steps, Stepped, Turns, Turned};
 use fields::part;
 use format::ByteOffset;
+use format::EntryNumber;
 use format::ItemNumber;
 use format::Pointer;
-use format::SectorAddress;
 use opening::Opened;
 use search::Address;
 use search::Item;
@@ -81,7 +82,7 @@ fn store(buf: &mut [u8], used: u64, t: Opened, sector: &[u8], stored: u64) -> Ha
 }
 
 // The entry of an address that is not in the list: what it was, encoded anew.
-fn old_entry(s: &[u8], t: Opened, a: SectorAddress, shift: u64) -> u64
+fn old_entry(s: &[u8], t: Opened, a: EntryNumber, shift: u64) -> u64
     requires { ⌜ Checked (now s) (contents t) × (length (now s) ≤ longestBuffer) × (a .0 < contents t .count) × (shift ≤ 32) ⌝ }
     ensures { λ r. ⌜ r ≡ entryOf shift (oldPointer (now (s .entry)) (contents t) (a .0)) ⌝ }
 {
@@ -96,18 +97,18 @@ fn next_entry(
     buf: &mut [u8],
     used: u64,
     t: Opened,
-    addresses: &[u64],
+    addresses: &[i64],
     size: u64,
     sectors: &[u8],
     shift: u64,
     k: usize,
-    a: SectorAddress,
+    a: EntryNumber,
     stored: u64,
 ) -> Next
-    requires { ⌜ Turns (now buf) used (contents t) (now addresses) size (now sectors) shift k (a .0) stored ⌝ }
-    ensures { λ r. ⌜ Turned (now (buf .entry)) (now (buf .exit)) used (contents t) (now (addresses .entry)) size (now (sectors .entry)) shift k (a .0) stored r ⌝ }
+    requires { ⌜ Turns (now buf) used (contents t) (entryNumbers (contents t) (now addresses)) size (now sectors) shift k (a .0) stored × (anyOutside (contents t) (now addresses) ≡ false) ⌝ }
+    ensures { λ r. ⌜ Turned (now (buf .entry)) (now (buf .exit)) used (contents t) (entryNumbers (contents t) (now (addresses .entry))) size (now (sectors .entry)) shift k (a .0) stored r ⌝ }
 {
-    if planning::is_next(addresses, k, a) {
+    if planning::is_next(t, addresses, k, a) {
         let handed = k as u64;
         let step = store(buf, used, t, part(sectors, handed * size, size), stored);
         return Next {
@@ -128,14 +129,14 @@ pub fn put_entries(
     buf: &mut [u8],
     used: u64,
     t: Opened,
-    addresses: &[u64],
+    addresses: &[i64],
     size: u64,
     sectors: &[u8],
     at: ByteOffset,
     shift: u64,
 )
-    requires { ⌜ Stores (now buf) used (contents t) (now addresses) size (now sectors) (at .0) shift ⌝ }
-    ensures { λ _. ⌜ now (buf .exit) ≡ stored (now (buf .entry)) used (contents t) (now (addresses .entry)) size (now (sectors .entry)) (at .0) shift ⌝ }
+    requires { ⌜ Stores (now buf) used (contents t) (entryNumbers (contents t) (now addresses)) size (now sectors) (at .0) shift × (anyOutside (contents t) (now addresses) ≡ false) ⌝ }
+    ensures { λ _. ⌜ now (buf .exit) ≡ stored (now (buf .entry)) used (contents t) (entryNumbers (contents t) (now (addresses .entry))) size (now (sectors .entry)) (at .0) shift ⌝ }
 {
     let count = opening::count(t);
     let mut stored: u64 = 0;
@@ -152,7 +153,7 @@ pub fn put_entries(
             sectors,
             shift,
             k,
-            SectorAddress(a),
+            EntryNumber(a),
             stored,
         );
         fields::put(buf, at.0 + 8 * a, 8, n.entry);

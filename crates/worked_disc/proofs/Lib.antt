@@ -1,1 +1,2 @@
 mod WorkedDisc
+mod SecondDisc

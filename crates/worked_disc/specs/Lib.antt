@@ -1,1 +1,2 @@
 pub mod WorkedDisc
+pub mod SecondDisc

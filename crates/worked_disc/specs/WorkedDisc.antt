@@ -3,6 +3,7 @@ use mathlib.Core.Bool.{Bool, false}
 use mathlib.Core.List.{List, [], _∷_, _++_, map}
 use Prim.Native.Nat.{ℕ}
 use lib.ListN.{length, take, replicate}
+use lib.IntN.{pos}
 use Rattle.crc64.specs.Crc.{crcOf}
 use Rattle.fields.specs.Bytes.{part, field, toLe, overwrite, equal}
 use Rattle.format.specs.declared.Place.{Place}
@@ -44,10 +45,10 @@ hasTable img place shift es =
     same (t .table) place and same (t .shift) shift and same (t .count) 3
     and equal (tableEntry img t 0 ∷ tableEntry img t 1 ∷ tableEntry img t 2 ∷ []) es
 
-abbrev AAAA : List ℕ
+abbrev pub AAAA : List ℕ
 AAAA = ascii "AAAA"
 
-abbrev BBBB : List ℕ
+abbrev pub BBBB : List ℕ
 BBBB = ascii "BBBB"
 
 abbrev threeEntries : ℕ → ℕ → ℕ → List ℕ
@@ -67,10 +68,10 @@ workedDisc =
     let p1 = create (replicate 700 238) 3 (replicate 64 7) 1 2 3 4 5 in
     let b1 = p1 .buffer in
     let i1 = take 213 b1 in
-    let p2 = commit b1 213 (0 ∷ 2 ∷ []) 4 (AAAA ++ BBBB) 6 in
+    let p2 = commit b1 213 (pos 0 ∷ pos 2 ∷ []) 4 (AAAA ++ BBBB) 6 in
     let b2 = p2 .buffer in
     let i2 = take 382 b2 in
-    let p3 = commit b2 382 (1 ∷ []) 4 AAAA 7 in
+    let p3 = commit b2 382 (pos 1 ∷ []) 4 AAAA 7 in
     let b3 = p3 .buffer in
     let i3 = take 507 b3 in
     let p4 = rollback b3 507 330 8 in
@@ -78,7 +79,7 @@ workedDisc =
     let i4 = take 507 b4 in
     let p5 = rollback b4 507 455 9 in
     let i5 = take 507 (p5 .buffer) in
-    let p6 = commit b4 507 (1 ∷ []) 4 BBBB 10 in
+    let p6 = commit b4 507 (pos 1 ∷ []) 4 BBBB 10 in
     let i6 = take 632 (p6 .buffer) in
     let p7 = commit b1 213 [] 4 [] 11 in
     let i7 = take 322 (p7 .buffer) in
@@ -88,10 +89,10 @@ workedDisc =
     ∷ leaves 382 330 (p2 .result) ∷ hasTable i2 257 1 (426 ∷ 0 ∷ 427 ∷ []) ∷ equal (part i2 213 4) DBLK
     -- P3: "Then commit address 1 "AAAA": no block", table 382, index 455, used 507, entries 426, 426, 427. And the listing's lines
     ∷ leaves 507 455 (p3 .result) ∷ hasTable i3 382 1 (426 ∷ 426 ∷ 427 ∷ [])
-    ∷ liesAt 249 4 (locate i3 0) ∷ liesAt 249 4 (locate i3 1) ∷ liesAt 253 4 (locate i3 2)
+    ∷ liesAt 249 4 (locate i3 (pos 0)) ∷ liesAt 249 4 (locate i3 (pos 1)) ∷ liesAt 253 4 (locate i3 (pos 2))
     -- P4: roll back to 330: "address 1 is 21", which has no place; used stays 507. P5: back to 455: "address 1 reads "AAAA"", at 249
-    ∷ leaves 507 330 (p4 .result) ∷ refusedWith 21 0 (read i4 1)
-    ∷ leaves 507 455 (p5 .result) ∷ gives AAAA (read i5 1) ∷ liesAt 249 4 (locate i5 1)
+    ∷ leaves 507 330 (p4 .result) ∷ refusedWith 21 0 (read i4 (pos 1))
+    ∷ leaves 507 455 (p5 .result) ∷ gives AAAA (read i5 (pos 1)) ∷ liesAt 249 4 (locate i5 (pos 1))
     -- P6: "After P4, commit 1 "BBBB"": table 507, index 580, used 632, entries 426, 427, 427
     ∷ leaves 632 580 (p6 .result) ∷ hasTable i6 507 1 (426 ∷ 427 ∷ 427 ∷ [])
     -- P7: "Empty commit after P1": table 213, index 286, used 322
@@ -104,9 +105,9 @@ workedDisc =
     ∷ refusedWith 4 194 (opening (overwrite i1 80 (toLe 8 194))) ∷ refusedWith 4 103 (opening (overwrite i1 80 (toLe 8 103)))
     ∷ refusedWith 5 193 (opening (overwrite i1 80 (toLe 8 193)))
     -- P10: "In P2's block both lengths", the fields at 225 and 229, "4,294,967,292: 23 for address 0 (a 32-bit sum gives" 245). At the block
-    ∷ refusedWith 23 213 (read (overwrite i2 225 (toLe 4 4294967292 ++ toLe 4 4294967292)) 0)
+    ∷ refusedWith 23 213 (read (overwrite i2 225 (toLe 4 4294967292 ++ toLe 4 4294967292)) (pos 0))
     -- P11: "Checksum of no bytes is 0." P12: "0x8003 with shift 5 is offset 1024, item 3."
-    ∷ same (crcOf []) 0 ∷ same (decode 5 0x8003 .block .0) 1024 ∷ same (decode 5 0x8003 .item .0) 3
+    ∷ same (crcOf []) 0 ∷ same (decode 5 0 0x8003 .block .0) 1024 ∷ same (decode 5 0 0x8003 .item .0) 3
     -- beyond the P cases: the lowest offset passes check 4 (a table is there, no index); the short header is not kept
     ∷ refusedWith 5 104 (opening (overwrite i1 80 (toLe 8 104))) ∷ same (length shortP3) 475 ∷ refusedWith 3 0 (opening shortP3)
     -- and the header as creating (times 4 and 5), a commit (6) and a rollback (8) leave it

@@ -16,7 +16,7 @@ pub const SIZES: [usize; 8] = [1, 2, 3, 4, 4, 5, 8, 16];
 
 /// A commit that an image with this many sectors accepts, if its sectors read.
 pub fn commit(random: &mut Random, count: usize) -> Commit {
-    let addresses: Vec<u64> = (0..count as u64).filter(|_| random.once_in(2)).collect();
+    let addresses: Vec<i64> = (0..count as i64).filter(|_| random.once_in(2)).collect();
     let size = random.pick(&SIZES);
     Commit {
         sectors: (0..addresses.len())

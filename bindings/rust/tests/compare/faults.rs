@@ -20,14 +20,14 @@ pub enum Edit {
     Damage(usize, usize, u64),
     Used(u64),
     BufferLength(usize),
-    Address(u64),
+    Address(i64),
     Offset(u64),
     Sectors(u64),
     ApplicationLength(usize),
     Size(u64),
     BytesLength(usize),
-    FirstAddress(u64),
-    LastAddress(u64),
+    FirstAddress(i64),
+    LastAddress(i64),
     AddressCount(usize),
 }
 use Edit::*;
@@ -64,7 +64,7 @@ impl Edit {
                 *commit.addresses.last_mut().unwrap() = new;
             }
             (AddressCount(new), Call::Commit(commit)) => {
-                commit.addresses = (0..new as u64).collect();
+                commit.addresses = (0..new as i64).collect();
                 commit.sectors.resize(new * commit.size as usize, 7);
             }
             _ => {}
@@ -222,7 +222,7 @@ pub fn block_lengths(block: usize, length: u64) -> Fault {
 }
 
 /// Faults that a read of this address meets after the opening.
-pub fn of_reading(image: &[u8], layout: &Layout, address: u64) -> Vec<Fault> {
+pub fn of_reading(image: &[u8], layout: &Layout, address: i64) -> Vec<Fault> {
     let table_entry = layout.table_entry(address as usize);
     let pointer = get(image, table_entry, 8);
     let block = (pointer >> layout.shift) as usize;
@@ -263,8 +263,8 @@ pub fn of_reading(image: &[u8], layout: &Layout, address: u64) -> Vec<Fault> {
 }
 
 /// Up to two addresses whose sectors lie in different blocks.
-pub fn read_addresses(image: &[u8], layout: &Layout) -> Vec<u64> {
-    let mut addresses: Vec<u64> = (0..layout.blocks.len())
+pub fn read_addresses(image: &[u8], layout: &Layout) -> Vec<i64> {
+    let mut addresses: Vec<i64> = (0..layout.blocks.len())
         .filter_map(|block| addresses_in(image, layout, block).first().copied())
         .collect();
     addresses.sort();

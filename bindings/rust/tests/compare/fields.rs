@@ -47,9 +47,9 @@ fn one_image(sides: &mut Sides, image: &[u8], random: &mut Random) {
 }
 
 /// Addresses that a damaged record concerns.
-fn concerned(image: &[u8], layout: &Layout, record: Record) -> Vec<u64> {
+fn concerned(image: &[u8], layout: &Layout, record: Record) -> Vec<i64> {
     match record {
-        Record::TableEntry(address) => vec![address as u64],
+        Record::TableEntry(address) => vec![address as i64],
         Record::Block(block) => addresses_in(image, layout, block),
         _ => vec![0],
     }
@@ -118,7 +118,7 @@ fn every_call(
     sides: &mut Sides,
     input: &Input,
     layout: &Layout,
-    addresses: &[u64],
+    addresses: &[i64],
     random: &mut Random,
 ) {
     let mut run = |call| sides.compare(&input.buffer, input.used, &call);
@@ -126,10 +126,10 @@ fn every_call(
     for &address in addresses.iter().take(2) {
         run(Call::Locate(address));
     }
-    let count = layout.count as u64;
-    let beyond = [count, count + 1, 1 << 32, 1 << 63, u64::MAX];
+    let count = layout.count as i64;
+    let beyond = [count, count + 1, 1 << 32, i64::MAX, -1, i64::MIN];
     run(Call::Locate(match random.below(2) {
-        0 => random.below(layout.count) as u64,
+        0 => random.below(layout.count) as i64,
         _ => random.pick(&beyond),
     }));
     run(Call::Commit(arguments::commit(random, layout.count)));

@@ -12,8 +12,9 @@ use aaru::Refusal;
 type Reading = Vec<Result<Vec<u8>, Refusal>>;
 
 fn reading(image: &[u8]) -> Reading {
-    let count = aaru::open(image).expect("a disc of a history opens");
-    let beyond = [count, count + 1, 1 << 32, 1 << 63, u64::MAX];
+    let count = aaru::sector_count(image).expect("a disc of a history opens").count;
+    let count = count as i64;
+    let beyond = [count, count + 1, 1 << 32, i64::MAX, -1, i64::MIN];
     let read = |address| aaru::read(image, address).map(|sector| sector.bytes.to_vec());
     (0..count).chain(beyond).map(read).collect()
 }
@@ -70,7 +71,7 @@ fn start(sides: &mut Sides, buffer: Vec<u8>, used: u64, index: u64) -> History<'
         sides,
         used,
         points: vec![(index, now.clone())],
-        count: aaru::open(&buffer[..used as usize]).unwrap() as usize,
+        count: aaru::sector_count(&buffer[..used as usize]).unwrap().count as usize,
         buffer,
         now,
     }
@@ -155,11 +156,11 @@ impl History<'_> {
         match random.below(5) {
             0 => commit.size = random.pick(&[0, 65_537, 1 << 32, u64::MAX]),
             1 => commit.sectors.push(0),
-            2 => commit.addresses.insert(0, self.count as u64),
+            2 => commit.addresses.insert(0, self.count as i64),
             3 => commit.addresses = vec![0, 0],
-            _ => commit.addresses = vec![self.count as u64],
+            _ => commit.addresses = vec![self.count as i64],
         }
-        if commit.addresses.contains(&(self.count as u64)) {
+        if commit.addresses.contains(&(self.count as i64)) {
             commit.sectors.resize(size * commit.addresses.len(), 1);
         }
         assert!(self.call(&Call::Commit(commit)).is_err());

@@ -253,10 +253,10 @@ pub fn base(number: usize, random: &mut Random) -> Vec<u8> {
 }
 
 /// The addresses whose table entries name a block.
-pub fn addresses_in(image: &[u8], layout: &Layout, block: usize) -> Vec<u64> {
+pub fn addresses_in(image: &[u8], layout: &Layout, block: usize) -> Vec<i64> {
     let named = |address| get(image, layout.table_entry(address), 8) >> layout.shift;
     (0..layout.count)
         .filter(|&address| named(address) == layout.blocks[block] as u64)
-        .map(|address| address as u64)
+        .map(|address| address as i64)
         .collect()
 }

@@ -272,8 +272,8 @@ fn open_table(image: &[u8], offset: u64) -> Result<(&[u8], u64, u64), Refusal> {
 // Reading a sector.
 
 /// Reads a sector: the place of its first byte in the image, and its size.
-pub fn locate(image: &[u8], address: u64) -> Result<(u64, u64), Refusal> {
-    read(&open_disc(image)?, address, &mut BTreeMap::new())
+pub fn locate(image: &[u8], address: i64) -> Result<(u64, u64), Refusal> {
+    read(&open_disc(image)?, address as u64, &mut BTreeMap::new())
 }
 
 /// What the table holds for an address below the count.
@@ -370,7 +370,7 @@ pub fn create(buffer: &mut [u8], creation: &Creation) -> Result<(u64, u64), Refu
 pub fn commit(
     buffer: &mut [u8],
     used: u64,
-    addresses: &[u64],
+    addresses: &[i64],
     size: u64,
     sectors: &[u8],
     time: u64,
@@ -386,7 +386,7 @@ pub fn commit(
         return Err(refusal(34));
     }
     let disc = open_disc(image)?;
-    if addresses.iter().any(|&address| address >= disc.count) {
+    if addresses.iter().any(|&address| address as u64 >= disc.count) {
         return Err(refusal(20));
     }
     let old = old_sectors(&disc)?;
@@ -641,7 +641,7 @@ mod tests {
         )
     }
 
-    fn sector(image: &[u8], address: u64) -> Result<&[u8], Refusal> {
+    fn sector(image: &[u8], address: i64) -> Result<&[u8], Refusal> {
         let (place, size) = locate(image, address)?;
         Ok(&image[place as usize..(place + size) as usize])
     }
@@ -819,7 +819,7 @@ mod tests {
 
     #[test]
     fn refused_addresses() {
-        let cases: [(&[u64], u32); 3] = [(&[1, 1], 34), (&[2, 1], 34), (&[1, 3], 20)];
+        let cases: [(&[i64], u32); 3] = [(&[1, 1], 34), (&[2, 1], 34), (&[1, 3], 20)];
         for (addresses, number) in cases {
             let mut buffer = p2();
             let result = commit(&mut buffer, 382, addresses, 4, b"CCCCDDDD", 8);

@@ -43,7 +43,7 @@ fn most_sectors(sides: &mut Sides, random: &mut Random) {
     let more = Call::Create(arguments::create(random, most + 1));
     assert_eq!(sides.run(&buffer, 0, &more), refused(30));
     let commit = Call::Commit(Commit {
-        addresses: vec![0, 77, most - 1],
+        addresses: vec![0, 77, most as i64 - 1],
         size: 3,
         sectors: b"AAABBBAAA".to_vec(),
         time: 1,
@@ -89,11 +89,11 @@ fn most_addresses(sides: &mut Sides, random: &mut Random) {
     };
     let answer = sides.run_on(&mut buffer, used, &Call::Commit(commit.clone()));
     let (used, _) = answer.expect("room enough");
-    commit.addresses = (0..most).collect();
+    commit.addresses = (0..most as i64).collect();
     commit.sectors = vec![b'A'; most as usize];
     let call = Call::Commit(commit.clone());
     assert!(sides.run(&buffer, used, &call).is_ok());
-    commit.addresses.push(most);
+    commit.addresses.push(most as i64);
     commit.sectors.push(b'A');
     assert_eq!(sides.run(&buffer, used, &Call::Commit(commit)), refused(30));
 }

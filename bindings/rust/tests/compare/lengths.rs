@@ -32,7 +32,7 @@ fn cut_everywhere(sides: &mut Sides, image: &[u8], random: &mut Random) {
     for used in 0..=image.len() as u64 {
         sides.compare(&buffer, used, &Call::Open);
         for _ in 0..2 {
-            let address = random.below(layout.count + 1) as u64;
+            let address = random.below(layout.count + 1) as i64;
             sides.compare(&buffer, used, &Call::Locate(address));
         }
         sides.compare(&buffer, used, &commit);
@@ -74,7 +74,7 @@ fn built_images(sides: &mut Sides, random: &mut Random) {
         sides
             .run(&buffer, used, &Call::Open)
             .expect("it is well built");
-        for address in 0..=layout.count as u64 {
+        for address in 0..=layout.count as i64 {
             sides.compare(&buffer, used, &Call::Locate(address));
         }
         let commit = Call::Commit(arguments::commit(random, layout.count));

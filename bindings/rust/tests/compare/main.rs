@@ -76,7 +76,9 @@ fn null_pointers_to_nothing() {
     let mut places = [7; 5];
     // SAFETY: the pointers that are not null are valid for their lengths, and apart from each other.
     unsafe {
-        assert_eq!(aaru_open(nothing.0, 0, &mut a, &mut places[0]), 1);
+        let mut lowest = 0;
+        let count = aaru_sector_count(nothing.0, 0, &mut a, &mut lowest, &mut places[0]);
+        assert_eq!(count, 1);
         let locate = aaru_locate(nothing.0, 0, 0, &mut a, &mut b, &mut places[1]);
         assert_eq!(locate, 1);
         let create = aaru_create(

@@ -83,7 +83,7 @@ fn open(sides: &mut Sides, image: &[u8], layout: &Layout, random: &mut Random) {
 }
 
 fn locate(sides: &mut Sides, image: &[u8], layout: &Layout, random: &mut Random) {
-    let count = layout.count as u64;
+    let count = layout.count as i64;
     let address = random.pick(&faults::read_addresses(image, layout));
     let base = Input {
         buffer: image.to_vec(),
@@ -93,7 +93,7 @@ fn locate(sides: &mut Sides, image: &[u8], layout: &Layout, random: &mut Random)
     let mut faults = faults::of_opening(image, layout);
     faults.extend(faults::of_reading(image, layout, address));
     faults.extend((0..=count).map(|address| vec![Address(address)]));
-    faults.push(vec![Address(u64::MAX)]);
+    faults.push(vec![Address(-1)]);
     pairs(sides, &base, layout, faults, random);
 }
 
@@ -128,8 +128,8 @@ fn commit(sides: &mut Sides, image: &[u8], layout: &Layout, random: &mut Random)
         vec![BytesLength(bytes - commit.size as usize)],
         vec![FirstAddress(second)],
         vec![FirstAddress(second + 1)],
-        vec![LastAddress(layout.count as u64)],
-        vec![LastAddress(u64::MAX)],
+        vec![LastAddress(layout.count as i64)],
+        vec![LastAddress(i64::MAX)],
         vec![BufferLength(needed as usize - 1)],
         vec![BufferLength(image.len())],
     ]);

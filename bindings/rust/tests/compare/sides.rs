@@ -11,7 +11,7 @@ use aaru::{ffi, Creation, Placed, Refusal};
 #[derive(Clone, Debug)]
 pub enum Call {
     Open,
-    Locate(u64),
+    Locate(i64),
     Create(Create),
     Commit(Commit),
     Rollback { offset: u64, time: u64 },
@@ -30,7 +30,7 @@ pub struct Create {
 
 #[derive(Clone, Debug)]
 pub struct Commit {
-    pub addresses: Vec<u64>,
+    pub addresses: Vec<i64>,
     pub size: u64,
     pub sectors: Vec<u8>,
     pub time: u64,
@@ -67,7 +67,7 @@ impl Call {
     }
 }
 
-/// Count and 0, start and size, or `used` and index offset; or the refusal.
+/// Count and lowest address, start and size, or `used` and index offset; or the refusal.
 pub type Answer = Result<(u64, u64), Refusal>;
 
 /// The answer where the refusal is about no record of the image.
@@ -88,7 +88,18 @@ pub fn raw(buffer: &mut [u8], used: u64, call: &Call) -> Answer {
     // SAFETY: all slices are valid for their lengths, and the buffer is borrowed alone.
     let number = unsafe {
         match call {
-            Call::Open => ffi::aaru_open(start, used as usize, &mut first, &mut place),
+            Call::Open => {
+                let mut lowest = second as i64;
+                let number = ffi::aaru_sector_count(
+                    start,
+                    used as usize,
+                    &mut first,
+                    &mut lowest,
+                    &mut place,
+                );
+                second = lowest as u64;
+                number
+            }
             Call::Locate(address) => ffi::aaru_locate(
                 start,
                 used as usize,
@@ -143,17 +154,14 @@ pub fn raw(buffer: &mut [u8], used: u64, call: &Call) -> Answer {
         return Err(Refusal { number, place });
     }
     assert_eq!(place, UNPLACED, "accepted, but placed");
-    match call {
-        Call::Open => Ok((first, 0)),
-        _ => Ok((first, second)),
-    }
+    Ok((first, second))
 }
 
 /// The safe wrapper's call.
 pub fn safe(buffer: &mut [u8], used: u64, call: &Call) -> Answer {
     let pair = |placed: Placed| (placed.used, placed.index);
     match call {
-        Call::Open => aaru::open(&buffer[..used as usize]).map(|count| (count, 0)),
+        Call::Open => aaru::sector_count(&buffer[..used as usize]).map(|s| (s.count, s.lowest as u64)),
         Call::Locate(address) => {
             let image = &buffer[..used as usize];
             aaru::read(image, *address).map(|sector| {
@@ -313,15 +321,16 @@ fn telling(image: &[u8], call: &Call, Refusal { number, place }: Refusal) -> boo
 }
 
 /// Every address of a small disc, some of a large one, and some that no disc has.
-fn addresses_to_read(count: u64, random: &mut Random) -> Vec<u64> {
-    let mut addresses = match count {
+fn addresses_to_read(count: u64, random: &mut Random) -> Vec<i64> {
+    let count = count as i64;
+    let mut addresses: Vec<i64> = match count {
         0..=256 => (0..count).collect(),
         257..=4096 => {
-            let any = (0..64).map(|_| random.number() % count);
+            let any = (0..64).map(|_| random.number() as i64 & i64::MAX).map(|n| n % count);
             (0..64).chain(count - 64..count).chain(any).collect()
         }
         _ => vec![0, count / 2, count - 1],
     };
-    addresses.extend([count, count + 1, 1 << 32, 1 << 63, u64::MAX]);
+    addresses.extend([count, count + 1, 1 << 32, i64::MAX, -1, i64::MIN]);
     addresses
 }

@@ -113,7 +113,7 @@ fn longest(sides: &mut Sides, mut buffers: [&mut [u8]; 3], random: &mut Random) 
         let answer = on_each(&mut buffers, used, &call);
         sides.tally.count(call.column(), answer);
         if let Ok((used, _)) = answer {
-            for address in 0..=SECTORS {
+            for address in 0..=SECTORS as i64 {
                 on_each(&mut buffers, used, &Call::Locate(address)).ok();
             }
         }
@@ -164,7 +164,7 @@ fn on_each([first, second, third]: &mut [&mut [u8]; 3], used: u64, call: &Call) 
 /// is enough for all sides: there is no room to commit, and a rollback writes the same again.
 fn far_behind(sides: &mut Sides, buffer: &mut [u8], random: &mut Random) {
     let layout = build_far_behind(buffer, random);
-    for address in 0..=layout.count as u64 {
+    for address in 0..=layout.count as i64 {
         let answer = on_one(sides, buffer, &Call::Locate(address));
         assert!(answer.is_ok() || [refused(20), refused(21)].contains(&answer));
     }

@@ -6,6 +6,7 @@ use denote.Ref.{now}
 use Rattle.fields.specs.Bytes.{part}
 use Rattle.format.specs.declared.Verdict.the-variants.{Passes}
 use Rattle.format.specs.Opening.{opening}
+use Rattle.format.specs.Writing.{writableVerdict}
 use Rattle.format.specs.Committing.{argumentsVerdict, discVerdict, commitVerdict, append, commit}
 use Rattle.format.proofs.Refusals.{answer-refused}
 use Rattle.format.proofs.Checks.{arguments-ok}
@@ -15,7 +16,7 @@ use Rattle.opening.specs.Answers.{outcome}
 use Rattle.aaru.proofs.commit.Statement.{statement}
 use Rattle.aaru.proofs.commit.Tie as tie
 
-passes : (c : tie.After-enum-told) → let a = c .before .before .before .before .before .before .before .args in Passes ≡ argumentsVerdict (now (a .buffer)) (a .used) (now (a .addresses)) (a .size) (now (a .sectors))
+passes : (c : tie.After-enum-told) → let a = c .before .before .before .before .before .before .args in Passes ≡ argumentsVerdict (now (a .buffer)) (a .used) (now (a .addresses)) (a .size) (now (a .sectors))
 passes c = by (c .enum-told .given .1) (c .before .before .commit-verdict .ensures)
 
 returns : tie.Need-returns
@@ -33,11 +34,11 @@ commit-requires c κs = (
 )
 
 returns-2 : tie.Need-returns-2
-unfolding commit append commitVerdict discVerdict opening outcome part
+unfolding commit append commitVerdict discVerdict writableVerdict opening outcome part
 returns-2 c =
     outcome-stops _ _ _
     (goes (passes (c .before .before .before .before .before .before))
-    (stops _ (stops _ (rw (c .before .before .before .before .part .ensures) at (sym (answer-refused _ _ _ (sym (ap outcome (sym (c .before .opened .given .1)) ∙ c .before .before .before .«open» .ensures))))))))
+    (stops _ (stops _ (stops _ (rw (c .before .before .before .before .part .ensures) at (sym (answer-refused _ _ _ (sym (ap outcome (sym (c .before .opened .given .1)) ∙ c .before .before .before .«open» .ensures)))))))))
 
 pub commit-spec : {M : Type 1} → statement M
 commit-spec =

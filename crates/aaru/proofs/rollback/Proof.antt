@@ -6,10 +6,9 @@ use denote.Ref.{now}
 use lib.ListN.{take, length-take}
 use Rattle.fields.specs.Bytes.{part}
 use Rattle.format.specs.declared.Verdict.the-variants.{Passes}
-use Rattle.format.specs.Opening.{openVerdict}
-use Rattle.format.specs.Writing.{bufferVerdict}
+use Rattle.format.specs.Writing.{bufferVerdict, writableVerdict}
 use Rattle.format.specs.RollingBack.{rollbackVerdict, rollback}
-use Rattle.format.proofs.Checks.{buffer-ok, open-ok}
+use Rattle.format.proofs.Checks.{buffer-ok, writable-ok}
 use Rattle.format.proofs.Chains.{stops, goes, by}
 use Rattle.format.proofs.Answers.{outcome-stops, outcome-done}
 use Rattle.aaru.proofs.rollback.Statement.{statement}
@@ -18,9 +17,9 @@ use Rattle.aaru.proofs.rollback.Tie as tie
 buffer-passes : (c : tie.After-enum-told) → let a = c .before .before .before .before .before .args in Passes ≡ bufferVerdict (now (a .buffer)) (a .used)
 buffer-passes c = by (c .enum-told .given .1) (c .before .before .buffer-verdict .ensures)
 
-image-passes : (c : tie.After-enum-told2) → let a = c .before .before .before .before .before .before .before .before .before .before .args in Passes ≡ openVerdict (take (a .used) (now (a .buffer))) (a .offset .0)
+image-passes : (c : tie.After-enum-told2) → let a = c .before .before .before .before .before .before .before .before .before .before .args in Passes ≡ writableVerdict (take (a .used) (now (a .buffer))) (a .offset .0)
 unfolding part
-image-passes c = rw (c .before .before .before .part .ensures) at (by (c .enum-told2 .given .1) (c .before .before .open-verdict .ensures))
+image-passes c = rw (c .before .before .before .part .ensures) at (by (c .enum-told2 .given .1) (c .before .before .writable-verdict .ensures))
 
 returns : tie.Need-returns
 unfolding rollback rollbackVerdict
@@ -34,11 +33,11 @@ unfolding rollback rollbackVerdict part
 returns-2 c =
     outcome-stops _ _ _
     (goes (buffer-passes (c .before .before .before .before .before .before))
-    (rw (c .before .before .before .before .part .ensures) at (by (c .before .w .given .1) (c .before .before .before .open-verdict .ensures))))
+    (rw (c .before .before .before .before .part .ensures) at (by (c .before .w .given .1) (c .before .before .before .writable-verdict .ensures))))
 
 set-header-requires : tie.Need-set-header-requires
 set-header-requires c κs =
-    let k = open-ok _ _ .0 (sym (image-passes (c .before))) .header .long in
+    let k = writable-ok _ _ .0 (sym (image-passes (c .before))) .opens .header .long in
     omega (arith, rw length-take at k)
 
 returns-3 : tie.Need-returns-3

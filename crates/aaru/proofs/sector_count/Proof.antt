@@ -15,7 +15,7 @@ returns c = count-refused _ _ (ap outcome (sym (c .before .opened .given .1)) �
 returns-2 : tie.Need-returns-2
 unfolding counted outcome
 returns-2 c =
-    ap accepted (c .count .ensures)
+    ap accepted (c .range .ensures .0)
     ∙ count-opened _ _ (ap outcome (sym (c .before .before .opened2 .given .1)) ∙ c .before .before .before .before .«open» .ensures)
 
 pub sector-count-spec : {M : Type 1} → statement M

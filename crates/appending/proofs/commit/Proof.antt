@@ -11,16 +11,16 @@ use Rattle.appending.proofs.commit.Statement.{statement}
 use Rattle.appending.proofs.commit.Tie as tie
 
 part-requires : tie.Need-part-requires
-part-requires c κs = omega (arith, arguments-ok _ _ _ _ _ .0 (c .before .before .before .before .pre .0) .bufferOk .inside)
+part-requires c κs = omega (arith, arguments-ok _ _ _ _ _ .0 (c .before .before .before .pre .0) .bufferOk .inside)
 
 disc-verdict-of-requires : tie.Need-disc-verdict-of-requires
 unfolding part
-disc-verdict-of-requires c κs = rw (c .part .ensures) (c .before .before .before .before .before .pre .1)
+disc-verdict-of-requires c κs = rw (c .part .ensures) (c .before .before .before .before .pre .1)
 
 returns : tie.Need-returns
 unfolding commit append commitVerdict part
 returns c =
-    let p = c .before .before .before .before .before .before .before .before .before .pre in
+    let p = c .before .before .before .before .before .before .before .before .pre in
     outcome-stops _ _ _
     (goes (sym (p .0))
     (stops _ (rw (c .before .before .before .before .part .ensures) at (by (c .before .v .given .1) (c .before .before .before .disc-verdict-of .ensures)))))
@@ -28,7 +28,7 @@ returns c =
 append-requires : tie.Need-append-requires
 unfolding part
 append-requires c κs =
-    let p = c .before .before .before .before .before .before .before .before .before .pre in
+    let p = c .before .before .before .before .before .before .before .before .pre in
     record {
       arguments = p .0;
       opens = p .1;

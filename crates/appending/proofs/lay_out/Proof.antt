@@ -1,10 +1,11 @@
 -- `appending::lay_out` meets its contract. Assumes nothing.
 use native.Mathlib.Omega.{arith}
 use borrow.Author.Needs.{needs}
-use Prim.Native.Nat.{_*_, _≤_}
+use Prim.Native.Nat.{_+_, _*_, _≤_}
 use denote.Ref.{now}
 use lib.ListN.{length}
 use Rattle.format.specs.Layouts.{indexOffset, entryLength}
+use Rattle.opening.specs.Answers.{contents}
 use Rattle.opening.proofs.Accepted.{opens, table-inside}
 use Rattle.appending.proofs.Appended.{kept-few, layout-is}
 use Rattle.appending.proofs.lay_out.Statement.{statement}
@@ -17,14 +18,17 @@ count-kept-requires : tie.Need-count-kept-requires
 unfolding indexOffset
 count-kept-requires c κs = rw (c .get .ensures) (opens _ _ (c .before .before .pre .0) .index .fits)
 
+inside : (c : tie.Start) → contents (c .args .t) .table + 49 + 8 * contents (c .args .t) .count ≤ length (now (c .args .s))
+inside c = rw (c .pre .4) at (table-inside _ _ (c .pre .0))
+
 mul-index : tie.Need-mul-index
-mul-index c = omega (arith, table-inside _ _ (c .before .before .before .before .before .pre .0))
+mul-index c = omega (arith, inside (c .before .before .before .before .before))
 
 add-index : tie.Need-add-index
-add-index c = omega (arith, table-inside _ _ (c .before .before .before .before .before .pre .0))
+add-index c = omega (arith, inside (c .before .before .before .before .before))
 
 add-index-2 : tie.Need-add-index-2
-add-index-2 c = omega (arith, table-inside _ _ (c .before .before .before .before .before .pre .0))
+add-index-2 c = omega (arith, inside (c .before .before .before .before .before))
 
 -- the entries that are kept are no longer than the image
 kept-short : (c : tie.After-count-kept) → entryLength * c .count-kept .result ≤ length (now (c .before .before .before .args .s))
@@ -43,7 +47,7 @@ add-end-2 c = omega (arith, kept-short (c .before .before .before))
 add-end-3 : tie.Need-add-end-3
 add-end-3 c =
     let d = c .before .before .before in
-    omega (arith, kept-short d, table-inside _ _ (d .before .before .before .pre .0))
+    omega (arith, kept-short d, inside (d .before .before .before))
 
 returns : tie.Need-returns
 unfolding indexOffset

@@ -17,11 +17,11 @@ use Rattle.arguments.proofs.commit_verdict.Statement.{statement}
 use Rattle.arguments.proofs.commit_verdict.Tie as tie
 
 -- what is known once the buffer has passed
-passes : (c : tie.After-enum-told) → Passes ≡ bufferVerdict (now (c .before .before .before .before .before .before .args .buffer)) (c .before .before .before .before .before .before .args .used)
+passes : (c : tie.After-enum-told) → Passes ≡ bufferVerdict (now (c .before .before .before .before .before .args .buffer)) (c .before .before .before .before .before .args .used)
 passes c = by (c .enum-told .given .1) (c .before .before .buffer-verdict .ensures)
 
 -- and once check 30 has
-sized : (c : tie.Else1) → let a = c .before .before .before .before .before .before .before .before .args in
+sized : (c : tie.Else1) → let a = c .before .before .before .before .before .before .before .args in
     (a .size ≢ 0) × ((a .size ≤ largestSize) × (length (now (a .addresses)) ≤ mostAddresses))
 sized c = or-iff same-iff (or-iff below-iff below-iff) .0 (by (c .before .size-refused .ensures) (c .if1 .left))
 

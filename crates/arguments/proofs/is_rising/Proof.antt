@@ -19,10 +19,16 @@ loop-holds : tie.Need-loop-holds Inv-loop μ-loop
 loop-holds c = (omega arith, rising-start _)
 
 returns : tie.Need-returns Inv-loop μ-loop
-returns c = rising-stops _ _ (c .before .before .before .before .loop .inv .1) (omega arith)
+returns c =
+    let l = c .before .before .before .before in
+    rising-stops _ _ (l .loop .inv .1) (l .loop .inv .0) (c .before .before .before .loop-test .taken) (c .before .before .x .given) (c .before .y .given) (c .if1 .taken)
 
 loop-again : tie.Need-loop-again Inv-loop μ-loop
-loop-again c = (omega arith, rising-goes _ _ (c .before .before .before .before .loop .inv .1) (omega arith))
+loop-again c =
+    let l = c .before .before .before .before in (
+      omega arith,
+      rising-goes _ _ (l .loop .inv .1) (l .loop .inv .0) (c .before .before .before .loop-test .taken) (c .before .before .x .given) (c .before .y .given) (c .if1 .left),
+    )
 
 returns-2 : tie.Need-returns-2 Inv-loop μ-loop
 returns-2 c = rising-done _ _ (c .before .loop .inv .1) (omega arith)

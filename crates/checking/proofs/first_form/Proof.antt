@@ -10,10 +10,9 @@ use Prim.Native.Nat.{ℕ, _-_, _≤_, _<_}
 use Rattle.format.specs.declared.Verdict.the-variants.{Passes}
 use Rattle.format.proofs.Chains.{by}
 use Rattle.opening.specs.Answers.{contents}
-use Rattle.opening.proofs.Accepted.{table-inside}
 use Rattle.checking.specs.Checked.{indexed, Formed, addressVerdict}
 use Rattle.checking.proofs.Firsts.{first-at, first-none}
-use Rattle.checking.proofs.Forms.{form-ok, form-only, not-written}
+use Rattle.checking.proofs.Forms.{entry-form-ok, form-only, not-written}
 use Rattle.checking.proofs.first_form.Statement.{statement}
 use Rattle.checking.proofs.first_form.Tie as tie
 
@@ -33,34 +32,31 @@ not-written-requires c κs = (c .before .before .before .before .pre, omega arit
 pointer-at-requires : tie.Need-pointer-at-requires Inv-loop μ-loop
 pointer-at-requires c κs = (c .before .before .before .before .before .before .pre, omega arith)
 
-entry-place-requires : tie.Need-entry-place-requires Inv-loop μ-loop
-entry-place-requires c κs = let k = table-inside _ _ (c .before .before .before .before .before .before .before .pre) in omega arith
-
-form-verdict-requires : tie.Need-form-verdict-requires Inv-loop μ-loop
-form-verdict-requires c κs = (c .before .before .before .before .before .before .before .before .pre, c .before .before .before .before .before .loop .inv .2)
+entry-form-requires : tie.Need-entry-form-requires Inv-loop μ-loop
+entry-form-requires c κs = (c .before .before .before .before .before .before .before .pre, omega arith, c .pointer-at .ensures, c .before .before .before .before .loop .inv .2)
 
 -- a written address, by its form
-form-is : (c : tie.After-form-verdict Inv-loop μ-loop)
-    → let l = c .before .before .before .before .before .before in
+form-is : (c : tie.After-entry-form Inv-loop μ-loop)
+    → let l = c .before .before .before .before .before in
     let r = l .before .before .before .args in
-    addressVerdict (now (r .s)) (contents (r .t)) (indexed (now (r .s))) (l .loop .a) ≡ c .form-verdict .result
+    addressVerdict (now (r .s)) (contents (r .t)) (indexed (now (r .s))) (l .loop .a) ≡ c .entry-form .result
 form-is c =
-    let i = c .before .before .before in
+    let i = c .before .before in
     form-only _ _ _ (by (i .before .not-written .ensures) (not-true _ (i .if1 .taken)))
-    ∙ sym (rw (c .before .before .pointer-at .ensures, c .before .entry-place .ensures) at (c .form-verdict .ensures))
+    ∙ sym (c .entry-form .ensures)
 
 returns : tie.Need-returns Inv-loop μ-loop
 returns c =
     let f = c .before .before .before in
-    first-at _ _ _ _ (omega arith) (f .before .before .before .before .before .before .loop .inv .1) (form-is f ∙ c .before .v .given .1)
+    first-at _ _ _ _ (omega arith) (f .before .before .before .before .before .loop .inv .1) (form-is f ∙ c .before .v .given .1)
 
 loop-again : tie.Need-loop-again Inv-loop μ-loop
 loop-again c =
     let f = c .before .before .before in
-    let ok = form-ok _ _ _ .0 (sym (by (c .before .enum-told .given .1) (f .form-verdict .ensures))) in (
+    let ok = entry-form-ok _ _ _ (sym (by (c .before .enum-told .given .1) (f .entry-form .ensures))) in (
       omega arith,
-      below-more _ _ (f .before .before .before .before .before .before .loop .inv .1) (form-is f ∙ c .before .enum-told .given .1),
-      inr (ok .0, ok .1 .0),
+      below-more _ _ (f .before .before .before .before .before .loop .inv .1) (form-is f ∙ c .before .enum-told .given .1),
+      inr (rw (f .before .pointer-at .ensures) ok),
     )
 
 loop-again-2 : tie.Need-loop-again-2 Inv-loop μ-loop
@@ -85,8 +81,7 @@ first-form-spec =
     (λ c. omega arith)
     not-written-requires
     pointer-at-requires
-    entry-place-requires
-    form-verdict-requires
+    entry-form-requires
     (λ c. search needs)
     returns
     (λ c. search needs)

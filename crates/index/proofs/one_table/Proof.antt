@@ -4,8 +4,8 @@ use Prim.Native.Nat.{_+_, _*_, _≤_}
 use borrow.Author.Needs.{needs}
 use native.Mathlib.Omega.{arith}
 use lib.ListN.{length}
-use Rattle.format.specs.Layouts.{DDT*, indexHeaderLength, entryCount, entryLength, entriesFrom, entries}
-use Rattle.format.specs.Opening.{entriesVerdict, offsetsOf}
+use Rattle.format.specs.Layouts.{indexHeaderLength, entryCount, entryLength, entriesFrom, entries}
+use Rattle.format.specs.Opening.{entriesVerdict, offsetsWith, isTable}
 use Rattle.format.proofs.Chains.{stops, refuses, answers, by}
 use Rattle.index.specs.Tables.{oneAnswer, before, onlyOne}
 use Rattle.index.proofs.Entries.{verdict-stops, verdict-goes, verdict-done, one-goes, one-none, one-single, one-many}
@@ -16,7 +16,7 @@ abbrev Inv-loop : tie.InvT-loop
 Inv-loop s o index left₀ p₀ seen₀ left p seen =
     (p + entryLength * left ≤ length s)
     × (entriesVerdict s left p ≡ entriesVerdict s (entryCount s (o .0)) (o .0 + indexHeaderLength))
-    × (oneAnswer (o .0) (before seen (offsetsOf DDT* (entriesFrom s left p))) ≡ oneAnswer (o .0) (offsetsOf DDT* (entries s (o .0))))
+    × (oneAnswer (o .0) (before seen (offsetsWith isTable (entriesFrom s left p))) ≡ oneAnswer (o .0) (offsetsWith isTable (entries s (o .0))))
 
 abbrev μ-loop : tie.MeasureT-loop
 μ-loop s o index left₀ p₀ seen₀ left p seen = left

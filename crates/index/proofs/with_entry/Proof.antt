@@ -12,22 +12,22 @@ returns : tie.Need-returns
 unfolding before
 returns c o l =
     let i = c .before .before .before in
-    rw (choose-true _ _ _ (by (i .before .is-user-data .ensures) (i .if1 .taken)), c .enum-told .given .1)
+    rw (choose-true _ _ _ (by (i .before .is-table .ensures) (i .if1 .taken)), c .enum-told .given .1)
 
 returns-2 : tie.Need-returns-2
 unfolding before oneOf answer
 returns-2 c o l =
     let i = c .before .before .before in
-    rw (choose-true _ _ _ (by (i .before .is-user-data .ensures) (i .if1 .taken)), c .enum-told2 .given .1)
+    rw (choose-true _ _ _ (by (i .before .is-table .ensures) (i .if1 .taken)), c .enum-told2 .given .1)
 
 returns-3 : tie.Need-returns-3
 unfolding before oneOf answer
 returns-3 c o l =
     let i = c .before .before .before in
-    rw (choose-true _ _ _ (by (i .before .is-user-data .ensures) (i .if1 .taken)), c .enum-told3 .given .1)
+    rw (choose-true _ _ _ (by (i .before .is-table .ensures) (i .if1 .taken)), c .enum-told3 .given .1)
 
 returns-4 : tie.Need-returns-4
-returns-4 c o l = rw (choose-false _ _ _ (by (c .before .is-user-data .ensures) (c .if1 .left)))
+returns-4 c o l = rw (choose-false _ _ _ (by (c .before .is-table .ensures) (c .if1 .left)))
 
 pub with-entry-spec : {M : Type 1} → statement M
 with-entry-spec =

@@ -6,10 +6,10 @@ use Rattle.list.proofs.main.Statement.{statement}
 use Rattle.list.proofs.main.Tie as tie
 
 array-share-prefix-text : tie.Need-array-share-prefix-text
-array-share-prefix-text c = prints-count _ (omega arith) (c .list .ensures) .0
+array-share-prefix-text c = prints-count (c .list .ensures) .0
 
 slice-aggregate-write-all : tie.Need-slice-aggregate-write-all
-slice-aggregate-write-all c = prints-count _ (omega arith) (c .before .list .ensures) .1
+slice-aggregate-write-all c = prints-count (c .before .list .ensures) .1
 
 pub main-spec : {M : Type 1} → statement M
 main-spec =

@@ -5,7 +5,9 @@ use mathlib.Core.Path.{_≡_, refl}
 use Prim.Native.Nat.{_-_, _≤_}
 use native.Mathlib.Omega.{arith}
 use lib.ListN.{length}
+use lib.IntN.{pos, negℤ}
 use Rattle.opening.specs.Answers.{contents}
+use Rattle.opening.proofs.Accepted.{few}
 use Rattle.sectors.specs.Found.{Known}
 use Rattle.listing.specs.Buffer.{Writes}
 use Rattle.listing.specs.Listing.{linesFrom}
@@ -15,35 +17,39 @@ use Rattle.listing.proofs.address_lines.Statement.{statement}
 use Rattle.listing.proofs.address_lines.Tie as tie
 
 abbrev Inv-loop : tie.InvT-loop
-Inv-loop image t out₀ at count next₀ known₀ a₀ out next known a =
-    (a ≤ count) × (length out ≡ length out₀) × Writes out₀ at (linesFrom image a 0) out next × Known image (known .0)
+Inv-loop image t out₀ at count next₀ known₀ n₀ out next known n =
+    (n ≤ count) × (length out ≡ length out₀) × Writes out₀ at (linesFrom image n (negℤ (pos (contents t .negative)))) out next × Known image (known .0)
 
 abbrev μ-loop : tie.MeasureT-loop
-μ-loop image t out₀ at count next₀ known₀ a₀ out next known a = count - a
+μ-loop image t out₀ at count next₀ known₀ n₀ out next known n = count - n
 
 loop-holds : tie.Need-loop-holds Inv-loop μ-loop
 unfolding linesFrom
 loop-holds c = (omega arith, refl, writes-none _ _ (omega arith), inl refl)
 
+address-requires : tie.Need-address-requires Inv-loop μ-loop
+address-requires c κs = let f = few _ _ (c .before .before .before .before .before .pre .0) in omega arith
+
 locate-near-of-requires : tie.Need-locate-near-of-requires Inv-loop μ-loop
-locate-near-of-requires c κs = (c .before .before .before .before .before .pre .0, c .before .loop .inv .3)
+locate-near-of-requires c κs = (c .before .before .before .before .before .before .pre .0, c .before .before .loop .inv .3)
 
 line-requires : tie.Need-line-requires Inv-loop μ-loop
-line-requires c κs = let w = c .before .before .before .loop .inv .2 .place in omega arith
+line-requires c κs = let w = c .before .before .before .before .loop .inv .2 .place in omega arith
 
 loop-again : tie.Need-loop-again Inv-loop μ-loop
 loop-again c =
-    let l = c .before .before .before .before .before .before .before .loop .inv in
+    let l = c .before .before .before .before .before .before .before .before .loop .inv in
+    let e = c .before .before .before .before .before .before .address .ensures in
     let n = c .before .before .before .before .before .locate-near-of .ensures in (
       omega arith,
       omega arith,
-      lines-next _ _ (l .2) (rw (n .0) at (c .before .before .before .line .ensures)),
+      lines-next _ _ _ (l .2) (rw (n .0, e) at (c .before .before .before .line .ensures)),
       n .1,
     )
 
 returns : tie.Need-returns Inv-loop μ-loop
 returns c =
-    let e : c .before .loop .a ≡ contents (c .before .before .before .before .before .args .t) .count = omega arith in
+    let e : c .before .loop .n ≡ contents (c .before .before .before .before .before .args .t) .count = omega arith in
     rw (← e) (c .before .loop .inv .2)
 
 pub address-lines-spec : {M : Type 1} → statement M
@@ -54,6 +60,7 @@ address-lines-spec =
     μ-loop
     (λ c κs. search needs)
     loop-holds
+    address-requires
     locate-near-of-requires
     line-requires
     (λ c. omega arith)

@@ -53,7 +53,7 @@ module _ {M : Type 1} (𝓤 : URA M) (H : Heap 𝓤) (A : Atoms 𝓤) (W : Given
   y = ((κs, qs, tt, (d, tt), (mach ∷ [], tt)), tt)
 
   abbrev vd : Values (T.the-type α .parts)
-  vd = (d .bytes, (d .table, (d .count, (d .shift, tt))))
+  vd = (d .bytes, (d .kind, (d .table, (d .count, (d .shift, (d .alignment, (d .negative, tt)))))))
 
   -- of what the view owns, the slice's part is taken
   exits : ent 𝓤 (onEntry 𝓤 H A bytes.signature κs qs (d, tt) (mach ∷ [], tt)) (End .post y v)

@@ -7,6 +7,7 @@ use Rattle.format.specs.Facts.{IndexOk}
 use Rattle.format.specs.Opening.{indexVerdict, openVerdict, opened}
 use Rattle.format.proofs.Refusals.{answer-accepted, answer-refused}
 use Rattle.format.proofs.Checks.{index-ok}
+use Rattle.format.proofs.Agree.{table-room}
 use Rattle.format.proofs.Chains.{stops, stops-both, goes, refuses, answers, answers-both, by}
 use Rattle.index.specs.Tables.{onlyOne}
 use Rattle.opening.specs.Answers.{outcome}
@@ -27,6 +28,12 @@ returns c =
 
 one-table-requires : tie.Need-one-table-requires
 one-table-requires c κs = ok c .fits
+
+open-table-requires : tie.Need-open-table-requires
+unfolding onlyOne
+open-table-requires c κs =
+    let q = answer-accepted _ _ _ (sym (ap onlyOne (sym (c .before .named2 .given .1)) ∙ c .before .before .before .one-table .ensures)) in
+    rw (← q .1) (table-room _ _ (q .0))
 
 returns-2 : tie.Need-returns-2
 unfolding openVerdict outcome onlyOne
@@ -57,6 +64,6 @@ open-index-spec =
     one-table-requires
     (λ c. search needs)
     (λ c. search needs)
-    (λ c κs. search needs)
+    open-table-requires
     returns-2
     returns-3)

@@ -8,10 +8,16 @@ use Rattle.planning.proofs.Looking.{next-looks}
 use Rattle.planning.proofs.look_at.Statement.{statement}
 use Rattle.planning.proofs.look_at.Tie as tie
 
+is-next-requires : tie.Need-is-next-requires
+is-next-requires c κs = c .before .before .pre .1
+
+old-item-requires : tie.Need-old-item-requires
+old-item-requires c κs = let p = c .before .before .before .before .pre in (p .0 .checked .0, p .2)
+
 look-requires : tie.Need-look-requires
 look-requires c κs =
-    let s = c .before .before .before .before .before in
-    next-looks _ (s .args .a .0) _ (s .pre .0) (by (c .before .is-next .ensures) (c .if1 .taken)) (s .pre .2)
+    let s = c .before .before .before .before in
+    next-looks _ (s .args .a .0) _ (s .pre .0) (by (c .before .is-next .ensures) (c .if1 .taken)) (s .pre .3)
 
 returns : tie.Need-returns
 unfolding lookedAt
@@ -22,4 +28,4 @@ unfolding lookedAt
 returns-2 c = (rw (c .old-item .ensures)) ∙ sym (choose-false _ _ _ (by (c .before .before .is-next .ensures) (c .before .if1 .left)))
 
 pub look-at-spec : {M : Type 1} → statement M
-look-at-spec = tie.close (tie.spec (λ c κs. search needs) look-requires returns (λ c κs. search needs) returns-2)
+look-at-spec = tie.close (tie.spec is-next-requires look-requires returns old-item-requires returns-2)

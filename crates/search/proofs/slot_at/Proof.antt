@@ -1,23 +1,35 @@
 -- `search::slot_at` meets its contract. Assumes nothing.
+use mathlib.Core.Path.{_≡_}
 use borrow.Author.Needs.{needs}
+use denote.Ref.{now}
+use Rattle.format.specs.Reading.{notWritten, pointerAt}
+use Rattle.opening.specs.Answers.{contents}
+use Rattle.opening.proofs.Accepted.{decodes}
 use Rattle.search.proofs.Disc.{slot-empty, slot-item, slot-sector}
 use Rattle.search.proofs.slot_at.Statement.{statement}
 use Rattle.search.proofs.slot_at.Tie as tie
 
+gap : (c : tie.After-is-unwritten) → let a = c .before .before .before .args in c .is-unwritten .result ≡ notWritten (now (a .s)) (contents (a .t)) (a .a .0)
+unfolding notWritten
+gap c = rw (c .before .table-entry .ensures) at (c .is-unwritten .ensures)
+
+points : (c : tie.After-entry-decoded) → let a = c .before .before .before .before .before .args in c .entry-decoded .result ≡ pointerAt (now (a .s)) (contents (a .t)) (a .a .0)
+unfolding pointerAt
+points c = rw (c .before .before .before .table-entry .ensures) at (c .entry-decoded .ensures)
+
 returns : tie.Need-returns
-returns c = let p = c .before .before .pointer-at .ensures in slot-empty _ _ _ (c .before .encodes-nothing .ensures _ _ _ p) (c .if1 .taken)
+returns c = slot-empty _ _ _ (gap (c .before)) (c .if1 .taken)
+
+entry-decoded-requires : tie.Need-entry-decoded-requires
+entry-decoded-requires c κs = decodes _ _ (c .before .before .before .before .pre .0 .0)
 
 place-requires : tie.Need-place-requires
 place-requires c κs =
-    let p = c .before .before .pointer-at .ensures in
-    let s = c .before .before .before .before in
-    slot-item _ _ _ (c .before .encodes-nothing .ensures _ _ _ p) _ p (c .if1 .left) (s .pre .0) (s .pre .1)
+    let s = c .before .before .before .before .before in
+    slot-item _ _ _ (gap (c .before .before)) _ (points c) (c .before .if1 .left) (s .pre .0) (s .pre .1)
 
 returns-2 : tie.Need-returns-2
-returns-2 c =
-    let i = c .before .before in
-    let p = i .before .pointer-at .ensures in
-    slot-sector _ _ _ (i .encodes-nothing .ensures _ _ _ p) _ p (c .before .if1 .left) _ (c .place .ensures)
+returns-2 c = slot-sector _ _ _ (gap (c .before .before .before)) _ (points (c .before)) (c .before .before .if1 .left) _ (c .place .ensures)
 
 pub slot-at-spec : {M : Type 1} → statement M
-slot-at-spec = tie.close (tie.spec (λ c κs. search needs) (λ c κs. search needs) returns place-requires returns-2)
+slot-at-spec = tie.close (tie.spec (λ c κs. search needs) (λ c κs. search needs) returns entry-decoded-requires place-requires returns-2)

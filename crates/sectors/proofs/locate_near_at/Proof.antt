@@ -4,7 +4,7 @@ use mathlib.Core.Path.{_≡_, sym, ap, _∙_}
 use denote.Ref.{now}
 use Rattle.format.specs.Refusals.{accepted, answer}
 use Rattle.format.specs.Layouts.{indexOffset, entries}
-use Rattle.format.specs.Reading.{sectorVerdict, pointerAt}
+use Rattle.format.specs.Reading.{addressVerdict, pointerOf}
 use Rattle.format.specs.Answers.{located}
 use Rattle.opening.specs.Answers.{contents}
 use Rattle.sectors.specs.Found.{found}
@@ -16,9 +16,9 @@ given : (c : tie.After-f2)
     → let s = now (c .before .before .before .before .before .args .s) in
     let t = contents (c .before .before .before .before .before .args .t) in
     let a = c .before .before .before .before .before .args .v .address .0 in
-    accepted (c .f2 .given .0 .0) ≡ answer (sectorVerdict s (entries s (indexOffset s)) t a) (pointerAt s t a)
+    accepted (c .f2 .given .0 .0) ≡ answer (addressVerdict s (entries s (indexOffset s)) t a) (pointerOf s t a)
 unfolding found
-given c = ap found (sym (c .f2 .given .1)) ∙ c .before .before .find .ensures
+given c = ap found (sym (c .f2 .given .1)) ∙ c .before .before .find-address .ensures
 
 place-requires : tie.Need-place-requires
 place-requires c κs = found-item _ _ (c .before .before .before .before .before .before .before .pre .0) _ _ (given (c .before .before))
@@ -26,7 +26,7 @@ place-requires c κs = found-item _ _ (c .before .before .before .before .before
 returns : tie.Need-returns
 unfolding located found
 returns c = (
-  locate-refused _ _ (c .before .before .before .before .before .before .pre .0) _ _ (ap found (sym (c .before .f .given .1)) ∙ c .before .before .before .find .ensures),
+  locate-refused _ _ (c .before .before .before .before .before .before .pre .0) _ _ (ap found (sym (c .before .f .given .1)) ∙ c .before .before .before .find-address .ensures),
   c .before .before .before .before .before .before .pre .1,
 )
 

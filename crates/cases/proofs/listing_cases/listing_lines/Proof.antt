@@ -6,10 +6,10 @@ use Rattle.cases.proofs.listing_cases.listing_lines.Statement.{statemen
 use Rattle.cases.proofs.listing_cases.listing_lines.Tie as tie
 
 array-share-prefix-out : tie.Need-array-share-prefix-out
-array-share-prefix-out c = prints-count _ (omega arith) (c .list .ensures) .0
+array-share-prefix-out c = prints-count (c .list .ensures) .0
 
 slice-aggregate-text-2 : tie.Need-slice-aggregate-text-2
-slice-aggregate-text-2 c = prints-count _ (omega arith) (c .before .list .ensures) .1
+slice-aggregate-text-2 c = prints-count (c .before .list .ensures) .1
 
 pub listing-lines-spec : {M : Type 1} → statement M
 listing-lines-spec =
