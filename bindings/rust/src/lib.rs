@@ -1,8 +1,9 @@
 //! Reads and writes AaruFormat disc images by the proved library.
 //!
-//! An image is the first `used` bytes of a lent buffer. Every call is answered or refused by a number of document 01 and a place
-//! in the image, on every input; a refused call changes nothing. The numbers are those of `bindings/c/aaru.h`, which says for each
-//! call what it gives, and for each number where its place is.
+//! An image is the first `used` bytes of a lent buffer. Every call is answered or refused by a
+//! number of documents 01 and 02 and a place in the image, on every input; a refused call changes
+//! nothing. The numbers are those of `bindings/c/aaru.h`, which says for each call what it gives, and
+//! for each number where its place is.
 //!
 //! ```
 //! let mut buffer = [0; 4096];
@@ -21,11 +22,11 @@ use std::{error, fmt};
 
 pub mod ffi;
 
-/// Why a call is refused: the number of document 01, and where.
+/// Why a call is refused: the number of document 01 or 02, and where.
 #[derive(Clone, Copy, Debug, PartialEq, Eq)]
 pub struct Refusal {
     pub number: u32,
-    /// The byte offset, in the image, of the record that the number is about; 0 where there is none.
+    /// The byte offset, in the image, that `bindings/c/aaru.h` gives for the number.
     pub place: u64,
 }
 
@@ -80,7 +81,13 @@ pub struct AddressRange {
 
 /// How many sectors the image has, and which address is the lowest. Refused with 1 to 14, 70 to 72.
 pub fn sector_count(image: &[u8]) -> Result<AddressRange, Refusal> {
-    let (mut range, mut place) = (AddressRange { count: 0, lowest: 0 }, 0);
+    let (mut range, mut place) = (
+        AddressRange {
+            count: 0,
+            lowest: 0,
+        },
+        0,
+    );
     // SAFETY: the slice is valid for its length, and the numbers are not part of it.
     let number = unsafe {
         ffi::aaru_sector_count(

@@ -12,7 +12,7 @@ ghost use lib.ListN.{length};
 ghost use Rattle.format.specs.Refusals.{accepted};
 ghost use Rattle.format.specs.Layouts.{indexOffset, entryLength, entries};
 ghost use Rattle.format.specs.Opening.{opening};
-ghost use Rattle.format.specs.Reading.{has, pointerAt};
+ghost use Rattle.format.specs.Reading.{tableEntry, has, pointerAt};
 ghost use Rattle.format.specs.Committing.{anyOutside, sectorsVerdict, discVerdict};
 ghost use Rattle.opening.specs.Answers.{contents, held};
 ghost use Rattle.checking.specs.Checked.{indexed, formVerdict, entryForm, Formed, damaged, FirstLeft, FirstFrom, FirstRefused};
@@ -69,12 +69,12 @@ fn form_verdict(s: &[u8], t: Opened, place: ByteOffset, p: Pointer, known: ByteO
     Verdict::Refuses(Refusal { number: 22, place })
 }
 
-// Table entry n, which is written and encodes p, but for its block's checksums: 73, then checks 22 to 26.
-fn entry_form(s: &[u8], t: Opened, n: EntryNumber, p: Pointer, known: ByteOffset) -> Verdict
-    requires { ⌜ (opening (now s) ≡ accepted (contents t)) × (n .0 < contents t .count) × (p ≡ pointerAt (now s) (contents t) (n .0)) × Formed (now s) (known .0) ⌝ }
+// Table entry n, whose number is e, which is written and encodes p, but for its block's checksums: 73, then checks 22 to 26.
+fn entry_form(s: &[u8], t: Opened, n: EntryNumber, e: u64, p: Pointer, known: ByteOffset) -> Verdict
+    requires { ⌜ (opening (now s) ≡ accepted (contents t)) × (n .0 < contents t .count) × (e ≡ tableEntry (now s) (contents t) (n .0)) × (p ≡ pointerAt (now s) (contents t) (n .0)) × Formed (now s) (known .0) ⌝ }
     ensures { λ r. ⌜ r ≡ entryForm (now (s .entry)) (contents t) (n .0) ⌝ }
 {
-    if opening::is_unknown(t, opening::table_entry(s, t, n)) {
+    if opening::is_unknown(t, e) {
         let place = ByteOffset(0);
         return Verdict::Refuses(Refusal { number: 73, place });
     }
@@ -93,9 +93,10 @@ fn first_form(s: &[u8], t: Opened) -> First
     while a < count {
         let here = EntryNumber(a);
         a += 1;
-        if !opening::not_written(s, t, here) {
-            let p = opening::pointer_at(s, t, here);
-            let v = entry_form(s, t, here, p, known);
+        let e = opening::table_entry(s, t, here);
+        if !opening::is_unwritten(t, e) {
+            let p = opening::entry_decoded(t, e);
+            let v = entry_form(s, t, here, e, p, known);
             if let Verdict::Refuses(r) = v {
                 return First {
                     address: here,
@@ -138,8 +139,9 @@ fn first_into(s: &[u8], t: Opened, b: ByteOffset, first: First) -> First
     while a < limit.0 {
         let here = EntryNumber(a);
         a += 1;
-        if !opening::not_written(s, t, here) {
-            let p = opening::pointer_at(s, t, here);
+        let e = opening::table_entry(s, t, here);
+        if !opening::is_unwritten(t, e) {
+            let p = opening::entry_decoded(t, e);
             let block = p.block;
             if block.0 == b.0 {
                 return First {

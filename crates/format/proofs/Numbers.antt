@@ -6,7 +6,7 @@ use mathlib.Core.Path.{_≡_, refl, sym, ap, _∙_}
 use Prim.Native.Nat.{ℕ, suc, _+_, _-_, _≤_, _<_}
 use native.Mathlib.Omega.{arith}
 use lib.Dec.{ltb}
-use lib.IntN.{ℤ, pos, negsuc, natAbs, _+ℤ_, +ℤ-idr}
+use lib.IntN.{ℤ, pos, negsuc, negℤ, natAbs, _+ℤ_, _-ℤ_, +ℤ-idr, +ℤ-comm, +ℤ-negℤ-cancel, -ℤ-+ℤ-cancel}
 use lib.Signed.{ltZ}
 use borrow.Author.Tests.{ltb-true, ltb-false, lt-ltb, le-ltb}
 use Rattle.format.specs.Tests.{lessThan, _or_}
@@ -80,6 +80,18 @@ module _ (t : Opened) (a : ℤ) {n : ℕ} (far : n ≡ natAbs a) where
   pub displaced-below : ltZ a (pos 0) ≡ true → t .negative < n → outside t a ≡ true
   unfolding outside displaced lessThan _or_
   displaced-below s h = rw (sum-below (t .negative) a s (omega arith))
+
+-- ---- the address of table entry n, n above the lowest, and no other
+module _ (t : Opened) where
+  pub address-displaced : (a : ℤ) (n : ℕ) → a ≡ negℤ (pos (t .negative)) +ℤ pos n → displaced t a ≡ pos n
+  unfolding displaced
+  address-displaced a n e =
+      ap (λ (z : ℤ). z +ℤ pos (t .negative)) (e ∙ +ℤ-comm (negℤ (pos (t .negative))) (pos n)) ∙ -ℤ-+ℤ-cancel (pos n) (pos (t .negative))
+
+  pub displaced-same : (a b : ℤ) → displaced t a ≡ displaced t b → a ≡ b
+  unfolding displaced
+  displaced-same a b e =
+      sym (+ℤ-negℤ-cancel a (pos (t .negative))) ∙ ap (λ (z : ℤ). z -ℤ pos (t .negative)) e ∙ +ℤ-negℤ-cancel b (pos (t .negative))
 
 -- ---- where the lowest address is 0, as in a table of the first kind
 module _ (t : Opened) (flat : t .negative ≡ 0) where

@@ -103,5 +103,14 @@ pub const CREATION_TIME: u64 = 88;
 
 pub const LAST_WRITTEN_TIME: u64 = 96;
 
-// Where the entries of a new image's table start: behind the header and the table's, which has 49 bytes.
-pub const CREATED_ENTRIES: u64 = HEADER_LENGTH + 49;
+// The tables, 'DDT*' and 'DDT2': how many bytes the header and an entry have.
+pub const TABLE_HEADER: u64 = 49;
+
+pub const TABLE_ENTRY: u64 = 8;
+
+pub const SECOND_HEADER: u64 = 82;
+
+pub const SECOND_ENTRY: u64 = 4;
+
+// Where the entries of a new image's table start: behind the header and the table's.
+pub const CREATED_ENTRIES: u64 = HEADER_LENGTH + TABLE_HEADER;

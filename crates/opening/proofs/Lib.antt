@@ -1,4 +1,5 @@
 pub mod Accepted
+pub mod Entries
 pub mod Passed
 pub mod Promises
 pub mod Views

@@ -13,7 +13,7 @@ ghost use Rattle.format.specs.declared.Verdict.the-variants.{Passes};
 ghost use Rattle.format.specs.Refusals.{refusal, row, accepted, answer};
 ghost use Rattle.format.specs.Layouts.{entryPointer, decode};
 ghost use Rattle.format.specs.Opening.{headerVerdict, kindAt, tableVerdict, openVerdict, openedAt, opened, opening, rangeOf};
-ghost use Rattle.format.specs.Reading.{outside, tableEntryAt, tableEntry, unwritten, notWritten, unknown, pointerAt};
+ghost use Rattle.format.specs.Reading.{outside, tableEntryAt, tableEntry, unwritten, unknown, pointerAt};
 ghost use Rattle.format.specs.Writing.{isSecond, writableVerdict};
 ghost use Rattle.opening.specs.Answers.{contents, outcome, numbersOf, viewOf, held, kindNumbered, Decodes, IsNumbered};
 use fields::get;
@@ -24,7 +24,11 @@ use format::EntryNumber;
 use format::INDEX_OFFSET;
 use format::Pointer;
 use format::Refusal;
+use format::SECOND_ENTRY;
+use format::SECOND_HEADER;
 use format::SectorAddress;
+use format::TABLE_ENTRY;
+use format::TABLE_HEADER;
 use format::TableKind;
 use format::Verdict;
 use index::Named;
@@ -227,15 +231,20 @@ pub fn range(t: Opened) -> AddressRange
     }
 }
 
+// The entries of the table. Each function goes by the kind first, and has its widths, and that the first kind has no alignment, as constants: a loop over
+// all entries, as the search has one, then costs a table of the first kind nothing.
+
 // Where table entry n stands.
 pub fn entry_place(t: Opened, n: EntryNumber) -> ByteOffset
     requires { ⌜ tableEntryAt (contents t) (n .0) < 2 ^ 64 ⌝ }
     ensures { λ r. ⌜ r .0 ≡ tableEntryAt (contents t) (n .0) ⌝ }
 {
     let kind = kind_of(t);
-    let l = layout_of(kind);
     let table = t.table;
-    ByteOffset(table.0 + l.header + l.width * n.0)
+    match kind {
+        TableKind::First => ByteOffset(table.0 + TABLE_HEADER + TABLE_ENTRY * n.0),
+        TableKind::Second => ByteOffset(table.0 + SECOND_HEADER + SECOND_ENTRY * n.0),
+    }
 }
 
 // The number there.
@@ -244,9 +253,11 @@ pub fn table_entry(s: &[u8], t: Opened, n: EntryNumber) -> u64
     ensures { λ r. ⌜ r ≡ tableEntry (now (s .entry)) (contents t) (n .0) ⌝ }
 {
     let kind = kind_of(t);
-    let l = layout_of(kind);
     let place = entry_place(t, n);
-    get(s, place.0, l.width)
+    match kind {
+        TableKind::First => get(s, place.0, TABLE_ENTRY),
+        TableKind::Second => get(s, place.0, SECOND_ENTRY),
+    }
 }
 
 // Whether such an entry is not written.
@@ -277,15 +288,10 @@ pub fn entry_decoded(t: Opened, entry: u64) -> Pointer
     ensures { λ r. ⌜ r ≡ decode (contents t .shift) (contents t .alignment) (entryPointer (contents t .kind) entry) ⌝ }
 {
     let kind = kind_of(t);
-    tables::decode(t.shift, t.alignment, tables::entry_pointer(kind, entry))
-}
-
-// Whether table entry n is not written.
-pub fn not_written(s: &[u8], t: Opened, n: EntryNumber) -> bool
-    requires { ⌜ (opening (now s) ≡ accepted (contents t)) × (n .0 < contents t .count) ⌝ }
-    ensures { λ r. ⌜ r ≡ notWritten (now (s .entry)) (contents t) (n .0) ⌝ }
-{
-    is_unwritten(t, table_entry(s, t, n))
+    match kind {
+        TableKind::First => tables::decode(t.shift, 0, entry),
+        TableKind::Second => tables::decode(t.shift, t.alignment, entry % 0x1000_0000),
+    }
 }
 
 // What table entry n encodes.

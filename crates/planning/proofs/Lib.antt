@@ -2,4 +2,4 @@ pub mod Cursor
 mod Seen
 mod Looking
 mod Progress
-mod Next
+pub mod Next

@@ -5,7 +5,7 @@
 // that is equal.
 ghost use mathlib.Core.Bool.{false};
 ghost use mathlib.Core.Path.{_≡_};
-ghost use Prim.Native.Nat.{_≤_, _<_, max};
+ghost use Prim.Native.Nat.{_^_, _≤_, _<_, max};
 ghost use Rattle.format.specs.Refusals.{accepted};
 ghost use Rattle.format.specs.Opening.{opening};
 ghost use Rattle.format.specs.Committing.{anyOutside, entryNumbers, oldPointer, itemOrZero, shiftFor};
@@ -14,8 +14,6 @@ ghost use Rattle.planning.specs.Plans.{isNext, Commits, planFor, Looks, 
 use format::ByteOffset;
 use format::EntryNumber;
 use format::ItemNumber;
-use format::SectorAddress;
-use opening::Numbered;
 use opening::Opened;
 use search::Address;
 use search::Item;
@@ -41,31 +39,29 @@ pub fn shift_for(largest: ItemNumber) -> u64
     (64 - zeros) as u64
 }
 
-// Whether n is the table entry of the next address of the list, of which k are used up. None of them is outside.
+// Whether n is the table entry of the next address of the list, of which k are used up. None of them is outside. It compares addresses, since that of n is a
+// difference, and the entry of an address takes its checks.
 pub fn is_next(t: Opened, addresses: &[i64], k: usize, n: EntryNumber) -> bool
-    requires { ⌜ anyOutside (contents t) (now addresses) ≡ false ⌝ }
+    requires { ⌜ (anyOutside (contents t) (now addresses) ≡ false) × (n .0 < 2 ^ 63) ⌝ }
     ensures { λ r. ⌜ r ≡ isNext (entryNumbers (contents t) (now (addresses .entry))) k (n .0) ⌝ }
 {
     if addresses.len() <= k {
         return false;
     }
-    let x = addresses[k];
-    let numbered = opening::entry_number(t, SectorAddress(x));
-    match numbered {
-        Numbered::At(next) => next.0 == n.0,
-        Numbered::Outside => false,
-    }
+    let a = opening::address(t, n);
+    addresses[k] == a.0
 }
 
-// The item number that table entry n has, 0 where it is not written.
+// The item number that table entry n has, 0 where it is not written. It is read once.
 fn old_item(s: &[u8], t: Opened, n: EntryNumber) -> ItemNumber
     requires { ⌜ (opening (now s) ≡ accepted (contents t)) × (n .0 < contents t .count) ⌝ }
     ensures { λ r. ⌜ r .0 ≡ itemOrZero (oldPointer (now (s .entry)) (contents t) (n .0)) ⌝ }
 {
-    if opening::not_written(s, t, n) {
+    let e = opening::table_entry(s, t, n);
+    if opening::is_unwritten(t, e) {
         return ItemNumber(0);
     }
-    let p = opening::pointer_of(s, t, n);
+    let p = opening::entry_decoded(t, e);
     p.item
 }
 

@@ -81,15 +81,16 @@ fn store(buf: &mut [u8], used: u64, t: Opened, sector: &[u8], stored: u64) -> Ha
     }
 }
 
-// The entry of an address that is not in the list: what it was, encoded anew.
+// The entry of an address that is not in the list: what it was, encoded anew. It is read once.
 fn old_entry(s: &[u8], t: Opened, a: EntryNumber, shift: u64) -> u64
     requires { ⌜ Checked (now s) (contents t) × (length (now s) ≤ longestBuffer) × (a .0 < contents t .count) × (shift ≤ 32) ⌝ }
     ensures { λ r. ⌜ r ≡ entryOf shift (oldPointer (now (s .entry)) (contents t) (a .0)) ⌝ }
 {
-    if opening::not_written(s, t, a) {
+    let e = opening::table_entry(s, t, a);
+    if opening::is_unwritten(t, e) {
         return 0;
     }
-    encode(shift, opening::pointer_at(s, t, a))
+    encode(shift, opening::entry_decoded(t, e))
 }
 
 // The entry of address a in the new table; a sector that is handed in for it is stored if it has to be.

@@ -8,7 +8,7 @@ ghost use lib.ListN.{length};
 ghost use Rattle.crc64.specs.Crc.{crcOf};
 ghost use Rattle.format.specs.declared.TableKind.the-variants.{Second};
 ghost use Rattle.format.specs.Tests.{same};
-ghost use Rattle.format.specs.Layouts.{tableHeaderLengthOf, tableAlignment, tableNegative, entryPointer, decode};
+ghost use Rattle.format.specs.Layouts.{tableHeaderLengthOf, tableAlignment, tableNegative, decode};
 ghost use Rattle.format.specs.Opening.{kindAt, extentVerdict, tableMalformed, sumsDiffer, payloadVerdict, tableVerdict};
 ghost use Rattle.format.specs.Writing.{isSecond};
 ghost use Rattle.tables.specs.Places.{IsLayout};
@@ -22,6 +22,10 @@ use format::ByteOffset;
 use format::ItemNumber;
 use format::Pointer;
 use format::Refusal;
+use format::SECOND_ENTRY;
+use format::SECOND_HEADER;
+use format::TABLE_ENTRY;
+use format::TABLE_HEADER;
 use format::TableKind;
 use format::Verdict;
 
@@ -53,16 +57,16 @@ pub fn layout_of(kind: TableKind) -> Layout
 {
     match kind {
         TableKind::First => Layout {
-            header: 49,
+            header: TABLE_HEADER,
             entries: 9,
             shift: 8,
-            width: 8,
+            width: TABLE_ENTRY,
         },
         TableKind::Second => Layout {
-            header: 82,
+            header: SECOND_HEADER,
             entries: 42,
             shift: 39,
-            width: 4,
+            width: SECOND_ENTRY,
         },
     }
 }
@@ -224,16 +228,6 @@ pub fn is_second(kind: TableKind) -> bool
     match kind {
         TableKind::First => false,
         TableKind::Second => true,
-    }
-}
-
-// The pointer of such an entry.
-pub fn entry_pointer(kind: TableKind, entry: u64) -> u64
-    ensures { λ r. ⌜ r ≡ entryPointer kind entry ⌝ }
-{
-    match kind {
-        TableKind::First => entry,
-        TableKind::Second => entry % 0x1000_0000,
     }
 }
 

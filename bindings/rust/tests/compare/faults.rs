@@ -1,7 +1,10 @@
 //! Faults that can be brought into an accepted input, alone or two at once.
 
 use crate::images::addresses_in;
-use crate::layout::{get, identifier, put, Layout, BLOCK, IMAGE_MAJOR, INDEX_OFFSET, TABLE};
+use crate::layout::{
+    get, identifier, put, Kind, Layout, ALIGNMENT, BLOCK, BLOCKS, DUMPED, IMAGE_MAJOR,
+    INDEX_OFFSET, LEVELS, NEGATIVE, OVERFLOW, SIZE_TYPE,
+};
 use crate::sides::Call;
 use std::mem::discriminant;
 
@@ -169,50 +172,83 @@ fn of_index_entry(image: &[u8], layout: &Layout, entry: usize) -> Vec<Fault> {
 }
 
 fn of_table(image: &[u8], layout: &Layout) -> Vec<Fault> {
-    let (table, count) = (layout.table, layout.count as u64);
-    let fits = (layout.length - layout.table_entry(0)) as u64 / 8;
-    let sums = [table + 33, table + 41];
+    let (kind, table, count) = (layout.kind, layout.table, layout.count as u64);
+    let (width, payload) = (kind.width() as u64, layout.table_entry(0));
+    let fits = (layout.length - payload) as u64 / width;
+    let entries = table + kind.entries();
+    let (cmp_length, length) = (entries + 8, entries + 16);
+    let sums = [entries + 24, entries + 32];
     let mut faults = vec![
         vec![Field(table + 6, 2, 1)],
         vec![Field(table + 4, 2, 2)],
-        vec![Field(table + 8, 1, 33)],
-        vec![Field(table + 9, 8, count + 1)],
-        vec![Field(table + 9, 8, (1 << 61) + count)],
-        vec![Field(table + 17, 8, 8 * count + 8)],
-        vec![Field(table + 25, 8, 8 * count + 8)],
+        vec![Field(table + kind.shift(), 1, 33)],
+        vec![Field(entries, 8, count + 1)],
+        vec![Field(entries, 8, kind.wrapping() + count)],
+        vec![Field(cmp_length, 8, width * (count + 1))],
+        vec![Field(length, 8, width * (count + 1))],
         table_count(layout, fits + 1),
-        table_count(layout, (1 << 61) - 1),
+        table_count(layout, kind.wrapping() - 1),
         vec![Damage(sums[0], 8, !get(image, sums[0], 8))],
         vec![Damage(sums[1], 8, !get(image, sums[1], 8))],
     ];
+    if kind == Kind::Second {
+        faults.extend(of_second_table(table));
+    }
     if count > 0 {
-        let bit = get(image, table + TABLE, 1) ^ 1;
-        faults.push(vec![Damage(table + TABLE, 1, bit)]);
+        let bit = get(image, payload, 1) ^ 1;
+        faults.push(vec![Damage(payload, 1, bit)]);
     }
     for entry in 0..layout.entries {
         let at = layout.index_entry(entry);
         let offset = get(image, at + 8, 8) as usize;
         if offset == table && get(image, at + 4, 4) == 1 {
             faults.push(vec![Field(at + 4, 4, 2)]);
-            faults.push(vec![Field(at + 8, 8, last(image, b"DDT*"))]);
+            faults.push(vec![Field(at + 8, 8, last(image, kind.letters()))]);
         } else {
-            faults.push(vec![
-                Field(at, 4, identifier(b"DDT*")),
-                Field(at + 4, 4, 1),
-                Field(at + 8, 8, table as u64),
-            ]);
+            let other = kind.other();
+            let places = [(kind, table as u64), (other, last(image, other.letters()))];
+            faults.extend(places.map(|(kind, offset)| {
+                vec![
+                    Field(at, 4, identifier(kind.letters())),
+                    Field(at + 4, 4, 1),
+                    Field(at + 8, 8, offset),
+                ]
+            }));
         }
     }
     faults
 }
 
+/// Faults of the fields that only 'DDT2' has.
+fn of_second_table(table: usize) -> Vec<Fault> {
+    vec![
+        vec![Field(table + LEVELS, 1, 0)],
+        vec![Field(table + LEVELS, 1, 2)],
+        vec![Field(table + SIZE_TYPE, 1, 1)],
+        vec![Field(table + SIZE_TYPE, 1, 255)],
+        table_blocks(table, 1, 0, 0),
+        table_blocks(table, 65_535, 65_535, 131_069),
+        vec![Field(table + ALIGNMENT, 1, 33)],
+    ]
+}
+
+/// The displacements of a 'DDT2' and its number of blocks.
+pub fn table_blocks(table: usize, negative: u64, overflow: u64, blocks: u64) -> Fault {
+    vec![
+        Field(table + NEGATIVE, 2, negative),
+        Field(table + OVERFLOW, 2, overflow),
+        Field(table + BLOCKS, 8, blocks),
+    ]
+}
+
 /// A table's count with the lengths that go with it.
 pub fn table_count(layout: &Layout, count: u64) -> Fault {
-    let length = count.wrapping_mul(8);
+    let entries = layout.table + layout.kind.entries();
+    let length = count.wrapping_mul(layout.kind.width() as u64);
     vec![
-        Field(layout.table + 9, 8, count),
-        Field(layout.table + 17, 8, length),
-        Field(layout.table + 25, 8, length),
+        Field(entries, 8, count),
+        Field(entries + 8, 8, length),
+        Field(entries + 16, 8, length),
     ]
 }
 
@@ -223,19 +259,20 @@ pub fn block_lengths(block: usize, length: u64) -> Fault {
 
 /// Faults that a read of this address meets after the opening.
 pub fn of_reading(image: &[u8], layout: &Layout, address: i64) -> Vec<Fault> {
-    let table_entry = layout.table_entry(address as usize);
-    let pointer = get(image, table_entry, 8);
-    let block = (pointer >> layout.shift) as usize;
-    let item = pointer % (1 << layout.shift);
+    let number = layout.number(address);
+    let (table_entry, width) = (layout.table_entry(number), layout.kind.width());
+    let entry = get(image, table_entry, width);
+    let (block, item) = layout.named(image, number).expect("it names an item");
+    let block = block as usize;
     let size = get(image, block + 8, 4);
     let items = get(image, block + 16, 4) / size;
     let fits = (layout.length - block - BLOCK) as u64 / size;
     let cut_short = last(image, b"DBLK");
     let mut faults = vec![
-        vec![Field(table_entry, 8, 0)],
-        vec![Field(table_entry, 8, pointer + (1 << layout.shift))],
-        vec![Field(table_entry, 8, pointer - item + items)],
-        vec![Field(table_entry, 8, pointer | ((1 << layout.shift) - 1))],
+        vec![Field(table_entry, width, 0)],
+        vec![Field(table_entry, width, entry + (1 << layout.shift))],
+        vec![Field(table_entry, width, entry - item + items)],
+        vec![Field(table_entry, width, entry | ((1 << layout.shift) - 1))],
         block_lengths(block, size * (fits + 1)),
         block_lengths(block, u64::from(u32::MAX) / size * size),
         block_lengths(block, 0),
@@ -249,8 +286,15 @@ pub fn of_reading(image: &[u8], layout: &Layout, address: i64) -> Vec<Fault> {
         vec![Damage(block + 28, 8, !get(image, block + 28, 8))],
         vec![Damage(block + BLOCK, 1, get(image, block + BLOCK, 1) ^ 1)],
     ];
+    if layout.kind == Kind::Second {
+        let pointer = entry % DUMPED;
+        let entries = [pointer, pointer + 2 * DUMPED, pointer + 15 * DUMPED];
+        faults.extend(entries.map(|entry| vec![Field(table_entry, width, entry)]));
+    }
     let (mut unnamed, mut elsewhere) = (Vec::new(), Vec::new());
-    elsewhere.push(Field(table_entry, 8, cut_short << layout.shift));
+    if let Some(entry) = layout.entry(cut_short, 0) {
+        elsewhere.push(Field(table_entry, width, entry));
+    }
     for at in (0..layout.entries).map(|entry| layout.index_entry(entry)) {
         if get(image, at + 8, 8) == block as u64 {
             unnamed.push(Field(at + 4, 4, 2));

@@ -1,16 +1,22 @@
 //! Every field of an image set to telling values, one after another, and every call tried on it.
 
-use crate::arguments::{self, with_room};
-use crate::faults::{block_lengths, table_count, with, Edit::*, Fault, Input};
+use crate::arguments::{self, telling_addresses, with_room};
+use crate::faults::{
+    block_lengths, read_addresses, table_blocks, table_count, with, Edit::*, Fault, Input,
+};
 use crate::images::{self, addresses_in};
-use crate::layout::{get, identifier, Layout, Place, Record, BLOCK};
+use crate::layout::{
+    get, identifier, Kind, Layout, Place, Record, ALIGNMENT, BLOCK, BLOCKS, DUMPED, NEGATIVE,
+    OVERFLOW,
+};
 use crate::random::Random;
-use crate::sides::{Call, Sides};
+use crate::sides::{addresses_of, Call, Sides};
 
 pub fn run(sides: &mut Sides, seed: u64, images: usize) {
+    let kind = sides.tally.kind;
     let mut random = Random::new(seed);
     for number in 0..images {
-        let image = images::base(number, &mut random);
+        let image = images::base(kind, number, &mut random);
         one_image(sides, &image, &mut random);
     }
 }
@@ -20,7 +26,7 @@ fn one_image(sides: &mut Sides, image: &[u8], random: &mut Random) {
     let base = Input {
         buffer: with_room(image, 700, random),
         used: image.len() as u64,
-        call: Call::Open,
+        call: Call::SectorCount,
     };
     for offset in telling_offsets(&layout) {
         let time = random.number();
@@ -49,9 +55,10 @@ fn one_image(sides: &mut Sides, image: &[u8], random: &mut Random) {
 /// Addresses that a damaged record concerns.
 fn concerned(image: &[u8], layout: &Layout, record: Record) -> Vec<i64> {
     match record {
-        Record::TableEntry(address) => vec![address as i64],
+        Record::Table => read_addresses(image, layout),
+        Record::TableEntry(number) => vec![layout.address(number)],
         Record::Block(block) => addresses_in(image, layout, block),
-        _ => vec![0],
+        _ => vec![layout.address(0)],
     }
 }
 
@@ -60,21 +67,43 @@ fn telling(image: &[u8], layout: &Layout, place: Place) -> Vec<u64> {
     let old = get(image, place.at, place.width);
     let length = image.len() as u64;
     let mut values = vec![0, 1, 33, 103, 104, 255, (1 << 32) - 4, (1 << 32) - 1];
-    // Sums with these wrap, or products with 8 and 16.
+    // Sums with these wrap, or products with 4, 8 and 16.
     values.extend([1 << 63, u64::MAX - 35, u64::MAX - 3, u64::MAX]);
-    for bit in [60, 61] {
+    for bit in [60, 61, 62] {
         values.extend([1 << bit, old.wrapping_add(1 << bit)]);
     }
     values.extend([length, length - 1, length - 4, length - 20, length - 36]);
     values.extend([old.wrapping_add(1), old.wrapping_sub(1)]);
     if let Record::IndexEntry(_) = place.record {
-        values.extend([b"DBLK", b"DDT*", b"CKSM", b"IDX2"].map(identifier));
+        values.extend([b"DBLK", b"DDT*", b"DDT2", b"CKSM", b"IDX2"].map(identifier));
         values.extend([layout.table as u64, layout.index as u64, 2]);
     }
-    if let Record::TableEntry(_) = place.record {
+    if place.record == Record::Table {
+        values.extend([2, 28, 32, 65_535]);
+        if layout.kind == Kind::Second {
+            let sum =
+                get(image, layout.table + NEGATIVE, 2) + get(image, layout.table + OVERFLOW, 2);
+            let blocks = get(image, layout.table + BLOCKS, 8);
+            values.extend([sum.wrapping_sub(1), sum, sum + 1]);
+            // What the other displacement leaves of the blocks.
+            let left = blocks.wrapping_sub(sum).wrapping_add(old);
+            values.extend([left, left.wrapping_add(1)]);
+        }
+    }
+    if let Record::TableEntry(number) = place.record {
         let offsets = layout.blocks.iter().chain([&layout.table]);
-        values.extend(offsets.map(|&at| ((at as u64) << layout.shift) + 3 % (1 << layout.shift)));
+        let item = 3 % (1 << layout.shift);
+        values.extend(offsets.filter_map(|&at| layout.entry(at as u64, item)));
         values.push(old.wrapping_add(1 << layout.shift));
+        if layout.kind == Kind::Second {
+            values.extend((0..16).map(|status| status * DUMPED + old % DUMPED));
+            values.extend((0..16).map(|status| status * DUMPED + (DUMPED - 1)));
+            values.push(DUMPED);
+        }
+        // The offset of the same block, but for a bit that 32 bits don't have.
+        if let Some((offset, item)) = layout.named(image, number) {
+            values.extend(layout.entry(offset + (1 << 32), item));
+        }
     }
     if place.width < 8 {
         values.retain(|&value| value < 1 << (8 * place.width));
@@ -88,12 +117,17 @@ fn telling(image: &[u8], layout: &Layout, place: Place) -> Vec<u64> {
 /// Fields that only together get past the checks that compare them.
 fn several_fields(image: &[u8], layout: &Layout) -> Vec<(Record, Fault)> {
     let (length, count) = (image.len() as u64, layout.count as u64);
-    let fits = (image.len() - layout.table_entry(0)) as u64 / 8;
+    let kind = layout.kind;
+    let fits = (image.len() - layout.table_entry(0)) as u64 / kind.width() as u64;
     let mut faults = Vec::new();
-    let wrapping = [(1 << 61) - 1, 1 << 61, (1 << 61) + count, u64::MAX];
+    let wrapping = kind.wrapping();
+    let wrapping = [wrapping - 1, wrapping, wrapping + count, u64::MAX];
     let counts = [0, 1, count - 1, count + 1, fits, fits + 1, length, 1 << 32];
     for count in counts.into_iter().chain(wrapping) {
         faults.push((Record::Table, table_count(layout, count)));
+    }
+    if kind == Kind::Second {
+        faults.extend(of_second(image, layout));
     }
     for (number, &block) in layout.blocks.iter().enumerate() {
         let size = get(image, block + 8, 4);
@@ -113,7 +147,55 @@ fn several_fields(image: &[u8], layout: &Layout) -> Vec<(Record, Fault)> {
     faults
 }
 
-/// Opening, reads at the addresses and another, a commit, and rollbacks.
+/// Sums at and past a number of blocks, and the shifts at their limits with large pointers.
+fn of_second(image: &[u8], layout: &Layout) -> Vec<(Record, Fault)> {
+    let (table, most) = (layout.table, 65_535);
+    let mut faults = Vec::new();
+    for (negative, overflow) in [
+        (0, 0),
+        (1, 0),
+        (0, 1),
+        (most, 0),
+        (most, 1),
+        (1, most),
+        (most, most),
+    ] {
+        let sum = negative + overflow;
+        let blocks = [sum, sum + 1, sum ^ 1 << 16, 1 << 32, 1 << 63, u64::MAX];
+        for blocks in blocks.into_iter().chain(sum.checked_sub(1)) {
+            let fault = table_blocks(table, negative, overflow, blocks);
+            faults.push((Record::Table, fault));
+        }
+    }
+    let ones = DUMPED - 1;
+    for number in read_addresses(image, layout)
+        .into_iter()
+        .map(|address| layout.number(address))
+    {
+        let at = layout.table_entry(number);
+        for (shift, alignment) in [
+            (0, 0),
+            (0, 32),
+            (27, 32),
+            (28, 0),
+            (28, 32),
+            (32, 32),
+            (0, 33),
+        ] {
+            for pointer in [0, 1, 1 << 27, ones - 1, ones] {
+                let fault = vec![
+                    Field(table + layout.kind.shift(), 1, shift),
+                    Field(table + ALIGNMENT, 1, alignment),
+                    Field(at, 4, DUMPED + pointer),
+                ];
+                faults.push((Record::TableEntry(number), fault));
+            }
+        }
+    }
+    faults
+}
+
+/// Opening, reads at the addresses and others, a commit, and rollbacks.
 fn every_call(
     sides: &mut Sides,
     input: &Input,
@@ -121,22 +203,23 @@ fn every_call(
     addresses: &[i64],
     random: &mut Random,
 ) {
-    let mut run = |call| sides.compare(&input.buffer, input.used, &call);
-    run(Call::Open);
+    let mut run = |call| sides.run(&input.buffer, input.used, &call);
+    let all = match run(Call::SectorCount) {
+        Ok(range) => addresses_of(range),
+        Err(_) => layout.addresses(),
+    };
     for &address in addresses.iter().take(2) {
-        run(Call::Locate(address));
+        let _ = run(Call::Locate(address));
     }
-    let count = layout.count as i64;
-    let beyond = [count, count + 1, 1 << 32, i64::MAX, -1, i64::MIN];
-    run(Call::Locate(match random.below(2) {
-        0 => random.below(layout.count) as i64,
-        _ => random.pick(&beyond),
+    let _ = run(Call::Locate(match random.below(2) {
+        0 => layout.address(random.below(layout.count)),
+        _ => random.pick(&telling_addresses(&all)),
     }));
-    run(Call::Commit(arguments::commit(random, layout.count)));
+    let _ = run(Call::Commit(arguments::commit(random, layout.addresses())));
 
     for offset in [layout.index as u64, random.pick(&telling_offsets(layout))] {
         let time = random.number();
-        run(Call::Rollback { offset, time });
+        let _ = run(Call::Rollback { offset, time });
     }
 }
 

@@ -1,9 +1,9 @@
 //! Random histories: a creation, then commits and rollbacks with free arguments. Beside the
 //! comparison, what each call promises about the disc is checked from outside.
 
-use crate::arguments::{self, with_room};
+use crate::arguments::{self, outside, with_room};
 use crate::images::Description;
-use crate::layout::Layout;
+use crate::layout::{Kind, Layout};
 use crate::random::Random;
 use crate::sides::{refused, Answer, Call, Commit, Sides};
 use aaru::Refusal;
@@ -12,11 +12,10 @@ use aaru::Refusal;
 type Reading = Vec<Result<Vec<u8>, Refusal>>;
 
 fn reading(image: &[u8]) -> Reading {
-    let count = aaru::sector_count(image).expect("a disc of a history opens").count;
-    let count = count as i64;
-    let beyond = [count, count + 1, 1 << 32, i64::MAX, -1, i64::MIN];
+    let range = aaru::sector_count(image).expect("a disc of a history opens");
+    let all = range.lowest..range.lowest + range.count as i64;
     let read = |address| aaru::read(image, address).map(|sector| sector.bytes.to_vec());
-    (0..count).chain(beyond).map(read).collect()
+    all.clone().chain(outside(&all)).map(read).collect()
 }
 
 struct History<'a> {
@@ -26,7 +25,7 @@ struct History<'a> {
     /// Each returned index offset, and how the disc read then.
     points: Vec<(u64, Reading)>,
     now: Reading,
-    count: usize,
+    count: i64,
 }
 
 /// Histories of created discs and of built images.
@@ -58,7 +57,7 @@ fn created<'a>(sides: &'a mut Sides, random: &mut Random) -> History<'a> {
 }
 
 fn built<'a>(sides: &'a mut Sides, random: &mut Random) -> History<'a> {
-    let image = Description::random(random).build(random);
+    let image = Description::random(Kind::Old, random).build(random);
     let room = 300 + random.below(3000);
     let buffer = with_room(&image, room, random);
     let index = Layout::of(&image).index as u64;
@@ -71,7 +70,7 @@ fn start(sides: &mut Sides, buffer: Vec<u8>, used: u64, index: u64) -> History<'
         sides,
         used,
         points: vec![(index, now.clone())],
-        count: aaru::sector_count(&buffer[..used as usize]).unwrap().count as usize,
+        count: aaru::sector_count(&buffer[..used as usize]).unwrap().count as i64,
         buffer,
         now,
     }
@@ -96,7 +95,7 @@ impl History<'_> {
                 let commit = self.exchange(random);
                 self.commit(&commit);
             }
-            _ => self.commit(&arguments::commit(random, self.count)),
+            _ => self.commit(&arguments::commit(random, 0..self.count)),
         }
     }
 
@@ -143,7 +142,7 @@ impl History<'_> {
         pool.push(b"Z".to_vec());
         let size = random.pick(&pool).len();
         pool.retain(|sector| sector.len() == size);
-        let mut commit = arguments::commit(random, self.count);
+        let mut commit = arguments::commit(random, 0..self.count);
         let sectors = commit.addresses.iter().flat_map(|_| random.pick(&pool));
         commit.sectors = sectors.collect();
         commit.size = size as u64;
@@ -151,16 +150,17 @@ impl History<'_> {
     }
 
     fn refused_commit(&mut self, random: &mut Random) {
-        let mut commit = arguments::commit(random, self.count);
+        let mut commit = arguments::commit(random, 0..self.count);
         let size = commit.size as usize;
+        let beyond = random.pick(&[-1, i64::MIN, self.count, self.count, i64::MAX]);
         match random.below(5) {
             0 => commit.size = random.pick(&[0, 65_537, 1 << 32, u64::MAX]),
             1 => commit.sectors.push(0),
-            2 => commit.addresses.insert(0, self.count as i64),
+            2 => commit.addresses.insert(0, beyond),
             3 => commit.addresses = vec![0, 0],
-            _ => commit.addresses = vec![self.count as i64],
+            _ => commit.addresses = vec![beyond],
         }
-        if commit.addresses.contains(&(self.count as i64)) {
+        if commit.addresses.contains(&beyond) {
             commit.sectors.resize(size * commit.addresses.len(), 1);
         }
         assert!(self.call(&Call::Commit(commit)).is_err());

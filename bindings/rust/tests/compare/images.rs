@@ -3,7 +3,8 @@
 
 use crate::arguments::{self, sector, SIZES};
 use crate::layout::{
-    get, put, Layout, BLOCK, HEADER, IMAGE_MAJOR, INDEX, INDEX_ENTRY, INDEX_OFFSET, TABLE,
+    put, Kind, Layout, ALIGNMENT, BLOCK, BLOCKS, DUMPED, HEADER, IMAGE_MAJOR, INDEX, INDEX_ENTRY,
+    INDEX_OFFSET, LEVELS, NEGATIVE, OVERFLOW, POINTER_BITS, SIZE_TYPE,
 };
 use crate::random::Random;
 use crate::sides::{raw, Call};
@@ -33,13 +34,16 @@ enum Part {
 
 /// How an image is to be built.
 pub struct Description {
+    kind: Kind,
+    /// Blocks stand at multiples of 2^alignment. The old kind has none.
+    alignment: u64,
     blocks: Vec<Block>,
     others: Vec<(Vec<u8>, u64)>,
     count: usize,
     /// Whether table entries may name what can't be read.
     wild: bool,
-    /// Bytes behind the last record.
-    tail: Vec<u8>,
+    /// Bytes behind the last record, the second of them where a block may stand.
+    tail: [Vec<u8>; 2],
 }
 
 fn random_block(random: &mut Random) -> Block {
@@ -61,6 +65,7 @@ fn random_other(random: &mut Random) -> (Vec<u8>, u64) {
         (b"CKSM", 1),
         (b"TRKS", 0),
         (b"DDT*", 2),
+        (b"DDT2", 2),
         (b"DBLK", 10),
     ]);
     let length = random.below(30);
@@ -68,24 +73,37 @@ fn random_other(random: &mut Random) -> (Vec<u8>, u64) {
     ([&letters[..], &more].concat(), data_type)
 }
 
-/// Bytes that end with the first letters of a table and of a block, both cut short by the image's
-/// end; faults lead there.
-fn cut_short(random: &mut Random) -> Vec<u8> {
-    let (between, behind) = (random.below(9), random.below(BLOCK - 4));
-    let (between, behind) = (random.bytes(between), random.bytes(behind));
-    [b"DDT*", &between[..], b"DBLK", &behind].concat()
+/// Bytes that end with the first letters of a table of each kind and of a block, all cut short by
+/// the image's end; faults lead there.
+fn cut_short(random: &mut Random) -> [Vec<u8>; 2] {
+    let mut some = |below| {
+        let length = random.below(below);
+        random.bytes(length)
+    };
+    let tables = [b"DDT2", &some(9)[..], b"DDT*", &some(9)].concat();
+    let block = [b"DBLK", &some(BLOCK - 4)[..]].concat();
+    [tables, block]
+}
+
+fn random_alignment(kind: Kind, random: &mut Random) -> u64 {
+    match kind {
+        Kind::Old => 0,
+        Kind::Second => random.pick(&[0, 0, 1, 2, 3, 4, 6, 9]),
+    }
 }
 
 impl Description {
-    pub fn random(random: &mut Random) -> Description {
+    pub fn random(kind: Kind, random: &mut Random) -> Description {
         Description {
+            kind,
+            alignment: random_alignment(kind, random),
             blocks: (0..random.below(4)).map(|_| random_block(random)).collect(),
             others: (0..random.below(4)).map(|_| random_other(random)).collect(),
             count: random.below(9),
             wild: random.once_in(3),
             tail: match random.below(3) {
-                0 => Vec::new(),
-                1 => random.bytes(5),
+                0 => Default::default(),
+                1 => [Vec::new(), random.bytes(5)],
                 _ => cut_short(random),
             },
         }
@@ -93,7 +111,7 @@ impl Description {
 
     /// One that faults of every kind can be brought into: with sectors to read, two blocks, an
     /// entry that may become a second table, and records cut short at the end.
-    pub fn rich(random: &mut Random) -> Description {
+    pub fn rich(kind: Kind, random: &mut Random) -> Description {
         let blocks = (0..2 + random.below(2)).map(|_| {
             let mut block = random_block(random);
             while block.items() == 0 {
@@ -103,6 +121,7 @@ impl Description {
             block
         });
         Description {
+            kind,
             blocks: blocks.collect(),
             others: (0..1 + random.below(3))
                 .map(|_| random_other(random))
@@ -110,15 +129,22 @@ impl Description {
             count: 4 + random.below(3),
             wild: false,
             tail: cut_short(random),
+            alignment: random_alignment(kind, random),
         }
     }
 
-    pub fn build(self, random: &mut Random) -> Vec<u8> {
-        let named: usize = self.blocks.iter().map(|block| block.named).sum();
-        let entries = 1 + named + self.others.len();
+    pub fn with_count(self, count: usize) -> Description {
+        Description { count, ..self }
+    }
+
+    pub fn build(mut self, random: &mut Random) -> Vec<u8> {
+        let blocks = std::mem::take(&mut self.blocks);
+        let others = std::mem::take(&mut self.others);
+        let named: usize = blocks.iter().map(|block| block.named).sum();
+        let entries = 1 + named + others.len();
         let mut parts = vec![Part::Index(entries), Part::Table];
-        parts.extend(self.blocks.into_iter().map(Part::Block));
-        let others = self.others.into_iter();
+        parts.extend(blocks.into_iter().map(Part::Block));
+        let others = others.into_iter();
         parts.extend(others.map(|(bytes, data_type)| Part::Other(bytes, data_type)));
         random.shuffle(&mut parts);
 
@@ -127,17 +153,83 @@ impl Description {
         for part in parts {
             let gap = random.below(3) * random.below(9);
             image.extend(random.bytes(gap));
+            if let Part::Block(_) = part {
+                self.align(&mut image, 0, random);
+            }
             let at = image.len();
-            append(&mut image, &part, self.count);
+            self.append(&mut image, &part, random);
             placed.push((at, part));
         }
-        image.extend(self.tail);
+        let [before, behind] = &self.tail;
+        self.align(&mut image, before.len(), random);
+        image.extend([&before[..], behind].concat());
         fill_index(&mut image, &placed, random);
-        let layout = Layout::of(&image);
-        fill_table(&mut image, &placed, &layout, self.wild, random);
+        let mut layout = Layout::of(&image);
+        let items = items(&placed, self.wild);
+        fill_table(&mut image, &items, &mut layout, self.wild, random);
         layout.make_right(&mut image);
         image
     }
+
+    /// Leaves a gap, so that what stands behind some more bytes is aligned as a block.
+    fn align(&self, image: &mut Vec<u8>, more: usize, random: &mut Random) {
+        let end = image.len() + more;
+        image.extend(random.bytes(end.next_multiple_of(1 << self.alignment) - end));
+    }
+
+    fn append(&self, image: &mut Vec<u8>, part: &Part, random: &mut Random) {
+        let at = image.len();
+        match part {
+            Part::Index(entries) => {
+                image.resize(at + INDEX + INDEX_ENTRY * entries, 0);
+                image[at..at + 4].copy_from_slice(b"IDX2");
+                put(image, at + 4, 8, *entries as u64);
+                put(image, INDEX_OFFSET, 8, at as u64);
+            }
+            Part::Table => image.extend(table(self.kind, self.count, self.alignment, random)),
+            Part::Block(block) => {
+                image.resize(at + BLOCK, 0);
+                image[at..at + 4].copy_from_slice(b"DBLK");
+                put(image, at + 4, 2, 1);
+                put(image, at + 8, 4, block.sector_size as u64);
+                put(image, at + 12, 4, block.payload.len() as u64);
+                put(image, at + 16, 4, block.payload.len() as u64);
+                image.extend(&block.payload);
+            }
+            Part::Other(bytes, _) => image.extend(bytes),
+        }
+    }
+}
+
+/// A table without its shift, entries and checksums. Of 'DDT2', fields that are not looked at have
+/// any values, and blocks is at times the least that is accepted.
+pub fn table(kind: Kind, count: usize, alignment: u64, random: &mut Random) -> Vec<u8> {
+    let length = kind.width() * count;
+    let mut table = vec![0; kind.header() + length];
+    if kind == Kind::Second {
+        table[..kind.header()].copy_from_slice(&random.bytes(kind.header()));
+        let negative = random.pick(&[0, 1, 2, 3, 3, 5, 65_535]);
+        let overflow = random.pick(&[0, 0, 1, 65_535]);
+        let least = negative + overflow;
+        let blocks = random.pick(&[least, least + 1, 1 << 32, u64::MAX]);
+        for (at, width, value) in [
+            (6, 2, 0),
+            (LEVELS, 1, 1),
+            (NEGATIVE, 2, negative),
+            (BLOCKS, 8, blocks),
+            (OVERFLOW, 2, overflow),
+            (ALIGNMENT, 1, alignment),
+            (SIZE_TYPE, 1, 0),
+        ] {
+            put(&mut table, at, width, value);
+        }
+    }
+    table[..4].copy_from_slice(kind.letters());
+    put(&mut table, 4, 2, 1);
+    put(&mut table, kind.entries(), 8, count as u64);
+    put(&mut table, kind.entries() + 8, 8, length as u64);
+    put(&mut table, kind.entries() + 16, 8, length as u64);
+    table
 }
 
 fn header(random: &mut Random) -> Vec<u8> {
@@ -145,37 +237,6 @@ fn header(random: &mut Random) -> Vec<u8> {
     header[..8].copy_from_slice(random.pick(&[b"AARUFRMT", b"DICMFRMT"]));
     header[IMAGE_MAJOR] = 2;
     header
-}
-
-fn append(image: &mut Vec<u8>, part: &Part, count: usize) {
-    let at = image.len();
-    match part {
-        Part::Index(entries) => {
-            image.resize(at + INDEX + INDEX_ENTRY * entries, 0);
-            image[at..at + 4].copy_from_slice(b"IDX2");
-            put(image, at + 4, 8, *entries as u64);
-            put(image, INDEX_OFFSET, 8, at as u64);
-        }
-        Part::Table => {
-            let length = 8 * count;
-            image.resize(at + TABLE + length, 0);
-            image[at..at + 4].copy_from_slice(b"DDT*");
-            put(image, at + 4, 2, 1);
-            put(image, at + 9, 8, count as u64);
-            put(image, at + 17, 8, length as u64);
-            put(image, at + 25, 8, length as u64);
-        }
-        Part::Block(block) => {
-            image.resize(at + BLOCK, 0);
-            image[at..at + 4].copy_from_slice(b"DBLK");
-            put(image, at + 4, 2, 1);
-            put(image, at + 8, 4, block.sector_size as u64);
-            put(image, at + 12, 4, block.payload.len() as u64);
-            put(image, at + 16, 4, block.payload.len() as u64);
-            image.extend(&block.payload);
-        }
-        Part::Other(bytes, _) => image.extend(bytes),
-    }
 }
 
 /// Writes the index's entries in any order.
@@ -199,14 +260,8 @@ fn fill_index(image: &mut [u8], placed: &[(usize, Part)], random: &mut Random) {
     }
 }
 
-/// Writes the table's shift, often larger than needed, and its entries, some not written.
-fn fill_table(
-    image: &mut [u8],
-    placed: &[(usize, Part)],
-    layout: &Layout,
-    wild: bool,
-    random: &mut Random,
-) {
+/// The items that table entries may name, each with its block's offset.
+fn items(placed: &[(usize, Part)], wild: bool) -> Vec<(u64, u64)> {
     let mut items = Vec::new();
     for (at, part) in placed {
         if let Part::Block(block) = part {
@@ -218,15 +273,42 @@ fn fill_table(
             items.extend((0..end).map(|item| (*at as u64, item as u64)));
         }
     }
-    let shift = random.pick(&[0, 1, 2, 3, 3, 5, 12, 31, 32]);
-    items.retain(|&(_, item)| item < 1 << shift);
-    put(image, layout.table + 8, 1, shift);
-    for address in 0..layout.count {
-        if !items.is_empty() && !random.once_in(4) {
-            let (offset, item) = random.pick(&items);
-            let entry = (offset << shift) + item;
-            put(image, layout.table_entry(address), 8, entry);
+    items
+}
+
+/// Writes the table's shift, often larger than needed, and its entries, some not written.
+pub fn fill_table(
+    image: &mut [u8],
+    items: &[(u64, u64)],
+    layout: &mut Layout,
+    wild: bool,
+    random: &mut Random,
+) {
+    let (kind, table) = (layout.kind, layout.table);
+    layout.shift = match kind {
+        Kind::Old => random.pick(&[0, 1, 2, 3, 3, 5, 12, 31, 32]),
+        Kind::Second => {
+            // With a larger one no entry can name the image's last bytes.
+            let bits = u64::from((layout.length >> layout.alignment).ilog2()) + 1;
+            let largest = POINTER_BITS - bits;
+            random.pick(&[0, 1, 2, 3, 3, 5, 12, largest])
         }
+    };
+    put(image, table + kind.shift(), 1, layout.shift);
+    let named = items
+        .iter()
+        .filter_map(|&(at, item)| layout.entry(at, item));
+    let named: Vec<u64> = named.collect();
+    for number in 0..layout.count {
+        let any = random.number();
+        let entry = match kind {
+            Kind::Second if wild && random.once_in(3) => any,
+            _ if !named.is_empty() && !random.once_in(4) => random.pick(&named),
+            Kind::Old => 0,
+            // Not dumped, whatever the pointer is.
+            Kind::Second => any % DUMPED,
+        };
+        put(image, layout.table_entry(number), kind.width(), entry);
     }
 }
 
@@ -237,26 +319,25 @@ fn made(random: &mut Random) -> Vec<u8> {
     let create = arguments::create(random, sectors as u64);
     let (mut used, _) = raw(&mut buffer, 0, &Call::Create(create)).unwrap();
     for _ in 0..2 + random.below(3) {
-        let commit = arguments::commit(random, sectors);
+        let commit = arguments::commit(random, 0..sectors as i64);
         (used, _) = raw(&mut buffer, used, &Call::Commit(commit)).unwrap();
     }
     buffer.truncate(used as usize);
     buffer
 }
 
-/// An image to try things on, in one of four cases made by the library.
-pub fn base(number: usize, random: &mut Random) -> Vec<u8> {
-    match number % 4 {
-        0 => made(random),
-        _ => Description::rich(random).build(random),
+/// An image to try things on, of the old kind in one of four cases made by the library.
+pub fn base(kind: Kind, number: usize, random: &mut Random) -> Vec<u8> {
+    match (kind, number % 4) {
+        (Kind::Old, 0) => made(random),
+        _ => Description::rich(kind, random).build(random),
     }
 }
 
 /// The addresses whose table entries name a block.
 pub fn addresses_in(image: &[u8], layout: &Layout, block: usize) -> Vec<i64> {
-    let named = |address| get(image, layout.table_entry(address), 8) >> layout.shift;
-    (0..layout.count)
-        .filter(|&address| named(address) == layout.blocks[block] as u64)
-        .map(|address| address as i64)
-        .collect()
+    let offset = layout.blocks[block] as u64;
+    let names = |entry| matches!(layout.named(image, entry), Some((at, _)) if at == offset);
+    let entries = (0..layout.count).filter(|&entry| names(entry));
+    entries.map(|entry| layout.address(entry)).collect()
 }

@@ -1,9 +1,10 @@
 //! Document 01 in plain Rust, in the paper's order: layouts, checksum, opening, reading, creating,
 //! committing, rolling back. Each refusal carries the place that request 1/13 gives it; the header
-//! is that of 2/13. All is written from the papers alone and shares no code with the library; it is
-//! there to compare the library with.
+//! is that of 2/13; tables are of both kinds of 11/13, and addresses are signed. All is written
+//! from the papers alone and shares no code with the library; it is there to compare the library
+//! with.
 
-use aaru::{Creation, Refusal};
+use aaru::{AddressRange, Creation, Refusal};
 use std::collections::BTreeMap;
 
 // Layouts.
@@ -20,14 +21,13 @@ const LAST_WRITTEN_TIME: usize = 96;
 const INDEX: u64 = 20;
 const INDEX_ENTRY: u64 = 16;
 const BLOCK: u64 = 36;
-const TABLE: u64 = 49;
-const TABLE_ENTRY: u64 = 8;
 
 const AARUFRMT: u64 = u64::from_le_bytes(*b"AARUFRMT");
 const DICMFRMT: u64 = u64::from_le_bytes(*b"DICMFRMT");
 const IDX2: u64 = u32::from_le_bytes(*b"IDX2") as u64;
 const DBLK: u64 = u32::from_le_bytes(*b"DBLK") as u64;
 const DDT: u64 = u32::from_le_bytes(*b"DDT*") as u64;
+const DDT2: u64 = u32::from_le_bytes(*b"DDT2") as u64;
 const CKSM: u64 = u32::from_le_bytes(*b"CKSM") as u64;
 
 const USER_DATA: u64 = 1;
@@ -67,27 +67,117 @@ impl IndexEntry {
     }
 }
 
-/// What a table entry other than 0x0 means: an item of the block at a byte offset.
-#[derive(Clone, Copy)]
+/// What a table entry names: an item of the block at a byte offset.
+#[derive(Clone, Copy, Debug, PartialEq)]
 struct Pointer {
     offset: u64,
     item: u64,
 }
 
-/// "Entry 0x0 means not written. Otherwise byte offset = entry / 2^shift, whole part, and item
-/// number = the remainder."
-fn decode(entry: u64, shift: u64) -> Option<Pointer> {
-    if entry == 0 {
-        return None;
-    }
-    Some(Pointer {
-        offset: entry / (1 << shift),
-        item: entry % (1 << shift),
-    })
+/// The kinds of table, 01's and that of 11/13. Both have type at 4 and compression at 6, and their
+/// headers end alike: "entries to crc64 as in 'DDT*'", five fields of 8 bytes.
+#[derive(Clone, Copy, PartialEq)]
+enum Kind {
+    /// 'DDT*': shift 8 (1); entries 9.
+    Old,
+    /// 'DDT2': levels 8 (1); tableLevel 9 (1); previousLevel 10 (8); negative 18 (2); blocks 20
+    /// (8); overflow 28 (2) by source document 000; start 30 (8); blockAlignmentShift 38, dataShift
+    /// 39, tableShift 40, sizeType 41 (1 each); entries 42. Not looked at: tableLevel,
+    /// previousLevel, start and tableShift.
+    Second,
 }
 
-/// The entry that `decode` takes apart. What is written lies below 2^32 and has a shift of at most
-/// 32, so that the entry fits its 8 bytes.
+impl Kind {
+    fn of(block_type: u64) -> Option<Kind> {
+        match block_type {
+            DDT => Some(Kind::Old),
+            DDT2 => Some(Kind::Second),
+            _ => None,
+        }
+    }
+
+    /// The length of the header.
+    fn header(self) -> u64 {
+        match self {
+            Kind::Old => 49,
+            Kind::Second => 82,
+        }
+    }
+
+    /// The length of an entry.
+    fn width(self) -> u64 {
+        match self {
+            Kind::Old => 8,
+            Kind::Second => 4,
+        }
+    }
+}
+
+/// An opened table: "the kind, the alignment and `negative` of its table, 0 for the old one". The
+/// shift of a 'DDT2' is its dataShift.
+struct Table<'a> {
+    kind: Kind,
+    offset: u64,
+    payload: &'a [u8],
+    count: u64,
+    shift: u64,
+    alignment: u64,
+    negative: u64,
+}
+
+impl Table<'_> {
+    /// "The entry number is address + `negative`; 20 now applies, for both kinds, where that number
+    /// is below 0 or not below entries."
+    fn entry_number(&self, address: i64) -> Result<u64, Refusal> {
+        let number = i128::from(address) + i128::from(self.negative);
+        match u64::try_from(number) {
+            Ok(number) if number < self.count => Ok(number),
+            _ => Err(refusal(20)),
+        }
+    }
+
+    /// The place of an entry. The payload lies inside the image, so that the place fits.
+    fn entry_place(&self, entry_number: u64) -> u64 {
+        self.offset + self.kind.header() + self.kind.width() * entry_number
+    }
+
+    /// What an entry names, or why it names nothing. "Byte offset = pointer / 2^dataShift, whole
+    /// part, times 2^blockAlignmentShift; item number = the remainder."
+    fn pointer(&self, entry_number: u64) -> Result<Pointer, Refusal> {
+        let width = self.kind.width() as usize;
+        let entry = number(self.payload, width * entry_number as usize, width);
+        let pointer = match self.kind {
+            Kind::Old => pointer_of(entry)?,
+            Kind::Second => pointer_of_second(entry)?,
+        };
+        // 28 bits of a pointer and an alignment of at most 32 make a number of 60 bits.
+        Ok(Pointer {
+            offset: pointer / (1 << self.shift) * (1 << self.alignment),
+            item: pointer % (1 << self.shift),
+        })
+    }
+}
+
+/// "Entry 0x0 means not written."
+fn pointer_of(entry: u64) -> Result<u64, Refusal> {
+    match entry {
+        0 => Err(refusal(21)),
+        _ => Ok(entry),
+    }
+}
+
+/// "Upper four bits are status, the other 28 the pointer"; "status 0 is not dumped, 1 dumped". "A
+/// status of not dumped reads as 21"; "73, any other status, after 21".
+fn pointer_of_second(entry: u64) -> Result<u64, Refusal> {
+    match entry >> 28 {
+        0 => Err(refusal(21)),
+        1 => Ok(entry & 0x0FFF_FFFF),
+        _ => Err(refusal(73)),
+    }
+}
+
+/// The entry of an old table that is taken apart again into this pointer. What is written lies
+/// below 2^32 and has a shift of at most 32, so that the entry fits its 8 bytes.
 fn encode(pointer: Option<Pointer>, shift: u64) -> u64 {
     match pointer {
         None => 0,
@@ -157,15 +247,16 @@ fn refusal(number: u32) -> Refusal {
 struct Disc<'a> {
     image: &'a [u8],
     index: Vec<IndexEntry>,
-    table_offset: u64,
-    table: &'a [u8],
-    count: u64,
-    shift: u64,
+    table: Table<'a>,
 }
 
-/// Opens an image and gives its number of sectors.
-pub fn open(image: &[u8]) -> Result<u64, Refusal> {
-    Ok(open_disc(image)?.count)
+/// Opens an image and gives its number of sectors and its lowest address, "minus `negative`".
+pub fn sector_count(image: &[u8]) -> Result<AddressRange, Refusal> {
+    let table = open_disc(image)?.table;
+    Ok(AddressRange {
+        count: table.count,
+        lowest: -(table.negative as i64),
+    })
 }
 
 fn open_disc(image: &[u8]) -> Result<Disc<'_>, Refusal> {
@@ -187,22 +278,22 @@ fn open_header(image: &[u8]) -> Result<u64, Refusal> {
 }
 
 /// Opening, steps 2 to 5, with the index at `index_offset`: "as read or handed in, even past the
-/// end", it is the place of 4, 5, 6, 9 and 10.
+/// end", it is the place of 4, 5, 6, 9 and 10. "In opening's step 4 both kinds count, so one of
+/// each is 10." (11/13)
 fn open_at(image: &[u8], index_offset: u64) -> Result<Disc<'_>, Refusal> {
     let index = open_index(image, index_offset)?;
-    let mut tables = index.iter().filter(|entry| entry.is_user_data(DDT));
-    let table_offset = tables.next().ok_or(refusal_at(9, index_offset))?.offset;
+    let user_data = index.iter().filter(|entry| entry.data_type == USER_DATA);
+    let mut tables =
+        user_data.filter_map(|entry| Some((Kind::of(entry.block_type)?, entry.offset)));
+    let (kind, offset) = tables.next().ok_or(refusal_at(9, index_offset))?;
     if tables.next().is_some() {
         return Err(refusal_at(10, index_offset));
     }
-    let (table, count, shift) = open_table(image, table_offset)?;
+    let table = open_table(image, kind, offset)?;
     Ok(Disc {
         image,
         index,
-        table_offset,
         table,
-        count,
-        shift,
     })
 }
 
@@ -244,57 +335,93 @@ fn open_index(image: &[u8], index_offset: u64) -> Result<Vec<IndexEntry>, Refusa
     Ok(index)
 }
 
-/// Opening, step 5. Gives the table's payload, count and shift. Its refusals have "the table's
-/// offset".
-fn open_table(image: &[u8], offset: u64) -> Result<(&[u8], u64, u64), Refusal> {
-    let header = part(image, offset, TABLE).ok_or(refusal_at(11, offset))?;
+/// Opening, step 5: "70, levels not 1; 71, sizeType not 0; 72, `negative` and `overflow` together
+/// exceed blocks; in that order after 13; 12 then asks for 4 x entries and both shifts up to 32".
+/// 11 to 14 have "the table's offset", 70 to 72 are among "all others".
+fn open_table(image: &[u8], kind: Kind, offset: u64) -> Result<Table<'_>, Refusal> {
+    let header = part(image, offset, kind.header()).ok_or(refusal_at(11, offset))?;
     if number(header, 6, 2) != NO_COMPRESSION {
         return Err(refusal_at(13, offset));
     }
-    let shift = number(header, 8, 1);
-    let count = number(header, 9, 8);
-    let cmp_length = number(header, 17, 8);
-    let length = number(header, 25, 8);
+    let (shift, alignment, negative) = match kind {
+        Kind::Old => (number(header, 8, 1), 0, 0),
+        Kind::Second => open_second(header)?,
+    };
+    let at = header.len() - 40;
+    let [count, cmp_length, length] = [at, at + 8, at + 16].map(|at| number(header, at, 8));
     if number(header, 4, 2) != USER_DATA
         || shift > 32
-        || u128::from(length) != u128::from(TABLE_ENTRY) * u128::from(count)
+        || alignment > 32
+        || u128::from(length) != u128::from(kind.width()) * u128::from(count)
         || cmp_length != length
     {
         return Err(refusal_at(12, offset));
     }
-    let payload = part(image, offset + TABLE, length).ok_or(refusal_at(11, offset))?;
-    if !checksums_right(header, 33, payload) {
+    let payload = part(image, offset + kind.header(), length).ok_or(refusal_at(11, offset))?;
+    if !checksums_right(header, at + 24, payload) {
         return Err(refusal_at(14, offset));
     }
-    Ok((payload, count, shift))
+    Ok(Table {
+        kind,
+        offset,
+        payload,
+        count,
+        shift,
+        alignment,
+        negative,
+    })
+}
+
+/// Checks 70 to 72 of a 'DDT2'. Gives its dataShift, blockAlignmentShift and negative.
+fn open_second(header: &[u8]) -> Result<(u64, u64, u64), Refusal> {
+    if number(header, 8, 1) != 1 {
+        return Err(refusal(70));
+    }
+    if number(header, 41, 1) != 0 {
+        return Err(refusal(71));
+    }
+    let (negative, overflow) = (number(header, 18, 2), number(header, 28, 2));
+    if negative + overflow > number(header, 20, 8) {
+        return Err(refusal(72));
+    }
+    Ok((number(header, 39, 1), number(header, 38, 1), negative))
 }
 
 // Reading a sector.
 
 /// Reads a sector: the place of its first byte in the image, and its size.
 pub fn locate(image: &[u8], address: i64) -> Result<(u64, u64), Refusal> {
-    read(&open_disc(image)?, address as u64, &mut BTreeMap::new())
+    let disc = open_disc(image)?;
+    let entry_number = disc.table.entry_number(address)?;
+    read(&disc, entry_number, &mut BTreeMap::new())
 }
 
-/// What the table holds for an address below the count.
-fn pointer(disc: &Disc, address: u64) -> Option<Pointer> {
-    let entry = number(disc.table, (TABLE_ENTRY * address) as usize, 8);
-    decode(entry, disc.shift)
+/// The same for many addresses of one image, which is opened once.
+pub fn locate_each(image: &[u8], addresses: &[i64]) -> Vec<Result<(u64, u64), Refusal>> {
+    let disc = match open_disc(image) {
+        Ok(disc) => disc,
+        Err(refused) => return vec![Err(refused); addresses.len()],
+    };
+    let mut right = BTreeMap::new();
+    let mut locate = |&address: &i64| {
+        let entry_number = disc.table.entry_number(address)?;
+        read(&disc, entry_number, &mut right)
+    };
+    addresses.iter().map(&mut locate).collect()
 }
 
-/// Reading's checks after the opening: "the place of the table entry for 22; the block's offset for
-/// 23 to 27". `right` remembers, by the block's offset, whether a block's checksums are right, so
-/// that many reads of one disc compute them once.
-fn read(disc: &Disc, address: u64, right: &mut BTreeMap<u64, bool>) -> Result<(u64, u64), Refusal> {
-    if address >= disc.count {
-        return Err(refusal(20));
-    }
-    let Pointer { offset, item } = pointer(disc, address).ok_or(refusal(21))?;
+/// Reading's checks after 20, by the number of the table entry: "the place of the table entry for
+/// 22; the block's offset for 23 to 27". `right` remembers, by the block's offset, whether a
+/// block's checksums are right, so that many reads of one disc compute them once.
+fn read(
+    disc: &Disc,
+    entry_number: u64,
+    right: &mut BTreeMap<u64, bool>,
+) -> Result<(u64, u64), Refusal> {
+    let Pointer { offset, item } = disc.table.pointer(entry_number)?;
     let mut blocks = disc.index.iter().filter(|entry| entry.is_user_data(DBLK));
     if !blocks.any(|entry| entry.offset == offset) {
-        // The payload lies inside the image, so that the place of its entry fits.
-        let place = disc.table_offset + TABLE + TABLE_ENTRY * address;
-        return Err(refusal_at(22, place));
+        return Err(refusal_at(22, disc.table.entry_place(entry_number)));
     }
     let header = part(disc.image, offset, BLOCK).ok_or(refusal_at(23, offset))?;
     if number(header, 6, 2) != NO_COMPRESSION {
@@ -340,7 +467,7 @@ pub fn create(buffer: &mut [u8], creation: &Creation) -> Result<(u64, u64), Refu
         return Err(refusal(33));
     }
     let table_offset = HEADER;
-    let index_offset = table_offset + TABLE + TABLE_ENTRY * creation.sectors;
+    let index_offset = table_offset + table_length(creation.sectors);
     let used = index_offset + INDEX + INDEX_ENTRY;
     if used > buffer.len() as u64 {
         return Err(refusal(35));
@@ -366,7 +493,7 @@ pub fn create(buffer: &mut [u8], creation: &Creation) -> Result<(u64, u64), Refu
 }
 
 /// Commits sectors of one size at rising addresses. Gives the new `used` and the new index's
-/// offset.
+/// offset. 74 comes "after opening's" numbers, so before 20.
 pub fn commit(
     buffer: &mut [u8],
     used: u64,
@@ -386,15 +513,18 @@ pub fn commit(
         return Err(refusal(34));
     }
     let disc = open_disc(image)?;
-    if addresses.iter().any(|&address| address as u64 >= disc.count) {
-        return Err(refusal(20));
-    }
+    refuse_second(&disc)?;
+    let numbers = addresses
+        .iter()
+        .map(|&address| disc.table.entry_number(address));
+    let numbers: Vec<u64> = numbers.collect::<Result<_, _>>()?;
     let old = old_sectors(&disc)?;
 
     // "Equal sectors are stored once." A sector of this commit is an item of the block at `used`.
-    let mut table: Vec<Option<Pointer>> = (0..disc.count).map(|n| pointer(&disc, n)).collect();
+    let pointers = (0..disc.table.count).map(|number| disc.table.pointer(number).ok());
+    let mut table: Vec<Option<Pointer>> = pointers.collect();
     let mut stored: Vec<&[u8]> = Vec::new();
-    for (&address, sector) in addresses.iter().zip(sectors.chunks_exact(size as usize)) {
+    for (number, sector) in numbers.into_iter().zip(sectors.chunks_exact(size as usize)) {
         let equal_old = old.iter().find(|(_, bytes)| *bytes == sector);
         let pointer = match equal_old {
             Some(&(pointer, _)) => pointer,
@@ -403,7 +533,7 @@ pub fn commit(
                 item: store_once(&mut stored, sector),
             },
         };
-        table[address as usize] = Some(pointer);
+        table[number as usize] = Some(pointer);
     }
 
     // "Appended at `used`, without gaps: one data block if anything is stored; a table of the same
@@ -414,7 +544,7 @@ pub fn commit(
     };
     let block_offset = (!stored.is_empty()).then_some(used);
     let table_offset = used + block_length;
-    let index_offset = table_offset + TABLE + TABLE_ENTRY * disc.count;
+    let index_offset = table_offset + table_length(disc.table.count);
     let index = new_index(&disc.index, table_offset, block_offset);
     let new_used = index_offset + INDEX + INDEX_ENTRY * index.len() as u64;
     if new_used > buffer.len() as u64 {
@@ -432,7 +562,8 @@ pub fn commit(
     Ok((new_used, index_offset))
 }
 
-/// Goes back, or forward again, to the index at `offset`. Gives `used` and that offset.
+/// Goes back, or forward again, to the index at `offset`. Gives `used` and that offset. For 74 the
+/// table that this index names counts: "rollback: at its offset".
 pub fn rollback(
     buffer: &mut [u8],
     used: u64,
@@ -441,7 +572,7 @@ pub fn rollback(
 ) -> Result<(u64, u64), Refusal> {
     let image = lent_image(buffer, used)?;
     open_header(image)?;
-    open_at(image, offset)?;
+    refuse_second(&open_at(image, offset)?)?;
     set_header(buffer, offset, time);
     Ok((used, offset))
 }
@@ -454,16 +585,26 @@ fn lent_image(buffer: &[u8], used: u64) -> Result<&[u8], Refusal> {
     part(buffer, 0, used).ok_or(refusal(32))
 }
 
-/// The written sectors of a disc by rising address, each with its pointer; "the first that reads as
-/// a refusal other than 21 gives that number", and with it the place of that read.
+/// "Commit, rollback, storing a track list and flattening such a child are refused": "74, one of
+/// those four on such an image".
+fn refuse_second(disc: &Disc) -> Result<(), Refusal> {
+    match disc.table.kind {
+        Kind::Old => Ok(()),
+        Kind::Second => Err(refusal(74)),
+    }
+}
+
+/// The written sectors of a disc of the old kind by rising address, each with its pointer; "the
+/// first that reads as a refusal other than 21 gives that number", and with it the place of that
+/// read. An entry of this kind that names nothing is 21.
 fn old_sectors<'a>(disc: &Disc<'a>) -> Result<Vec<(Pointer, &'a [u8])>, Refusal> {
     let mut old = Vec::new();
     let mut right = BTreeMap::new();
-    for address in 0..disc.count {
-        let Some(pointer) = pointer(disc, address) else {
+    for entry_number in 0..disc.table.count {
+        let Ok(pointer) = disc.table.pointer(entry_number) else {
             continue;
         };
-        let (place, size) = read(disc, address, &mut right)?;
+        let (place, size) = read(disc, entry_number, &mut right)?;
         let bytes = &disc.image[place as usize..(place + size) as usize];
         old.push((pointer, bytes));
     }
@@ -533,7 +674,12 @@ fn put_block(image: &mut Vec<u8>, sector_size: u64, payload: &[u8]) {
     image.extend_from_slice(payload);
 }
 
-/// Appends a table, its entries encoded for `shift`.
+/// The length of a table of the old kind.
+fn table_length(count: u64) -> u64 {
+    Kind::Old.header() + Kind::Old.width() * count
+}
+
+/// Appends a table of the old kind, its entries encoded for `shift`.
 fn put_table(image: &mut Vec<u8>, table: &[Option<Pointer>], shift: u64) {
     let mut payload = Vec::new();
     for &pointer in table {
@@ -631,14 +777,26 @@ mod tests {
             .collect()
     }
 
-    /// The shift and the entries of the table in use.
+    /// The shift and the entries of the table in use, which is of the old kind.
     fn table(image: &[u8]) -> (u64, Vec<u64>) {
-        let disc = open_disc(image).ok().unwrap();
-        let entries = disc.table.chunks_exact(8);
+        let table = open_disc(image).ok().unwrap().table;
+        let entries = table.payload.chunks_exact(8);
         (
-            disc.shift,
+            table.shift,
             entries.map(|entry| number(entry, 0, 8)).collect(),
         )
+    }
+
+    fn range(count: u64, lowest: i64) -> AddressRange {
+        AddressRange { count, lowest }
+    }
+
+    fn user_data(block_type: u64, offset: u64) -> IndexEntry {
+        IndexEntry {
+            block_type,
+            data_type: USER_DATA,
+            offset,
+        }
     }
 
     fn sector(image: &[u8], address: i64) -> Result<&[u8], Refusal> {
@@ -669,7 +827,7 @@ mod tests {
         assert_eq!(&image[177..181], b"IDX2");
         assert_eq!(index(image), [(DDT, 1, 104)]);
         assert_eq!(table(image), (0, vec![0, 0, 0]));
-        assert_eq!(open(image), Ok(3));
+        assert_eq!(sector_count(image), Ok(range(3, 0)));
         assert_eq!(locate(image, 0), Err(refusal(21)));
         assert_eq!(locate(image, 3), Err(refusal(20)));
         assert!(buffer[213..].iter().all(|&byte| byte == 0xEE));
@@ -701,7 +859,7 @@ mod tests {
         assert_eq!(&image[455..459], b"IDX2");
         assert_eq!(index(image), [(DDT, 1, 382), (DBLK, 1, 213)]);
         assert_eq!(table(image), (1, vec![426, 426, 427]));
-        assert_eq!(open(image), Ok(3));
+        assert_eq!(sector_count(image), Ok(range(3, 0)));
         assert_eq!(locate(image, 0), Ok((249, 4)));
         assert_eq!(locate(image, 1), Ok((249, 4)));
         assert_eq!(locate(image, 2), Ok((253, 4)));
@@ -764,7 +922,7 @@ mod tests {
             let mut buffer = p1();
             buffer[80..88].copy_from_slice(&offset.to_le_bytes());
             let refused = refusal_at(number, offset);
-            assert_eq!(open(&buffer[..213]), Err(refused));
+            assert_eq!(sector_count(&buffer[..213]), Err(refused));
             assert_eq!(rollback(&mut p1(), 213, offset, 4), Err(refused));
         }
     }
@@ -791,9 +949,18 @@ mod tests {
 
     #[test]
     fn p12_pointer() {
-        let pointer = decode(0x8003, 5).unwrap();
-        assert_eq!((pointer.offset, pointer.item), (1024, 3));
-        assert_eq!(encode(Some(pointer), 5), 0x8003);
+        let table = Table {
+            kind: Kind::Old,
+            offset: 0,
+            payload: &0x8003u64.to_le_bytes(),
+            count: 1,
+            shift: 5,
+            alignment: 0,
+            negative: 0,
+        };
+        let (offset, item) = (1024, 3);
+        assert_eq!(table.pointer(0), Ok(Pointer { offset, item }));
+        assert_eq!(encode(table.pointer(0).ok(), 5), 0x8003);
     }
 
     /// P1's disc with an index that also names a 'CKSM' block and a table of another data type.
@@ -802,12 +969,9 @@ mod tests {
         let mut image = p1();
         image.truncate(213);
         image.extend_from_slice(b"CKSM");
-        let entry = |block_type, data_type, offset| IndexEntry {
-            block_type,
-            data_type,
-            offset,
-        };
-        let entries = [entry(CKSM, 0, 213), entry(DDT, 2, 104), entry(DDT, 1, 104)];
+        let mut entries = [(CKSM, 213), (DDT, 104), (DDT, 104)].map(|(t, at)| user_data(t, at));
+        entries[0].data_type = 0;
+        entries[1].data_type = 2;
         put_index(&mut image, &entries);
         set_header(&mut image, 217, 4);
         image.resize(600, 0);
@@ -819,14 +983,25 @@ mod tests {
 
     #[test]
     fn refused_addresses() {
-        let cases: [(&[i64], u32); 3] = [(&[1, 1], 34), (&[2, 1], 34), (&[1, 3], 20)];
+        let cases: [(&[i64], u32); 7] = [
+            (&[1, 1], 34),
+            (&[2, 1], 34),
+            (&[1, 3], 20),
+            // By their sign these rise, or don't.
+            (&[-1, 0], 20),
+            (&[i64::MIN, i64::MAX], 20),
+            (&[0, -1], 34),
+            (&[-1, i64::MIN], 34),
+        ];
         for (addresses, number) in cases {
             let mut buffer = p2();
             let result = commit(&mut buffer, 382, addresses, 4, b"CCCCDDDD", 8);
             assert_eq!(result, Err(refusal(number)));
             assert_eq!(buffer, p2());
         }
-        assert_eq!(locate(&p2()[..382], 3), Err(refusal(20)));
+        for address in [3, -1, i64::MIN, i64::MAX] {
+            assert_eq!(locate(&p2()[..382], address), Err(refusal(20)));
+        }
         let result = commit(&mut p2(), 382, &[3], 4, b"CCCC", 8);
         assert_eq!(result, Err(refusal(20)));
     }
@@ -859,37 +1034,36 @@ mod tests {
             buffer[at] ^= bits;
             assert_eq!(locate(&buffer[..382], 2), Err(refused), "byte {at}");
         }
-        assert_eq!(open(&p2()[..103]), Err(refusal(1)));
+        assert_eq!(sector_count(&p2()[..103]), Err(refusal(1)));
         // The header is whole and names an index past the end.
-        assert_eq!(open(&p2()[..104]), Err(refusal_at(4, 330)));
+        assert_eq!(sector_count(&p2()[..104]), Err(refusal_at(4, 330)));
     }
 
-    /// P1's disc with another index at 213, its checksum right, and last of all the letters 'DDT*'.
+    /// P1's disc with another index at 213, its checksum right, and last of all 'DDT*' and 'DDT2'.
     #[test]
     fn places_by_index() {
-        let entry = |block_type, offset| IndexEntry {
-            block_type,
-            data_type: USER_DATA,
-            offset,
-        };
+        let entry = user_data;
         let table = entry(DDT, 104);
-        let cases: [(&[IndexEntry], Refusal); 6] = [
+        let cases: [(&[IndexEntry], Refusal); 8] = [
             (&[table, entry(DBLK, 103)], refusal_at(7, 249)),
             (&[table, entry(DBLK, u64::MAX)], refusal_at(7, 249)),
             (&[table, entry(DBLK, 104)], refusal_at(8, 249)),
             (&[], refusal_at(9, 213)),
             (&[table, table], refusal_at(10, 213)),
+            (&[table, entry(DDT2, 269)], refusal_at(10, 213)),
             (&[entry(DDT, 249)], refusal_at(11, 249)),
+            (&[entry(DDT2, 253)], refusal_at(11, 253)),
         ];
         for (entries, refused) in cases {
             let mut image = p1();
             image.truncate(213);
             put_index(&mut image, entries);
             put(&mut image, DDT, 4);
+            put(&mut image, DDT2, 4);
             let used = image.len() as u64;
             assert_eq!(rollback(&mut image, used, 213, 5), Err(refused));
             set_header(&mut image, 213, 4);
-            assert_eq!(open(&image), Err(refused));
+            assert_eq!(sector_count(&image), Err(refused));
             assert_eq!(commit(&mut image, used, &[], 4, b"", 5), Err(refused));
         }
     }
@@ -910,11 +1084,7 @@ mod tests {
     /// the image major now is, they have the first letter of 'DDT*'.
     #[test]
     fn short_header_is_not_kept() {
-        let entry = |block_type, offset| IndexEntry {
-            block_type,
-            data_type: USER_DATA,
-            offset,
-        };
+        let entry = user_data;
         let item = |item| Some(Pointer { offset: 181, item });
         let mut image = b"AARUFRMT".to_vec();
         image.extend_from_slice(&NAME[..32]);
@@ -941,7 +1111,7 @@ mod tests {
         assert_eq!(entries, [362, 362, 363]);
 
         let refused = refusal_at(3, 0);
-        assert_eq!(open(&image), Err(refused));
+        assert_eq!(sector_count(&image), Err(refused));
         assert_eq!(locate(&image, 0), Err(refused));
         let mut buffer = image.clone();
         buffer.resize(700, 0xEE);
@@ -950,5 +1120,222 @@ mod tests {
         assert_eq!(result, Err(refused));
         assert_eq!(rollback(&mut buffer, 475, 298, 9), Err(refused));
         assert_eq!(buffer, old);
+    }
+
+    /// Where the table of `second` stands, and its index.
+    const SECOND_TABLE: usize = 214;
+    const SECOND_INDEX: u64 = 316;
+
+    /// A disc of the second kind: alignment 4, so that blocks stand at multiples of 16; dataShift
+    /// 2; negative 2 and overflow 1, as many as blocks allows. Block 128 = 8 x 16 has three
+    /// sectors, block 176 = 11 x 16 has one. Fields that are not looked at are filled with ones.
+    fn second() -> Vec<u8> {
+        let mut image = p1();
+        image.truncate(HEADER as usize);
+        set_header(&mut image, SECOND_INDEX, 4);
+        image.resize(128, 0xEE);
+        put_block(&mut image, 4, b"AAAABBBBCCCC");
+        assert_eq!(image.len(), 176);
+        put_block(&mut image, 2, b"DD");
+        assert_eq!(image.len(), SECOND_TABLE);
+        let entries = [
+            0x1000_0020,
+            0x0000_0022,
+            0x1000_0022,
+            0x2000_0022,
+            0x1000_002C,
+        ];
+        let payload = entries.map(u32::to_le_bytes).concat();
+        put(&mut image, DDT2, 4);
+        put(&mut image, USER_DATA, 2);
+        put(&mut image, NO_COMPRESSION, 2);
+        image.extend_from_slice(&[1, 0xFF]);
+        put(&mut image, u64::MAX, 8);
+        for (field, width) in [(2, 2), (3, 8), (1, 2), (u64::MAX, 8)] {
+            put(&mut image, field, width);
+        }
+        image.extend_from_slice(&[4, 2, 0xFF, 0]);
+        for field in [5, 20, 20, checksum(&payload), checksum(&payload)] {
+            put(&mut image, field, 8);
+        }
+        image.extend_from_slice(&payload);
+        assert_eq!(image.len() as u64, SECOND_INDEX);
+        let entries = [(DBLK, 128), (DDT2, SECOND_TABLE as u64), (DBLK, 176)];
+        put_index(
+            &mut image,
+            &entries.map(|(letters, at)| user_data(letters, at)),
+        );
+        assert_eq!(image.len(), 384);
+        image
+    }
+
+    #[test]
+    fn second_kind() {
+        let image = second();
+        assert_eq!(sector_count(&image), Ok(range(5, -2)));
+        assert_eq!(locate(&image, -2), Ok((164, 4)));
+        assert_eq!(sector(&image, -2), Ok(&b"AAAA"[..]));
+        assert_eq!(locate(&image, -1), Err(refusal(21)));
+        assert_eq!(locate(&image, 0), Ok((172, 4)));
+        assert_eq!(sector(&image, 0), Ok(&b"CCCC"[..]));
+        assert_eq!(locate(&image, 1), Err(refusal(73)));
+        assert_eq!(locate(&image, 2), Ok((212, 2)));
+        assert_eq!(sector(&image, 2), Ok(&b"DD"[..]));
+        for address in [-3, 3, i64::MIN, i64::MIN + 1, i64::MAX - 2, i64::MAX] {
+            assert_eq!(locate(&image, address), Err(refusal(20)));
+        }
+    }
+
+    /// The disc above with one byte changed, read at address 2.
+    #[test]
+    fn places_in_second_kind() {
+        let table = SECOND_TABLE as u64;
+        let cases = [
+            (4, 2, refusal_at(12, table)),
+            (6, 1, refusal_at(13, table)),
+            (8, 0, refusal(70)),
+            (8, 2, refusal(70)),
+            (20, 2, refusal(72)),
+            (18, 3, refusal(72)),
+            (28, 2, refusal(72)),
+            (38, 33, refusal_at(12, table)),
+            (39, 33, refusal_at(12, table)),
+            (41, 1, refusal(71)),
+            (42, 10, refusal_at(12, table)),
+            (50, 24, refusal_at(12, table)),
+            (58, 24, refusal_at(12, table)),
+            (66, 0, refusal_at(14, table)),
+            (74, 0, refusal_at(14, table)),
+            // The fifth entry then means another offset.
+            (38, 3, refusal_at(22, table + 82 + 16)),
+            (39, 1, refusal_at(22, table + 82 + 16)),
+            // The sector is then at address 3.
+            (18, 1, refusal(73)),
+            (0, 0, refusal_at(8, SECOND_INDEX + 36)),
+        ];
+        for (at, byte, refused) in cases {
+            let mut image = second();
+            image[SECOND_TABLE + at] = byte;
+            assert_eq!(locate(&image, 2), Err(refused), "byte {at} is {byte}");
+        }
+        // 23 entries run up to 388, past the end.
+        let mut image = second();
+        for (at, byte) in [(42, 23), (50, 92), (58, 92)] {
+            image[SECOND_TABLE + at] = byte;
+        }
+        assert_eq!(locate(&image, 2), Err(refusal_at(11, table)));
+    }
+
+    /// "In that order after 13; 12 then": each fault alone hides all that follow.
+    #[test]
+    fn order_in_second_kind() {
+        let table = SECOND_TABLE as u64;
+        let faults = [(6, 1), (8, 2), (41, 1), (20, 2), (4, 2), (74, 0)];
+        let refusals = [
+            refusal_at(13, table),
+            refusal(70),
+            refusal(71),
+            refusal(72),
+            refusal_at(12, table),
+            refusal_at(14, table),
+        ];
+        for (first, refused) in refusals.into_iter().enumerate() {
+            let mut image = second();
+            for (at, byte) in &faults[first..] {
+                image[SECOND_TABLE + at] = *byte;
+            }
+            assert_eq!(sector_count(&image), Err(refused));
+            assert_eq!(rollback(&mut image, 384, SECOND_INDEX, 5), Err(refused));
+        }
+    }
+
+    /// "`negative` and `overflow` together exceed blocks": the sum is a whole number.
+    #[test]
+    fn sums_in_second_kind() {
+        let cases = [
+            (0xFFFF, 0xFFFF, 0x1_FFFE, true),
+            (0xFFFF, 0xFFFF, 0x1_FFFD, false),
+            (0xFFFF, 1, 0xFFFF, false),
+            (0xFFFF, 0xFFFF, u64::MAX, true),
+            (0, 0, 0, true),
+        ];
+        for (negative, overflow, blocks, accepted) in cases {
+            let mut image = second();
+            for (at, width, field) in [(18, 2, negative), (20, 8, blocks), (28, 2, overflow)] {
+                let at = SECOND_TABLE + at;
+                image[at..at + width].copy_from_slice(&field.to_le_bytes()[..width]);
+            }
+            let expected = match accepted {
+                true => Ok(range(5, -(negative as i64))),
+                false => Err(refusal(72)),
+            };
+            assert_eq!(sector_count(&image), expected);
+        }
+    }
+
+    /// The largest pointer and the largest shifts: 28 ones times 2^32 is a whole number.
+    #[test]
+    fn largest_pointer() {
+        let table = |shift| Table {
+            kind: Kind::Second,
+            offset: 0,
+            payload: &[0xFF, 0xFF, 0xFF, 0x1F],
+            count: 1,
+            shift,
+            alignment: 32,
+            negative: 0,
+        };
+        let ones = 0x0FFF_FFFF;
+        let cases = [
+            (0, ones << 32, 0),
+            (27, 1 << 32, ones >> 1),
+            (28, 0, ones),
+            (32, 0, ones),
+        ];
+        for (shift, offset, item) in cases {
+            assert_eq!(table(shift).pointer(0), Ok(Pointer { offset, item }));
+        }
+    }
+
+    /// "74 ... (rollback: at its offset), after opening's", and before 20.
+    #[test]
+    fn second_kind_is_not_written() {
+        let mut buffer = second();
+        buffer.resize(700, 0xEE);
+        let old = buffer.clone();
+        for addresses in [&[0][..], &[9], &[i64::MIN], &[]] {
+            let sectors = vec![b'A'; 4 * addresses.len()];
+            let result = commit(&mut buffer, 384, addresses, 4, &sectors, 5);
+            assert_eq!(result, Err(refusal(74)));
+        }
+        let result = commit(&mut buffer, 384, &[0, -1], 4, b"AAAABBBB", 5);
+        assert_eq!(result, Err(refusal(34)));
+        let result = rollback(&mut buffer, 384, SECOND_INDEX, 5);
+        assert_eq!(result, Err(refusal(74)));
+        assert_eq!(buffer, old);
+    }
+
+    /// Both kinds in one buffer: P1's disc, whose sectors nothing was written to, behind the one
+    /// above. Only going to the old kind is accepted.
+    #[test]
+    fn rollback_between_kinds() {
+        let mut buffer = second();
+        put_table(&mut buffer, &[None; 3], 0);
+        let (offset, table) = (buffer.len() as u64, 384);
+        put_index(&mut buffer, &[user_data(DDT, table)]);
+        let used = buffer.len() as u64;
+        assert_eq!(sector_count(&buffer), Ok(range(5, -2)));
+        assert_eq!(rollback(&mut buffer, used, offset, 5), Ok((used, offset)));
+        assert_eq!(sector_count(&buffer), Ok(range(3, 0)));
+        let refused = rollback(&mut buffer, used, SECOND_INDEX, 6);
+        assert_eq!(refused, Err(refusal(74)));
+        assert_eq!(sector_count(&buffer), Ok(range(3, 0)));
+        // A table of the other kind and another data type doesn't count.
+        let mut other = user_data(DDT2, SECOND_TABLE as u64);
+        other.data_type = 2;
+        put_index(&mut buffer, &[other, user_data(DDT, table)]);
+        let longer = buffer.len() as u64;
+        assert_eq!(rollback(&mut buffer, longer, used, 7), Ok((longer, used)));
+        assert_eq!(sector_count(&buffer), Ok(range(3, 0)));
     }
 }

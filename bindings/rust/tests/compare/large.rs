@@ -1,15 +1,23 @@
 //! A few large inputs, at the limits of what a call takes.
 
-use crate::arguments;
+use crate::arguments::{self, telling_addresses};
+use crate::faults::{edit_image, table_blocks};
+use crate::images::Description;
+use crate::layout::{Kind, Layout};
 use crate::random::Random;
 use crate::sides::{refused, Call, Commit, Sides};
 
 pub fn run(sides: &mut Sides, seed: u64) {
     let mut random = Random::new(seed);
-    many_sectors(sides, &mut random);
-    most_sectors(sides, &mut random);
-    largest_sectors(sides, &mut random);
-    most_addresses(sides, &mut random);
+    match sides.tally.kind {
+        Kind::Old => {
+            many_sectors(sides, &mut random);
+            most_sectors(sides, &mut random);
+            largest_sectors(sides, &mut random);
+            most_addresses(sides, &mut random);
+        }
+        Kind::Second => most_negative(sides, &mut random),
+    }
 }
 
 fn created(sides: &mut Sides, room: usize, sectors: u64, random: &mut Random) -> (Vec<u8>, u64) {
@@ -24,7 +32,7 @@ fn many_sectors(sides: &mut Sides, random: &mut Random) {
     let (mut buffer, mut used) = created(sides, 100_000, 1000, random);
     let mut offsets = Vec::new();
     for _ in 0..6 {
-        let mut commit = arguments::commit(random, 1000);
+        let mut commit = arguments::commit(random, 0..1000);
         commit.sectors = random.bytes(commit.sectors.len());
         let answer = sides.run_on(&mut buffer, used, &Call::Commit(commit));
         let (grown, offset) = answer.expect("room enough");
@@ -96,4 +104,29 @@ fn most_addresses(sides: &mut Sides, random: &mut Random) {
     commit.addresses.push(most as i64);
     commit.sectors.push(b'A');
     assert_eq!(sides.run(&buffer, used, &Call::Commit(commit)), refused(30));
+}
+
+/// The largest displacements, and sectors on both sides of address 0.
+fn most_negative(sides: &mut Sides, random: &mut Random) {
+    let most = 65_535;
+    let count = most as usize + 70;
+    let mut image = Description::rich(Kind::Second, random)
+        .with_count(count)
+        .build(random);
+    let layout = Layout::of(&image);
+    edit_image(
+        &mut image,
+        &layout,
+        &table_blocks(layout.table, most, most, 2 * most),
+    );
+    let (all, used) = (Layout::of(&image).addresses(), image.len() as u64);
+    assert_eq!(all, -65_535..70);
+    sides.compare(&image, used, &Call::SectorCount);
+    let near = (-4..4).chain(telling_addresses(&all));
+    let any: Vec<i64> = (0..30)
+        .map(|_| all.start + random.below(count) as i64)
+        .collect();
+    for address in near.chain(any) {
+        sides.compare(&image, used, &Call::Locate(address));
+    }
 }

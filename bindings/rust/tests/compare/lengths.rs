@@ -1,38 +1,45 @@
 //! Built images as they are, images cut at every length, and buffers of every length around what a
 //! call needs.
 
-use crate::arguments::{self, with_room};
+use crate::arguments::{self, telling_addresses, with_room};
 use crate::images::{self, Description};
-use crate::layout::{Layout, CREATED};
+use crate::layout::{Kind, Layout, CREATED};
 use crate::random::Random;
-use crate::sides::{Call, Sides};
+use crate::sides::{addresses_of, refused, Call, Sides};
 
-pub fn run(sides: &mut Sides, seed: u64) {
+pub fn run(sides: &mut Sides, seed: u64, images: usize) {
+    let kind = sides.tally.kind;
     let mut random = Random::new(seed);
     for number in 0..8 {
-        let image = images::base(number, &mut random);
+        let image = images::base(kind, number, &mut random);
         cut_everywhere(sides, &image, &mut random);
     }
-    for sectors in 1..=8 {
-        buffers_for_creation(sides, sectors, &mut random);
+    if kind == Kind::Old {
+        for sectors in 1..=8 {
+            buffers_for_creation(sides, sectors, &mut random);
+        }
+        for number in 0..150 {
+            let image = images::base(kind, number, &mut random);
+            buffers_for_commit(sides, &image, &mut random);
+        }
     }
-    for number in 0..150 {
-        let image = images::base(number, &mut random);
-        buffers_for_commit(sides, &image, &mut random);
+    for _ in 0..images {
+        let image = Description::random(kind, &mut random).build(&mut random);
+        built_image(sides, &image, &mut random);
     }
-    built_images(sides, &mut random);
 }
 
 /// Every call on the image's first bytes, as many as there are.
 fn cut_everywhere(sides: &mut Sides, image: &[u8], random: &mut Random) {
     let layout = Layout::of(image);
     let buffer = with_room(image, 600, random);
-    let commit = Call::Commit(arguments::commit(random, layout.count));
+    let all = layout.addresses();
+    let commit = Call::Commit(arguments::commit(random, all.clone()));
     let offset = layout.index as u64;
     for used in 0..=image.len() as u64 {
-        sides.compare(&buffer, used, &Call::Open);
+        sides.compare(&buffer, used, &Call::SectorCount);
         for _ in 0..2 {
-            let address = random.below(layout.count + 1) as i64;
+            let address = all.start + random.below(layout.count + 1) as i64;
             sides.compare(&buffer, used, &Call::Locate(address));
         }
         sides.compare(&buffer, used, &commit);
@@ -54,7 +61,7 @@ fn buffers_for_creation(sides: &mut Sides, sectors: u64, random: &mut Random) {
 
 fn buffers_for_commit(sides: &mut Sides, image: &[u8], random: &mut Random) {
     let used = image.len() as u64;
-    let commit = Call::Commit(arguments::commit(random, Layout::of(image).count));
+    let commit = Call::Commit(arguments::commit(random, Layout::of(image).addresses()));
     let buffer = with_room(image, 1000, random);
     let (needed, _) = sides.run(&buffer, used, &commit).expect("there is room");
     let needed = needed as usize;
@@ -64,23 +71,23 @@ fn buffers_for_commit(sides: &mut Sides, image: &[u8], random: &mut Random) {
     }
 }
 
-/// Built images of all kinds, every address of each.
-fn built_images(sides: &mut Sides, random: &mut Random) {
-    for _ in 0..3000 {
-        let image = Description::random(random).build(random);
-        let layout = Layout::of(&image);
-        let used = image.len() as u64;
-        let buffer = with_room(&image, 700, random);
-        sides
-            .run(&buffer, used, &Call::Open)
-            .expect("it is well built");
-        for address in 0..=layout.count as i64 {
-            sides.compare(&buffer, used, &Call::Locate(address));
-        }
-        let commit = Call::Commit(arguments::commit(random, layout.count));
-        sides.compare(&buffer, used, &commit);
-        let (offset, time) = (layout.index as u64, random.number());
-        let answer = sides.run(&buffer, used, &Call::Rollback { offset, time });
-        assert_eq!(answer, Ok((used, offset)));
+/// A built image as it is, and every address of it.
+fn built_image(sides: &mut Sides, image: &[u8], random: &mut Random) {
+    let layout = Layout::of(image);
+    let (used, all) = (image.len() as u64, layout.addresses());
+    let buffer = with_room(image, 700, random);
+    let answer = sides.run(&buffer, used, &Call::SectorCount);
+    assert_eq!(answer.map(addresses_of), Ok(all.clone()));
+    for address in all.clone().chain([random.pick(&telling_addresses(&all))]) {
+        sides.compare(&buffer, used, &Call::Locate(address));
     }
+    let commit = Call::Commit(arguments::commit(random, all));
+    sides.compare(&buffer, used, &commit);
+    let (offset, time) = (layout.index as u64, random.number());
+    let answer = sides.run(&buffer, used, &Call::Rollback { offset, time });
+    let expected = match layout.kind {
+        Kind::Old => Ok((used, offset)),
+        Kind::Second => refused(74),
+    };
+    assert_eq!(answer, expected);
 }

@@ -1,6 +1,6 @@
-//! Runs the library beside an independent implementation of document 01 on some hundred thousand
-//! inputs and compares answers, bytes and reads. An input is one call with all its arguments, its
-//! buffer included.
+//! Runs the library beside an independent implementation of documents 01 and 02 on several hundred
+//! thousand inputs for each kind of table, and compares answers, bytes and reads. An input is one
+//! call with all its arguments, its buffer included.
 
 mod arguments;
 mod faults;
@@ -11,48 +11,65 @@ mod independent;
 mod large;
 mod layout;
 mod lengths;
+mod mixed;
 mod pairs;
 mod random;
 mod sides;
 mod sparse;
+mod tables;
 mod tally;
 
 use aaru::ffi::*;
 use aaru::Creation;
+use layout::Kind;
 use sides::Sides;
 use std::ptr::{null, null_mut};
 use std::thread;
 use tally::Tally;
 
-/// The numbers after `sides` are seeds; those after them say how many images or histories.
-const PARTS: [fn(&mut Sides); 8] = [
-    |sides| fields::run(sides, 1, 8),
-    |sides| fields::run(sides, 2, 8),
-    |sides| pairs::run(sides, 3, 16),
-    |sides| pairs::run(sides, 4, 16),
-    |sides| histories::run(sides, 5, 2000),
-    |sides| lengths::run(sides, 6),
-    |sides| large::run(sides, 7),
-    |sides| sparse::run(sides, 8),
+type Part = (Kind, fn(&mut Sides));
+
+/// Each part has images of one kind. The numbers after `sides` are seeds; those after them say how
+/// many images or histories.
+const PARTS: [Part; 18] = [
+    (Kind::Old, |sides| fields::run(sides, 1, 9)),
+    (Kind::Old, |sides| fields::run(sides, 2, 9)),
+    (Kind::Old, |sides| pairs::run(sides, 3, 18)),
+    (Kind::Old, |sides| pairs::run(sides, 4, 18)),
+    (Kind::Old, |sides| histories::run(sides, 5, 2000)),
+    (Kind::Old, |sides| lengths::run(sides, 6, 3200)),
+    (Kind::Old, |sides| large::run(sides, 7)),
+    (Kind::Old, |sides| sparse::run(sides, 8)),
+    (Kind::Old, |sides| mixed::run(sides, 9, 60)),
+    (Kind::Second, |sides| fields::run(sides, 11, 9)),
+    (Kind::Second, |sides| fields::run(sides, 12, 9)),
+    (Kind::Second, |sides| pairs::run(sides, 13, 18)),
+    (Kind::Second, |sides| pairs::run(sides, 15, 18)),
+    (Kind::Second, |sides| tables::run(sides, 14, 1280)),
+    (Kind::Second, |sides| lengths::run(sides, 16, 3000)),
+    (Kind::Second, |sides| large::run(sides, 17)),
+    (Kind::Second, |sides| sparse::run(sides, 18)),
+    (Kind::Second, |sides| mixed::run(sides, 19, 60)),
 ];
 
 #[test]
 fn both_sides_agree() {
-    let mut tally = Tally::default();
+    let mut tallies = [Kind::Old, Kind::Second].map(Tally::new);
     thread::scope(|scope| {
-        let run = |part: fn(&mut Sides)| {
-            scope.spawn(move || {
-                let mut sides = Sides::new();
+        let run = |(kind, part): Part| {
+            let run = move || {
+                let mut sides = Sides::new(kind);
                 part(&mut sides);
                 sides.tally
-            })
+            };
+            (kind, scope.spawn(run))
         };
-        for part in PARTS.map(run) {
-            tally.add(part.join().expect("a part failed"));
+        for (kind, part) in PARTS.map(run) {
+            tallies[kind as usize].add(part.join().expect("a part failed"));
         }
     });
-    tally.print();
-    tally.check();
+    tallies.iter().for_each(Tally::print);
+    tallies.iter().for_each(Tally::check);
 }
 
 /// As bindings/c/aaru.h says: where a length is 0, the pointer may be null.
@@ -74,7 +91,7 @@ fn null_pointers_to_nothing() {
     let (mut a, mut b) = (0, 0);
     // One for each call: a refused one sets it.
     let mut places = [7; 5];
-    // SAFETY: the pointers that are not null are valid for their lengths, and apart from each other.
+    // SAFETY: those pointers that are not null are valid for their lengths and apart from others.
     unsafe {
         let mut lowest = 0;
         let count = aaru_sector_count(nothing.0, 0, &mut a, &mut lowest, &mut places[0]);

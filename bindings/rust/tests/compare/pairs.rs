@@ -1,38 +1,42 @@
 //! Two faults at once: a call that is accepted, and any two faults each of which alone is refused,
 //! with another number or place than the other. What both give is decided by the order of checks.
 
-use crate::arguments::{self, with_room};
+use crate::arguments::{self, outside, with_room};
 use crate::faults::{self, clash, with, Edit::*, Fault, Input};
 use crate::images;
-use crate::layout::{Layout, CREATED, HEADER};
+use crate::layout::{Kind, Layout, CREATED, HEADER};
 use crate::random::Random;
 use crate::sides::{Answer, Call, Sides};
 use aaru::Refusal;
 
 pub fn run(sides: &mut Sides, seed: u64, images: usize) {
+    let kind = sides.tally.kind;
     let mut random = Random::new(seed);
     for number in 0..images {
-        let image = images::base(number, &mut random);
+        let image = images::base(kind, number, &mut random);
         let layout = Layout::of(&image);
         if faults::read_addresses(&image, &layout).is_empty() {
             continue;
         }
-        open(sides, &image, &layout, &mut random);
+        sector_count(sides, &image, &layout, &mut random);
         locate(sides, &image, &layout, &mut random);
         commit(sides, &image, &layout, &mut random);
         rollback(sides, &image, &layout, &mut random);
-        create(sides, &mut random);
+        if kind == Kind::Old {
+            create(sides, &mut random);
+        }
     }
 }
 
 /// The order of checks, which is the same for all calls as far as they have them.
-const ORDER: [u32; 28] = [
-    31, 32, 30, 33, 34, 1, 2, 3, 4, 5, 6, 7, 8, 9, 10, 11, 13, 12, 14, 20, 21, 22, 23, 24, 25, 26,
-    27, 35,
+const ORDER: [u32; 33] = [
+    31, 32, 30, 33, 34, 1, 2, 3, 4, 5, 6, 7, 8, 9, 10, 11, 13, 70, 71, 72, 12, 14, 74, 20, 21, 73,
+    22, 23, 24, 25, 26, 27, 35,
 ];
 
 /// Runs the base, every fault alone, and two of them with different numbers or places at once:
-/// those that are near each other in the order of checks always, the rest sometimes.
+/// those that are near each other in the order of checks always, the rest sometimes. The base is
+/// accepted, but for a call that would write to the second kind.
 fn pairs(
     sides: &mut Sides,
     base: &Input,
@@ -40,7 +44,9 @@ fn pairs(
     faults: Vec<Fault>,
     random: &mut Random,
 ) {
-    run_input(sides, base).expect("the base is accepted");
+    let refusal = run_input(sides, base).err().map(|refusal| refusal.number);
+    let not_written = layout.kind == Kind::Second && base.call.writes();
+    assert_eq!(refusal, not_written.then_some(74));
     let mut refused = Vec::new();
     for fault in faults {
         if let Err(refusal) = run_input(sides, &with(base, layout, &fault)) {
@@ -72,18 +78,18 @@ fn run_input(sides: &mut Sides, input: &Input) -> Answer {
     sides.run(&input.buffer, input.used, &input.call)
 }
 
-fn open(sides: &mut Sides, image: &[u8], layout: &Layout, random: &mut Random) {
+fn sector_count(sides: &mut Sides, image: &[u8], layout: &Layout, random: &mut Random) {
     let base = Input {
         buffer: image.to_vec(),
         used: image.len() as u64,
-        call: Call::Open,
+        call: Call::SectorCount,
     };
     let faults = faults::of_opening(image, layout);
     pairs(sides, &base, layout, faults, random);
 }
 
 fn locate(sides: &mut Sides, image: &[u8], layout: &Layout, random: &mut Random) {
-    let count = layout.count as i64;
+    let all = layout.addresses();
     let address = random.pick(&faults::read_addresses(image, layout));
     let base = Input {
         buffer: image.to_vec(),
@@ -92,15 +98,15 @@ fn locate(sides: &mut Sides, image: &[u8], layout: &Layout, random: &mut Random)
     };
     let mut faults = faults::of_opening(image, layout);
     faults.extend(faults::of_reading(image, layout, address));
-    faults.extend((0..=count).map(|address| vec![Address(address)]));
-    faults.push(vec![Address(-1)]);
+    let addresses = all.clone().chain(outside(&all));
+    faults.extend(addresses.map(|address| vec![Address(address)]));
     pairs(sides, &base, layout, faults, random);
 }
 
 fn commit(sides: &mut Sides, image: &[u8], layout: &Layout, random: &mut Random) {
     let used = image.len() as u64;
     let commit = loop {
-        let commit = arguments::commit(random, layout.count);
+        let commit = arguments::commit(random, layout.addresses());
         if commit.addresses.len() >= 3 {
             break commit;
         }
@@ -110,8 +116,12 @@ fn commit(sides: &mut Sides, image: &[u8], layout: &Layout, random: &mut Random)
         used,
         call: Call::Commit(commit.clone()),
     };
-    let (needed, _) = run_input(sides, &base).expect("there is room");
-    base.buffer.truncate(needed as usize + random.below(3));
+    let needed = match run_input(sides, &base) {
+        Ok((needed, _)) => needed as usize,
+        // To the second kind nothing is written, whatever the buffer's length.
+        Err(_) => image.len() + 500,
+    };
+    base.buffer.truncate(needed + random.below(3));
 
     let mut faults = faults::of_opening(image, layout);
     for address in faults::read_addresses(image, layout) {
@@ -128,9 +138,14 @@ fn commit(sides: &mut Sides, image: &[u8], layout: &Layout, random: &mut Random)
         vec![BytesLength(bytes - commit.size as usize)],
         vec![FirstAddress(second)],
         vec![FirstAddress(second + 1)],
-        vec![LastAddress(layout.count as i64)],
+        // By their sign the first two rise, the others don't.
+        vec![FirstAddress(layout.addresses().start - 1)],
+        vec![FirstAddress(i64::MIN)],
+        vec![LastAddress(layout.addresses().start - 1)],
+        vec![LastAddress(i64::MIN)],
+        vec![LastAddress(layout.addresses().end)],
         vec![LastAddress(i64::MAX)],
-        vec![BufferLength(needed as usize - 1)],
+        vec![BufferLength(needed - 1)],
         vec![BufferLength(image.len())],
     ]);
     if random.once_in(5) {

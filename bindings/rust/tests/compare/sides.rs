@@ -1,16 +1,18 @@
 //! One input run by the library, by its safe wrapper and by the independent implementation, and
 //! everything that they give compared.
 
+use crate::arguments::outside;
 use crate::independent;
-use crate::layout::{get, Layout, INDEX, INDEX_OFFSET};
+use crate::layout::{get, Kind, Layout, INDEX, INDEX_OFFSET};
 use crate::random::Random;
 use crate::tally::Tally;
-use aaru::{ffi, Creation, Placed, Refusal};
+use aaru::{ffi, AddressRange, Creation, Placed, Refusal};
+use std::ops::Range;
 
 /// A call without its buffer. For opening and reading the image is the buffer's first `used` bytes.
 #[derive(Clone, Debug)]
 pub enum Call {
-    Open,
+    SectorCount,
     Locate(i64),
     Create(Create),
     Commit(Commit),
@@ -54,7 +56,7 @@ impl Call {
     /// Its place in `tally::CALLS`.
     pub fn column(&self) -> usize {
         match self {
-            Call::Open => 0,
+            Call::SectorCount => 0,
             Call::Locate(_) => 1,
             Call::Create(_) => 2,
             Call::Commit(_) => 3,
@@ -62,12 +64,13 @@ impl Call {
         }
     }
 
-    fn writes(&self) -> bool {
+    pub fn writes(&self) -> bool {
         self.column() >= 2
     }
 }
 
-/// Count and lowest address, start and size, or `used` and index offset; or the refusal.
+/// Count and lowest address (its 64 bits), start and size, or `used` and index offset; or the
+/// refusal.
 pub type Answer = Result<(u64, u64), Refusal>;
 
 /// The answer where the refusal is about no record of the image.
@@ -88,8 +91,8 @@ pub fn raw(buffer: &mut [u8], used: u64, call: &Call) -> Answer {
     // SAFETY: all slices are valid for their lengths, and the buffer is borrowed alone.
     let number = unsafe {
         match call {
-            Call::Open => {
-                let mut lowest = second as i64;
+            Call::SectorCount => {
+                let mut lowest = second.cast_signed();
                 let number = ffi::aaru_sector_count(
                     start,
                     used as usize,
@@ -97,7 +100,7 @@ pub fn raw(buffer: &mut [u8], used: u64, call: &Call) -> Answer {
                     &mut lowest,
                     &mut place,
                 );
-                second = lowest as u64;
+                second = lowest.cast_unsigned();
                 number
             }
             Call::Locate(address) => ffi::aaru_locate(
@@ -157,11 +160,21 @@ pub fn raw(buffer: &mut [u8], used: u64, call: &Call) -> Answer {
     Ok((first, second))
 }
 
+fn pair_of(range: AddressRange) -> (u64, u64) {
+    (range.count, range.lowest.cast_unsigned())
+}
+
+/// The addresses of a disc whose opening was answered with this pair.
+pub fn addresses_of((count, lowest): (u64, u64)) -> Range<i64> {
+    let lowest = lowest.cast_signed();
+    lowest..lowest + count as i64
+}
+
 /// The safe wrapper's call.
 pub fn safe(buffer: &mut [u8], used: u64, call: &Call) -> Answer {
     let pair = |placed: Placed| (placed.used, placed.index);
     match call {
-        Call::Open => aaru::sector_count(&buffer[..used as usize]).map(|s| (s.count, s.lowest as u64)),
+        Call::SectorCount => aaru::sector_count(&buffer[..used as usize]).map(pair_of),
         Call::Locate(address) => {
             let image = &buffer[..used as usize];
             aaru::read(image, *address).map(|sector| {
@@ -186,7 +199,7 @@ pub fn safe(buffer: &mut [u8], used: u64, call: &Call) -> Answer {
 /// The independent implementation's call.
 pub fn other(buffer: &mut [u8], used: u64, call: &Call) -> Answer {
     match call {
-        Call::Open => independent::open(&buffer[..used as usize]).map(|count| (count, 0)),
+        Call::SectorCount => independent::sector_count(&buffer[..used as usize]).map(pair_of),
         Call::Locate(address) => independent::locate(&buffer[..used as usize], *address),
         Call::Create(create) => independent::create(buffer, &create.about()),
         Call::Commit(commit) => independent::commit(
@@ -209,14 +222,18 @@ fn part(image: &[u8], start: u64, size: usize) -> &[u8] {
 pub struct Sides {
     pub tally: Tally,
     copies: [Vec<u8>; 3],
+    /// The image whose reads were compared last.
+    read: Vec<u8>,
     random: Random,
 }
 
 impl Sides {
-    pub fn new() -> Sides {
+    /// For inputs with images of one kind, by the index that their header names.
+    pub fn new(kind: Kind) -> Sides {
         Sides {
-            tally: Tally::default(),
+            tally: Tally::new(kind),
             copies: Default::default(),
+            read: Vec::new(),
             random: Random::new(0),
         }
     }
@@ -245,10 +262,10 @@ impl Sides {
         }
 
         let image = &buffer[..buffer.len().min(used as usize)];
-        self.tally.count(call.column(), answer);
+        self.tally.count(call, answer);
         if let Err(refusal) = answer {
             if telling(image, call, refusal) {
-                self.tally.count_telling(call.column(), refusal);
+                self.tally.count_telling(call, refusal);
             }
         }
         if !matches!(call, Call::Create(_)) && used <= buffer.len() as u64 {
@@ -282,15 +299,21 @@ impl Sides {
 
     fn note(&mut self, image: &[u8]) {
         self.tally
-            .image(image, |image| independent::open(image).is_ok());
+            .image(image, |image| independent::sector_count(image).is_ok());
     }
 
     fn compare_reads(&mut self, used: usize) {
         let image = self.copies[0][..used].to_vec();
         self.note(&image);
-        let count = independent::open(&image).unwrap_or(0);
-        for address in addresses_to_read(count, &mut self.random) {
-            let sector = independent::locate(&image, address);
+        // Call after call leaves an image of the second kind as it is: once is enough.
+        if self.tally.kind == Kind::Second && image == self.read {
+            return;
+        }
+        let range = independent::sector_count(&image).map(pair_of);
+        let all = addresses_of(range.unwrap_or_default());
+        let addresses = addresses_to_read(all, &mut self.random);
+        let sectors = independent::locate_each(&image, &addresses);
+        for (address, sector) in addresses.into_iter().zip(sectors) {
             let call = Call::Locate(address);
             let answers = [
                 raw(&mut self.copies[0], used as u64, &call),
@@ -301,6 +324,7 @@ impl Sides {
         }
         let copies = &self.copies;
         assert!(copies[0] == copies[2] && copies[1] == copies[2]);
+        self.read = image;
     }
 }
 
@@ -320,17 +344,19 @@ fn telling(image: &[u8], call: &Call, Refusal { number, place }: Refusal) -> boo
     }
 }
 
-/// Every address of a small disc, some of a large one, and some that no disc has.
-fn addresses_to_read(count: u64, random: &mut Random) -> Vec<i64> {
-    let count = count as i64;
+/// Every address of a small disc, some of a large one, and some that the disc does not have.
+fn addresses_to_read(all: Range<i64>, random: &mut Random) -> Vec<i64> {
+    let (lowest, end) = (all.start, all.end);
+    let count = (end - lowest) as usize;
     let mut addresses: Vec<i64> = match count {
-        0..=256 => (0..count).collect(),
+        0..=256 => all.clone().collect(),
         257..=4096 => {
-            let any = (0..64).map(|_| random.number() as i64 & i64::MAX).map(|n| n % count);
-            (0..64).chain(count - 64..count).chain(any).collect()
+            let any = (0..64).map(|_| lowest + random.below(count) as i64);
+            let ends = (lowest..lowest + 64).chain(end - 64..end);
+            ends.chain(any).collect()
         }
-        _ => vec![0, count / 2, count - 1],
+        _ => vec![lowest, lowest + (end - lowest) / 2, end - 1],
     };
-    addresses.extend([count, count + 1, 1 << 32, i64::MAX, -1, i64::MIN]);
+    addresses.extend(outside(&all));
     addresses
 }

@@ -3,7 +3,7 @@
 use crate::arguments;
 use crate::faults::{self, read_addresses};
 use crate::images::Description;
-use crate::layout::{get, put, Layout, HEADER, INDEX_OFFSET};
+use crate::layout::{get, put, Kind, Layout, ALIGNMENT, HEADER, INDEX_OFFSET};
 use crate::random::Random;
 use crate::sides::{other, raw, refused, safe, Answer, Call, Commit, Sides};
 use std::ffi::c_void;
@@ -58,50 +58,63 @@ const FRONT: usize = 65_536;
 const SECTORS: u64 = 6;
 
 pub fn run(sides: &mut Sides, seed: u64) {
+    let kind = sides.tally.kind;
     let mut random = Random::new(seed);
-    let mut mappings = [MOST + FRONT, MOST, MOST].map(Mapping::new);
-    let [first, second, third] = &mut mappings;
-    let long = first.bytes();
+    let mut mapping = Mapping::new(MOST + FRONT);
+    let long = mapping.bytes();
     too_long(sides, &mut long[..MOST + 1], &mut random);
-    let buffers = [&mut long[..MOST], second.bytes(), third.bytes()];
-    longest(sides, buffers, &mut random);
-    // The first and the last bytes were compared; between and behind them no byte may have changed.
-    let nothing = [0; FRONT];
-    let mut between = long[FRONT..MOST - FRONT].chunks_exact(FRONT);
-    assert!(between.all(|part| part == nothing));
-    assert_eq!(long[MOST..], nothing);
-    far_behind(sides, &mut long[..MOST], &mut random);
-    // Reading has no length limit: here every record stands above 4 GiB.
-    far_behind(sides, long, &mut random);
+    if kind == Kind::Old {
+        let mut mappings = [MOST, MOST].map(Mapping::new);
+        let [second, third] = &mut mappings;
+        let buffers = [&mut long[..MOST], second.bytes(), third.bytes()];
+        longest(sides, buffers, &mut random);
+        // The first and the last bytes were compared; between and behind them no byte may have
+        // changed.
+        let nothing = [0; FRONT];
+        let mut between = long[FRONT..MOST - FRONT].chunks_exact(FRONT);
+        assert!(between.all(|part| part == nothing));
+        assert_eq!(long[MOST..], nothing);
+    }
+    // Reading has no length limit: in the longer one every record stands above 4 GiB.
+    for length in [MOST, MOST + FRONT] {
+        let layout = build_far_behind(kind, &mut long[..length], &mut random);
+        far_behind(sides, &mut long[..layout.length], &layout, &mut random);
+    }
+    if kind == Kind::Second {
+        let layout = build_at_4_gib(long, &mut random);
+        far_behind(sides, &mut long[..layout.length], &layout, &mut random);
+    }
 }
 
 /// Calls that would be accepted if the buffer were not too long, and some with a second fault.
 fn too_long(sides: &mut Sides, buffer: &mut [u8], random: &mut Random) {
-    let image = Description::rich(random).build(random);
+    let kind = sides.tally.kind;
+    let image = Description::rich(kind, random).build(random);
     let layout = Layout::of(&image);
     buffer[..image.len()].copy_from_slice(&image);
-    let commit = arguments::commit(random, layout.count);
+    let commit = arguments::commit(random, layout.addresses());
     let mut wrong_commit = commit.clone();
     wrong_commit.size = 0;
     let create = arguments::create(random, SECTORS);
     let mut wrong_create = create.clone();
     wrong_create.sectors = 0;
     let offset = layout.index as u64;
-    let calls = [
-        Call::Create(create),
-        Call::Create(wrong_create),
+    let mut calls = vec![
         Call::Commit(commit),
         Call::Commit(wrong_commit),
         Call::Rollback { offset, time: 5 },
         Call::Rollback { offset: 0, time: 5 },
     ];
+    if kind == Kind::Old {
+        calls.extend([create, wrong_create].map(Call::Create));
+    }
     for call in &calls {
         for used in [image.len() as u64, 0, MOST as u64 + 1, MOST as u64 + 2] {
             for side in [raw, safe, other] {
                 assert_eq!(side(buffer, used, call), refused(31), "{call:?}");
                 assert_eq!(buffer[..image.len()], image);
             }
-            sides.tally.count(call.column(), refused(31));
+            sides.tally.count(call, refused(31));
         }
     }
     buffer[..image.len()].fill(0);
@@ -111,7 +124,7 @@ fn too_long(sides: &mut Sides, buffer: &mut [u8], random: &mut Random) {
 fn longest(sides: &mut Sides, mut buffers: [&mut [u8]; 3], random: &mut Random) {
     let mut run = |used: u64, call: Call| -> Answer {
         let answer = on_each(&mut buffers, used, &call);
-        sides.tally.count(call.column(), answer);
+        sides.tally.count(&call, answer);
         if let Ok((used, _)) = answer {
             for address in 0..=SECTORS as i64 {
                 on_each(&mut buffers, used, &Call::Locate(address)).ok();
@@ -162,28 +175,28 @@ fn on_each([first, second, third]: &mut [&mut [u8]; 3], used: u64, call: &Call) 
 
 /// An image whose records all stand at the buffer's end, as it is and with each fault. One buffer
 /// is enough for all sides: there is no room to commit, and a rollback writes the same again.
-fn far_behind(sides: &mut Sides, buffer: &mut [u8], random: &mut Random) {
-    let layout = build_far_behind(buffer, random);
-    for address in 0..=layout.count as i64 {
+fn far_behind(sides: &mut Sides, buffer: &mut [u8], layout: &Layout, random: &mut Random) {
+    let all = layout.addresses();
+    for address in all.clone().chain([all.end]) {
         let answer = on_one(sides, buffer, &Call::Locate(address));
         assert!(answer.is_ok() || [refused(20), refused(21)].contains(&answer));
     }
-    let address = read_addresses(buffer, &layout)[0];
+    let address = read_addresses(buffer, layout)[0];
     let calls = [
-        Call::Open,
+        Call::SectorCount,
         Call::Locate(address),
-        Call::Commit(arguments::commit(random, layout.count)),
+        Call::Commit(arguments::commit(random, all)),
         Call::Rollback {
             offset: layout.index as u64,
             time: 8,
         },
     ];
-    let mut faults = faults::of_opening(buffer, &layout);
-    faults.extend(faults::of_reading(buffer, &layout, address));
+    let mut faults = faults::of_opening(buffer, layout);
+    faults.extend(faults::of_reading(buffer, layout, address));
     let far = buffer.len() - FRONT;
     let (header, records) = (buffer[..HEADER].to_vec(), buffer[far..].to_vec());
     for fault in faults {
-        faults::edit_image(buffer, &layout, &fault);
+        faults::edit_image(buffer, layout, &fault);
         for call in &calls {
             on_one(sides, buffer, call).ok();
         }
@@ -197,36 +210,64 @@ fn on_one(sides: &mut Sides, buffer: &mut [u8], call: &Call) -> Answer {
     let answer = raw(buffer, used, call);
     assert_eq!(safe(buffer, used, call), answer);
     assert_eq!(other(buffer, used, call), answer);
-    sides.tally.count(call.column(), answer);
+    sides.tally.count(call, answer);
     answer
 }
 
-/// Only the header stands at the buffer's front.
-fn build_far_behind(buffer: &mut [u8], random: &mut Random) -> Layout {
-    let (image, mut layout) = loop {
-        let image = Description::rich(random).build(random);
+/// Only the header stands at the buffer's front, all else as far behind as alignment lets it.
+fn build_far_behind(kind: Kind, buffer: &mut [u8], random: &mut Random) -> Layout {
+    loop {
+        let image = Description::rich(kind, random).build(random);
         let layout = Layout::of(&image);
-        // With a larger shift no entry can name so far an offset.
-        if layout.shift < 32 && !read_addresses(&image, &layout).is_empty() {
-            break (image, layout);
+        let far = (buffer.len() - image.len()) >> layout.alignment << layout.alignment;
+        let layout = move_behind(buffer, &image, far, layout.alignment);
+        if !read_addresses(buffer, &layout).is_empty() {
+            return layout;
         }
-    };
-    let far = buffer.len() - image.len();
-    buffer[..HEADER].copy_from_slice(&image[..HEADER]);
-    buffer[far..].copy_from_slice(&image);
+    }
+}
+
+/// A block stands at 4 GiB, which the largest alignment makes of the number 1.
+fn build_at_4_gib(buffer: &mut [u8], random: &mut Random) -> Layout {
+    loop {
+        let image = Description::rich(Kind::Second, random).build(random);
+        let layout = move_behind(buffer, &image, MOST - Layout::of(&image).blocks[0], 32);
+        if !read_addresses(buffer, &layout).is_empty() {
+            return layout;
+        }
+    }
+}
+
+/// The image with all but its header so far behind. Table entries are encoded anew; those that have
+/// no bits to name so far an offset become not written.
+fn move_behind(buffer: &mut [u8], image: &[u8], far: usize, alignment: u64) -> Layout {
+    let old = Layout::of(image);
+    let mut layout = old.clone();
     layout.index += far;
     layout.table += far;
     layout.blocks.iter_mut().for_each(|block| *block += far);
-    layout.length = buffer.len();
+    layout.length += far;
+    layout.alignment = alignment;
+    let buffer = &mut buffer[..layout.length];
+    buffer[..HEADER].copy_from_slice(&image[..HEADER]);
+    buffer[far..].copy_from_slice(image);
     put(buffer, INDEX_OFFSET, 8, layout.index as u64);
     for entry in 0..layout.entries {
         let at = layout.index_entry(entry) + 8;
         put(buffer, at, 8, get(buffer, at, 8) + far as u64);
     }
-    for at in (0..layout.count).map(|address| layout.table_entry(address)) {
-        let entry = get(buffer, at, 8);
-        if entry != 0 {
-            put(buffer, at, 8, entry + ((far as u64) << layout.shift));
+    if layout.kind == Kind::Second {
+        put(buffer, layout.table + ALIGNMENT, 1, alignment);
+    }
+    for number in 0..layout.count {
+        if let Some((offset, item)) = old.named(image, number) {
+            let entry = layout.entry(offset + far as u64, item).unwrap_or(0);
+            put(
+                buffer,
+                layout.table_entry(number),
+                layout.kind.width(),
+                entry,
+            );
         }
     }
     layout.make_right(buffer);

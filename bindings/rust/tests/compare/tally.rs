@@ -1,23 +1,27 @@
 //! What was tried and how it was answered.
 
-use crate::sides::Answer;
+use crate::layout::Kind;
+use crate::sides::{Answer, Call};
 use aaru::Refusal;
 use std::collections::{BTreeMap, HashMap, HashSet};
 use std::hash::{DefaultHasher, Hasher};
 
-pub const CALLS: [&str; 5] = ["open", "locate", "create", "commit", "rollback"];
-const NUMBERS: usize = 36;
+pub const CALLS: [&str; 5] = ["sector_count", "locate", "create", "commit", "rollback"];
+const NUMBERS: usize = 75;
 
-/// Whether a call can give a number; 0 stands for an accepted call.
-fn possible(call: usize, number: usize) -> bool {
+/// Whether a call can give a number on images of a kind; 0 stands for an accepted call. A rollback
+/// may lead from one kind to the other.
+fn possible(kind: Kind, call: usize, number: usize) -> bool {
+    let old = kind == Kind::Old;
     match (CALLS[call], number) {
-        (_, 0) => true,
-        ("create", 30 | 31 | 33 | 35) => true,
+        ("create", 0 | 30 | 31 | 33 | 35) => old,
         ("create", _) => false,
-        (_, 1..=14) => true,
+        ("commit", 0 | 20 | 22..=27 | 35) => old,
+        ("commit", 30..=34) => true,
+        ("rollback", 31 | 32 | 70..=72 | 74) => true,
         ("locate", 20..=27) => true,
-        ("commit", 20 | 22..=27 | 30..=35) => true,
-        ("rollback", 31 | 32) => true,
+        (_, 0..=14) => true,
+        (_, 70..=72) | ("locate", 73) | ("commit", 74) => !old,
         _ => false,
     }
 }
@@ -66,15 +70,17 @@ impl Met {
         assert!(enough, "{name} met {number} at few telling places");
         // A buffer that is written can't be so long.
         let far = places.iter().any(|&place| place >= 1 << 32);
-        let enough = far || !matches!(name, "open" | "locate");
+        let enough = far || !matches!(name, "sector_count" | "locate");
         assert!(enough, "{name} met {number} at no place above 4 GiB");
         let enough = number != 4 || places.contains(&u64::MAX);
         assert!(enough, "{name} never met the last offset");
     }
 }
 
+/// Of one kind of image.
 #[derive(Default)]
 pub struct Tally {
+    pub kind: Kind,
     /// By call and number.
     answers: BTreeMap<(usize, usize), Met>,
     /// Whether each image opens. An image is known by a hash of its bytes, so that it counts once.
@@ -84,25 +90,42 @@ pub struct Tally {
     pub two_faults: u64,
     /// Reads of what a call left, beyond the inputs.
     pub reads: u64,
+    /// By call, how often a negative address was refused with 20.
+    negative: [u64; CALLS.len()],
 }
 
 impl Tally {
-    pub fn count(&mut self, call: usize, answer: Answer) {
+    pub fn new(kind: Kind) -> Tally {
+        Tally {
+            kind,
+            ..Tally::default()
+        }
+    }
+
+    pub fn count(&mut self, call: &Call, answer: Answer) {
+        let lowest = match call {
+            Call::Locate(address) => Some(address),
+            Call::Commit(commit) => commit.addresses.first(),
+            _ => None,
+        };
+        let call = call.column();
         let (number, place) = match answer {
             Ok(_) => (0, 0),
             Err(Refusal { number, place }) => (number as usize, place),
         };
-        let known = number < NUMBERS && possible(call, number);
+        let known = number < NUMBERS && possible(self.kind, call, number);
         let right = place == 0 || placed(number);
         assert!(known && right, "{} gave {answer:?}", CALLS[call]);
         let met = self.answers.entry((call, number)).or_default();
         met.times += 1;
         met.places.insert(place);
+        let negative = number == 20 && lowest.is_some_and(|&address| address < 0);
+        self.negative[call] += u64::from(negative);
     }
 
     /// Notes that the place of a counted refusal is a telling one.
-    pub fn count_telling(&mut self, call: usize, refusal: Refusal) {
-        let met = self.answers.entry((call, refusal.number as usize));
+    pub fn count_telling(&mut self, call: &Call, refusal: Refusal) {
+        let met = self.answers.entry((call.column(), refusal.number as usize));
         met.or_default().telling.insert(refusal.place);
     }
 
@@ -123,6 +146,9 @@ impl Tally {
         self.images.extend(other.images);
         self.two_faults += other.two_faults;
         self.reads += other.reads;
+        for (times, more) in self.negative.iter_mut().zip(other.negative) {
+            *times += more;
+        }
     }
 
     fn times(&self, call: usize, number: usize) -> u64 {
@@ -144,13 +170,13 @@ impl Tally {
     }
 
     pub fn print(&self) {
-        print!("\n      ");
+        print!("\n  {}", String::from_utf8_lossy(self.kind.letters()));
         for call in CALLS {
-            print!("{call:>10}");
+            print!("{call:>13}");
         }
-        println!("{:>10}", "places");
+        println!("{:>13}", "places");
         for number in 0..NUMBERS {
-            if (0..CALLS.len()).any(|call| possible(call, number)) {
+            if (0..CALLS.len()).any(|call| possible(self.kind, call, number)) {
                 self.print_row(number);
             }
         }
@@ -168,24 +194,28 @@ impl Tally {
     fn print_row(&self, number: usize) {
         print!("{number:>6}");
         for call in 0..CALLS.len() {
-            match possible(call, number) {
-                true => print!("{:>10}", self.times(call, number)),
-                false => print!("{:>10}", "-"),
+            match possible(self.kind, call, number) {
+                true => print!("{:>13}", self.times(call, number)),
+                false => print!("{:>13}", "-"),
             }
         }
         match placed(number) {
-            true => println!("{:>10}", self.places(number).len()),
-            false => println!("{:>10}", "-"),
+            true => println!("{:>13}", self.places(number).len()),
+            false => println!("{:>13}", "-"),
         }
     }
 
     /// That enough was tried.
     pub fn check(&self) {
         for (call, name) in CALLS.iter().enumerate() {
-            for number in 0..NUMBERS {
+            for number in (0..NUMBERS).filter(|&number| possible(self.kind, call, number)) {
                 let times = self.times(call, number);
-                let enough = !possible(call, number) || times >= least(number);
-                assert!(enough, "{name} met {number} {times} times");
+                let enough = times >= least(number);
+                assert!(enough, "{:?}: {name} met {number} {times} times", self.kind);
+            }
+            if possible(self.kind, call, 20) {
+                let times = self.negative[call];
+                assert!(times >= least(20), "{name} met few negative addresses");
             }
         }
         for (&(call, number), met) in &self.answers {

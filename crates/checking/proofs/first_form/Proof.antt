@@ -8,8 +8,11 @@ use mathlib.Core.Logic.{inl, inr}
 use mathlib.Core.Path.{_≡_, refl, sym, _∙_}
 use Prim.Native.Nat.{ℕ, _-_, _≤_, _<_}
 use Rattle.format.specs.declared.Verdict.the-variants.{Passes}
+use Rattle.format.specs.Reading.{notWritten}
 use Rattle.format.proofs.Chains.{by}
 use Rattle.opening.specs.Answers.{contents}
+use Rattle.opening.proofs.Accepted.{decodes}
+use Rattle.opening.proofs.Entries.{written-is, pointer-is}
 use Rattle.checking.specs.Checked.{indexed, Formed, addressVerdict}
 use Rattle.checking.proofs.Firsts.{first-at, first-none}
 use Rattle.checking.proofs.Forms.{entry-form-ok, form-only, not-written}
@@ -26,44 +29,50 @@ abbrev μ-loop : tie.MeasureT-loop
 loop-holds : tie.Need-loop-holds Inv-loop μ-loop
 loop-holds c = (omega arith, (λ i l. absurd (omega arith)), inl refl)
 
-not-written-requires : tie.Need-not-written-requires Inv-loop μ-loop
-not-written-requires c κs = (c .before .before .before .before .pre, omega arith)
+table-entry-requires : tie.Need-table-entry-requires Inv-loop μ-loop
+table-entry-requires c κs = (c .before .before .before .before .pre, omega arith)
 
-pointer-at-requires : tie.Need-pointer-at-requires Inv-loop μ-loop
-pointer-at-requires c κs = (c .before .before .before .before .before .before .pre, omega arith)
+entry-decoded-requires : tie.Need-entry-decoded-requires Inv-loop μ-loop
+entry-decoded-requires c κs = decodes _ _ (c .before .before .before .before .before .before .before .pre)
 
 entry-form-requires : tie.Need-entry-form-requires Inv-loop μ-loop
-entry-form-requires c κs = (c .before .before .before .before .before .before .before .pre, omega arith, c .pointer-at .ensures, c .before .before .before .before .loop .inv .2)
+entry-form-requires c κs =
+    let e = c .before .before .before .table-entry .ensures in
+    (c .before .before .before .before .before .before .before .before .pre, omega arith, e, pointer-is _ _ _ e (c .entry-decoded .ensures), c .before .before .before .before .before .loop .inv .2)
+
+-- whether it is written
+gap : (c : tie.After-is-unwritten Inv-loop μ-loop)
+    → let l = c .before .before .before in
+    let r = l .before .before .before .args in
+    c .is-unwritten .result ≡ notWritten (now (r .s)) (contents (r .t)) (l .loop .a)
+gap c = written-is _ _ _ (c .before .table-entry .ensures) (c .is-unwritten .ensures)
 
 -- a written address, by its form
 form-is : (c : tie.After-entry-form Inv-loop μ-loop)
-    → let l = c .before .before .before .before .before in
+    → let l = c .before .before .before .before .before .before in
     let r = l .before .before .before .args in
     addressVerdict (now (r .s)) (contents (r .t)) (indexed (now (r .s))) (l .loop .a) ≡ c .entry-form .result
-form-is c =
-    let i = c .before .before in
-    form-only _ _ _ (by (i .before .not-written .ensures) (not-true _ (i .if1 .taken)))
-    ∙ sym (c .entry-form .ensures)
+form-is c = let i = c .before .before in form-only _ _ _ (by (gap (i .before)) (not-true _ (i .if1 .taken))) ∙ sym (c .entry-form .ensures)
 
 returns : tie.Need-returns Inv-loop μ-loop
 returns c =
     let f = c .before .before .before in
-    first-at _ _ _ _ (omega arith) (f .before .before .before .before .before .loop .inv .1) (form-is f ∙ c .before .v .given .1)
+    first-at _ _ _ _ (omega arith) (f .before .before .before .before .before .before .loop .inv .1) (form-is f ∙ c .before .v .given .1)
 
 loop-again : tie.Need-loop-again Inv-loop μ-loop
 loop-again c =
     let f = c .before .before .before in
     let ok = entry-form-ok _ _ _ (sym (by (c .before .enum-told .given .1) (f .entry-form .ensures))) in (
       omega arith,
-      below-more _ _ (f .before .before .before .before .before .loop .inv .1) (form-is f ∙ c .before .enum-told .given .1),
-      inr (rw (f .before .pointer-at .ensures) ok),
+      below-more _ _ (f .before .before .before .before .before .before .loop .inv .1) (form-is f ∙ c .before .enum-told .given .1),
+      inr (rw (pointer-is _ _ _ (f .before .before .before .before .table-entry .ensures) (f .before .entry-decoded .ensures)) ok),
     )
 
 loop-again-2 : tie.Need-loop-again-2 Inv-loop μ-loop
 loop-again-2 c =
-    let l = c .before .before .before in (
+    let l = c .before .before .before .before in (
       omega arith,
-      below-more _ _ (l .loop .inv .1) (not-written _ _ _ _ (by (c .before .not-written .ensures) (not-false _ (c .if1 .left)))),
+      below-more _ _ (l .loop .inv .1) (not-written _ _ _ _ (by (gap (c .before)) (not-false _ (c .if1 .left)))),
       l .loop .inv .2,
     )
 
@@ -79,8 +88,9 @@ first-form-spec =
     (λ c κs. search needs)
     loop-holds
     (λ c. omega arith)
-    not-written-requires
-    pointer-at-requires
+    table-entry-requires
+    (λ c κs. search needs)
+    entry-decoded-requires
     entry-form-requires
     (λ c. search needs)
     returns

@@ -2,12 +2,17 @@
 use native.Mathlib.Omega.{arith}
 use borrow.Author.Count.{below-more}
 use borrow.Author.Tests.{not-true, not-false}
-use mathlib.Core.Path.{ap, _∙_}
+use mathlib.Core.Path.{_≡_, ap, _∙_}
+use denote.Ref.{now}
+use borrow.Author.Needs.{needs}
 use Prim.Native.Nat.{ℕ, _-_, _≤_, _<_}
 use Rattle.format.specs.declared.Pointer.{Pointer}
+use Rattle.format.specs.Reading.{notWritten, pointerAt}
 use Rattle.format.proofs.Tests.{never}
 use Rattle.format.proofs.Chains.{by}
 use Rattle.opening.specs.Answers.{contents}
+use Rattle.opening.proofs.Accepted.{decodes}
+use Rattle.opening.proofs.Entries.{written-is, pointer-is}
 use Rattle.checking.proofs.Looked.{Into, found, stays}
 use Rattle.checking.proofs.first_into.Statement.{statement}
 use Rattle.checking.proofs.first_into.Tie as tie
@@ -21,33 +26,42 @@ abbrev μ-loop : tie.MeasureT-loop
 loop-holds : tie.Need-loop-holds Inv-loop μ-loop
 loop-holds c = (omega arith, λ i l. absurd (omega arith))
 
-not-written-requires : tie.Need-not-written-requires Inv-loop μ-loop
-not-written-requires c κs = let k = c .before .before .before .before .before .pre in (k .0, omega (arith, k .1))
+table-entry-requires : tie.Need-table-entry-requires Inv-loop μ-loop
+table-entry-requires c κs = let k = c .before .before .before .before .before .pre in (k .0, omega (arith, k .1))
 
-pointer-at-requires : tie.Need-pointer-at-requires Inv-loop μ-loop
-pointer-at-requires c κs = let k = c .before .before .before .before .before .before .before .pre in (k .0, omega (arith, k .1))
+entry-decoded-requires : tie.Need-entry-decoded-requires Inv-loop μ-loop
+entry-decoded-requires c κs = decodes _ _ (c .before .before .before .before .before .before .before .before .pre .0)
+
+-- whether it is written, and where it points
+gap : (c : tie.After-is-unwritten Inv-loop μ-loop)
+    → let l = c .before .before .before .before in
+    let r = l .before .before .before .args in
+    c .is-unwritten .result ≡ notWritten (now (r .s)) (contents (r .t)) (l .loop .a)
+gap c = written-is _ _ _ (c .before .table-entry .ensures) (c .is-unwritten .ensures)
+
+block-is : (c : tie.After-entry-decoded Inv-loop μ-loop)
+    → let l = c .before .before .before .before .before .before in
+    let r = l .before .before .before .args in
+    c .entry-decoded .result .block .0 ≡ pointerAt (now (r .s)) (contents (r .t)) (l .loop .a) .block .0
+block-is c = ap (λ (q : Pointer). q .block .0) (pointer-is _ _ _ (c .before .before .before .table-entry .ensures) (c .entry-decoded .ensures))
 
 returns : tie.Need-returns Inv-loop μ-loop
 returns c left h f =
     let p = c .before .before .before .before in
-    let w = p .before .before in
-    let l = w .before .before .before in
+    let l = p .before .before .before .before .before .before in
     found _ _ _ _ (l .before .before .before .pre .2) h f _ (omega arith)
-    (by (w .not-written .ensures) (not-true _ (p .before .if2 .taken)), by (ap (λ (q : Pointer). q .block .0) (p .pointer-at .ensures)) (c .if3 .taken))
+    (by (gap (p .before .before)) (not-true _ (p .before .if2 .taken)), by (block-is p) (c .if3 .taken))
     (l .loop .inv .1)
 
 loop-again : tie.Need-loop-again Inv-loop μ-loop
 loop-again c =
-    let p = c .before .before .before .before in (
-      omega arith,
-      below-more _ _ (p .before .before .before .before .before .loop .inv .1)
-          (λ i. c .if3 .left (ap (λ (q : Pointer). q .block .0) (p .pointer-at .ensures) ∙ i .1)),
-    )
+    let p = c .before .before .before .before in
+    (omega arith, below-more _ _ (p .before .before .before .before .before .before .loop .inv .1) (λ i. c .if3 .left (block-is p ∙ i .1)))
 
 loop-again-2 : tie.Need-loop-again-2 Inv-loop μ-loop
 loop-again-2 c = (
   omega arith,
-  below-more _ _ (c .before .before .before .before .loop .inv .1) (λ i. never (by (c .before .not-written .ensures) (not-false _ (c .if2 .left))) (i .0)),
+  below-more _ _ (c .before .before .before .before .before .loop .inv .1) (λ i. never (by (gap (c .before)) (not-false _ (c .if2 .left))) (i .0)),
 )
 
 returns-2 : tie.Need-returns-2 Inv-loop μ-loop
@@ -61,8 +75,9 @@ first-into-spec =
     μ-loop
     loop-holds
     (λ c. omega arith)
-    not-written-requires
-    pointer-at-requires
+    table-entry-requires
+    (λ c κs. search needs)
+    entry-decoded-requires
     returns
     (λ c. omega arith)
     loop-again

@@ -5,11 +5,12 @@ use Rattle.format.proofs.Tests.{choose-true, choose-false}
 use Rattle.format.proofs.Chains.{by}
 use Rattle.planning.specs.Plans.{lookedAt}
 use Rattle.planning.proofs.Looking.{next-looks}
+use Rattle.planning.proofs.Next.{entry-small}
 use Rattle.planning.proofs.look_at.Statement.{statement}
 use Rattle.planning.proofs.look_at.Tie as tie
 
 is-next-requires : tie.Need-is-next-requires
-is-next-requires c κs = c .before .before .pre .1
+is-next-requires c κs = let p = c .before .before .pre in (p .1, entry-small (p .0) (p .2))
 
 old-item-requires : tie.Need-old-item-requires
 old-item-requires c κs = let p = c .before .before .before .before .pre in (p .0 .checked .0, p .2)

@@ -5,17 +5,16 @@ use denote.Ref.{now}
 use Rattle.format.specs.Reading.{notWritten, pointerAt}
 use Rattle.opening.specs.Answers.{contents}
 use Rattle.opening.proofs.Accepted.{decodes}
+use Rattle.opening.proofs.Entries.{written-is, pointer-is}
 use Rattle.search.proofs.Disc.{slot-empty, slot-item, slot-sector}
 use Rattle.search.proofs.slot_at.Statement.{statement}
 use Rattle.search.proofs.slot_at.Tie as tie
 
 gap : (c : tie.After-is-unwritten) → let a = c .before .before .before .args in c .is-unwritten .result ≡ notWritten (now (a .s)) (contents (a .t)) (a .a .0)
-unfolding notWritten
-gap c = rw (c .before .table-entry .ensures) at (c .is-unwritten .ensures)
+gap c = written-is _ _ _ (c .before .table-entry .ensures) (c .is-unwritten .ensures)
 
 points : (c : tie.After-entry-decoded) → let a = c .before .before .before .before .before .args in c .entry-decoded .result ≡ pointerAt (now (a .s)) (contents (a .t)) (a .a .0)
-unfolding pointerAt
-points c = rw (c .before .before .before .table-entry .ensures) at (c .entry-decoded .ensures)
+points c = pointer-is _ _ _ (c .before .before .before .table-entry .ensures) (c .entry-decoded .ensures)
 
 returns : tie.Need-returns
 returns c = slot-empty _ _ _ (gap (c .before)) (c .if1 .taken)

@@ -8,22 +8,20 @@ use Rattle.format.proofs.Checks.{open-ok}
 use Rattle.format.proofs.Chains.{stop, on, refuses, accepts, by}
 use Rattle.opening.specs.Answers.{contents}
 use Rattle.opening.proofs.Accepted.{opens, entry-inside, decodes}
+use Rattle.opening.proofs.Entries.{written-is, status-is, pointer-is}
 use Rattle.sectors.specs.Found.{found}
 use Rattle.sectors.proofs.find.Statement.{statement}
 use Rattle.sectors.proofs.find.Tie as tie
 
 -- what the entry says
 unwritten : (c : tie.After-is-unwritten) → let a = c .before .before .before .args in c .is-unwritten .result ≡ notWritten (now (a .s)) (contents (a .t)) (a .n .0)
-unfolding notWritten
-unwritten c = rw (c .before .table-entry .ensures) at (c .is-unwritten .ensures)
+unwritten c = written-is _ _ _ (c .before .table-entry .ensures) (c .is-unwritten .ensures)
 
 unknown : (c : tie.After-is-unknown) → let a = c .before .before .before .before .before .args in c .is-unknown .result ≡ unknownStatus (now (a .s)) (contents (a .t)) (a .n .0)
-unfolding unknownStatus
-unknown c = rw (c .before .before .before .table-entry .ensures) at (c .is-unknown .ensures)
+unknown c = status-is _ _ _ (c .before .before .before .table-entry .ensures) (c .is-unknown .ensures)
 
 pointer : (c : tie.After-entry-decoded) → let a = c .before .before .before .before .before .before .before .args in c .entry-decoded .result ≡ pointerAt (now (a .s)) (contents (a .t)) (a .n .0)
-unfolding pointerAt
-pointer c = rw (c .before .before .before .before .before .table-entry .ensures) at (c .entry-decoded .ensures)
+pointer c = pointer-is _ _ _ (c .before .before .before .before .before .table-entry .ensures) (c .entry-decoded .ensures)
 
 returns : tie.Need-returns
 unfolding sectorVerdict found

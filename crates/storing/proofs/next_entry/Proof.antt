@@ -8,6 +8,7 @@ use Rattle.format.proofs.Chains.{by}
 use Rattle.format.specs.Committing.{entryNumbers}
 use Rattle.opening.specs.Answers.{contents}
 use Rattle.planning.specs.Plans.{isNext}
+use Rattle.planning.proofs.Next.{entry-small}
 use Rattle.storing.proofs.Turns.{listed, handed-inside, steps, encodes, handed-in, old-readable, kept}
 use Rattle.storing.proofs.next_entry.Statement.{statement}
 use Rattle.storing.proofs.next_entry.Tie as tie
@@ -56,7 +57,7 @@ pub next-entry-spec : {M : Type 1} → statement M
 next-entry-spec =
     tie.close
     (tie.spec
-    (λ c κs. c .before .before .pre .1)
+    (λ c κs. let p = c .before .before .pre in (p .1, entry-small (p .0 .commits) (p .0 .below)))
     mul-part
     part-requires
     store-requires
