@@ -253,10 +253,14 @@ pub fn table_entry(s: &[u8], t: Opened, n: EntryNumber) -> u64
     ensures { λ r. ⌜ r ≡ tableEntry (now (s .entry)) (contents t) (n .0) ⌝ }
 {
     let kind = kind_of(t);
-    let place = entry_place(t, n);
+    let table = t.table;
     match kind {
-        TableKind::First => get(s, place.0, TABLE_ENTRY),
-        TableKind::Second => get(s, place.0, SECOND_ENTRY),
+        TableKind::First => get(s, table.0 + TABLE_HEADER + TABLE_ENTRY * n.0, TABLE_ENTRY),
+        TableKind::Second => get(
+            s,
+            table.0 + SECOND_HEADER + SECOND_ENTRY * n.0,
+            SECOND_ENTRY,
+        ),
     }
 }
 
