@@ -4,24 +4,27 @@
  *     rt staticlib aaru_c
  *     cc program.c -Ibindings/c -Ltarget/staticlib -laaru_c
  *
- * An image is the first `used` bytes of a buffer that the caller lends. A call returns 0 if it is accepted, else the number of the check that
- * refuses it: of all that apply, the first in the order that is said below for each call. No check has the number 0. A refused call sets
- * `*place`, a byte offset in the image that is said below for each number, and changes no other byte behind any pointer. An accepted call
- * leaves `*place` as it is. Numbers in an image may be hostile: every input is answered, and no sum of places wraps.
+ * An image is the first `used` bytes of a buffer that the caller lends. A call returns 0 if it is accepted, else the
+ * number of the check that refuses it: of all that apply, the first in the order that is said below for each call. No
+ * check has the number 0. A refused call sets `*place`, a byte offset in the image that is said below for each number,
+ * and changes no other byte behind any pointer. An accepted call leaves `*place` as it is. Numbers in an image may be
+ * hostile: every input is answered, and no sum of places wraps.
  *
  * What is proved holds for callers that pass what C's types can't say:
- *   - a pointer beside a length points to so many bytes (in `addresses`: numbers) that may be read and, where it is not const, written. Where
- *     the length is 0 the pointer is not followed and may be null;
+ *   - a pointer beside a length points to so many bytes (in `addresses`: numbers) that may be read and, where it is not
+ *     const, written. Where the length is 0 the pointer is not followed and may be null;
  *   - every other pointer points to a number of its own;
  *   - pointers to numbers, and `addresses`, are aligned as their type asks;
- *   - what a call may write, the buffer and the numbers behind its last pointers, overlaps nothing else that it is handed, and nobody else
- *     reads or writes it during the call. What it only reads may overlap, but nobody may write it during the call.
+ *   - what a call may write, the buffer and the numbers behind its last pointers, overlaps nothing else that it is
+ *     handed, and nobody else reads or writes it during the call. What it only reads may overlap, but nobody may write
+ *     it during the call.
  * The library has no heap and no state of its own; calls on different buffers may run at the same time. Compiled for
  * x86-64, no call takes more than 20 KiB of stack.
  *
- * Checks of the image, made by each call that opens one, in this order. The place is 0 for 1, 2 and 3; for 4, 5, 6, 9 and 10 the index's offset as
- * it was read, or handed to aaru_rollback, even past the end; for 7 and 8 that of the index entry; for 11 to 14 the table's offset; for 70 to 72 it
- * is 0. A table is of one of two kinds, by its identifier: 'DDT*', with entries of 8 bytes, or 'DDT2', with entries of 4 bytes.
+ * Checks of the image, made by each call that opens one, in this order. The place is 0 for 1, 2 and 3; for 4, 5, 6, 9
+ * and 10 the index's offset as it was read, or handed to aaru_rollback, even past the end; for 7 and 8 that of the
+ * index entry; for 11 to 14 the table's offset; for 70 to 72 it is 0. A table is of one of two kinds, by its
+ * identifier: 'DDT*', with entries of 8 bytes, or 'DDT2', with entries of 4 bytes.
  *    1  `used` is below 104
  *    2  the header's identifier is neither 'AARUFRMT' nor 'DICMFRMT'
  *    3  the image's major version is not 2
@@ -38,26 +41,29 @@
  *   70  'DDT2': levels is not 1
  *   71  'DDT2': sizeType is not 0
  *   72  'DDT2': negative and overflow together exceed blocks
- *   12  the table's type is not 1, its shift or alignment is over 32, its length is not 8 x entries (4 x entries of 'DDT2'), or cmpLength is not
- *       length
+ *   12  the table's type is not 1, its shift or alignment is over 32, its length is not 8 x entries (4 x entries of
+ *       'DDT2'), or cmpLength is not length
  *   11  the table's payload runs past the end
  *   14  either checksum of the table is wrong
  *
- * Addresses are signed. The lowest is 0 for 'DDT*' and minus the header's `negative` for 'DDT2'; the others follow it.
- * Checks of a sector, in this order. The place is that of the table entry for 22, the block's offset for 23 to 27, and 0 for 20, 21 and 73.
+ * Addresses are signed. The lowest is 0 for 'DDT*' and minus the table's `negative` for 'DDT2'; the others follow it.
+ * Checks of a sector, in this order. The place is that of the table entry for 22, the block's offset for 23 to 27, and
+ * 0 for 20, 21 and 73.
  *   20  the address is below the lowest one, or not below the lowest one + the number of sectors
  *   21  the sector is not written: its entry is 0, or for 'DDT2' has status 0 (not dumped)
  *   73  'DDT2': the entry's status is neither 0 nor 1 (dumped)
  *   22  no index entry for a 'DBLK' block of data type 1 has the byte offset that the table entry names
  *   23  the block's header (36 bytes) runs past the end
  *   24  the block is compressed
- *   25  the block's type is not 1, its sector size is 0, cmpLength is not length, or length is no multiple of the sector size
+ *   25  the block's type is not 1, its sector size is 0, cmpLength is not length, or length is no multiple of the
+ *       sector size
  *   23  the block's payload runs past the end
  *   26  the item number is not below length / sector size
  *   27  either checksum of the block is wrong
  *
  * The other checks, 30 to 35, are of what the caller hands in, not of the image: their place is 0. So is that of
- *   74  the image's table, for aaru_rollback the one that the index at its offset names, is a 'DDT2': only 'DDT*' is written
+ *   74  the image's table, for aaru_rollback the one that the index at its offset names, is a 'DDT2': only 'DDT*' is
+ *       written
  */
 #ifndef AARU_H
 #define AARU_H
@@ -70,39 +76,42 @@ extern "C" {
 #endif
 
 /*
- * How many sectors the image has, `*sectors`, and its lowest address, `*lowest`: its addresses are `*lowest` and those that follow it.
+ * How many sectors the image has, `*sectors`, and its lowest address, `*lowest`: its addresses are `*lowest` and those
+ * that follow it.
  * Refused with: 1 to 14 and 70 to 72, as above.
  */
 uint32_t aaru_sector_count(const uint8_t *image, size_t used, uint64_t *sectors, int64_t *lowest, uint64_t *place);
 
 /*
- * Where the sector at an address lies: it is the `*size` bytes of the image from `*start` on, which lie inside it. Sectors of one disc may differ
- * in size.
+ * Where the sector at an address lies: it is the `*size` bytes of the image from `*start` on, which lie inside it.
+ * Sectors of one disc may differ in size.
  * Refused with: 1 to 14 and 70 to 72, then 20 to 27 and 73, as above.
  */
-uint32_t aaru_locate(const uint8_t *image, size_t used, int64_t address, uint64_t *start, uint64_t *size, uint64_t *place);
+uint32_t aaru_locate(const uint8_t *image, size_t used, int64_t address, uint64_t *start, uint64_t *size,
+                     uint64_t *place);
 
 /*
- * Makes a new image at the start of the buffer, of `sectors` sectors that are not written: 189 + 8 x sectors bytes. Later bytes of the buffer stay
- * as they are. `application` is a name of 64 bytes, in AaruFormat 32 units of UTF-16, which are not looked at; major and minor are its version. The
- * name and the two times, `created` and `written`, are stored as they are.
- * `*used` is the image's length, `*index` the offset of its index.
+ * Makes a new image at the start of the buffer, of `sectors` sectors that are not written: 189 + 8 x sectors bytes.
+ * Later bytes of the buffer stay as they are. `application` is a name of 64 bytes, in AaruFormat 32 units of UTF-16,
+ * which are not looked at; major and minor are its version. The name and the two times, `created` and `written`, are
+ * stored as they are. `*used` is the image's length, `*index` the offset of its index.
  * Refused with, in this order:
  *   31  the buffer is longer than 4,294,967,296 bytes
  *   30  `sectors` is 0 or over 1,048,576
  *   33  `application_length` is not 64
  *   35  the image would not fit into the buffer
  */
-uint32_t aaru_create(uint8_t *buffer, size_t length, uint64_t sectors, const uint8_t *application, size_t application_length,
-                     uint8_t major, uint8_t minor, uint32_t media_type, uint64_t created, uint64_t written, uint64_t *used, uint64_t *index,
-                     uint64_t *place);
+uint32_t aaru_create(uint8_t *buffer, size_t length, uint64_t sectors, const uint8_t *application,
+                     size_t application_length, uint8_t major, uint8_t minor, uint32_t media_type, uint64_t created,
+                     uint64_t written, uint64_t *used, uint64_t *index, uint64_t *place);
 
 /*
- * Commits one sector to each address of the list: these read as handed in from then on, every other address as before. The sectors are of
- * `sector_size` bytes each and stand one after another in `sectors`, in the order of the addresses. An empty list is allowed. Equal sectors are
- * stored once. What is new is appended at `used`: a data block if any sector is stored, a table, an index. Below `used` only the header's
- * indexOffset and lastWrittenTime (the time handed in) change, and nothing from the new end on.
- * `*new_used` is the image's new length, `*index` the offset of its new index.
+ * Commits one sector to each address of the list: these read as handed in from then on, every other address as before.
+ * The sectors are of `sector_size` bytes each and stand one after another in `sectors`, in the order of the addresses.
+ * An empty list is allowed. Equal sectors are stored once. What is new is appended at `used`: a data block if any
+ * sector is stored, a table, an index. Below `used` only the header's indexOffset and lastWrittenTime (the time handed
+ * in) change, and nothing from the new end on. `*new_used` is the image's new length, `*index` the offset of its new
+ * index.
  * Refused with, in this order:
  *   31  the buffer is longer than 4,294,967,296 bytes
  *   32  `used` exceeds the buffer's length
@@ -112,26 +121,27 @@ uint32_t aaru_create(uint8_t *buffer, size_t length, uint64_t sectors, const uin
  *    1 to 14 and 70 to 72, as above
  *   74  as above
  *   20  an address is negative or not below the number of sectors
- *   22 to 27, as above: every sector of the disc is checked, by rising address, and the first that is refused other than with 21 gives its number
- *      and place
+ *   22 to 27, as above: every sector of the disc is checked, by rising address, and the first that is refused other
+ *      than with 21 gives its number and place
  *   35  the new image would not fit into the buffer
  */
-uint32_t aaru_commit(uint8_t *buffer, size_t length, uint64_t used, const int64_t *addresses, size_t address_count, uint64_t sector_size,
-                     const uint8_t *sectors, size_t sectors_length, uint64_t time, uint64_t *new_used, uint64_t *index, uint64_t *place);
+uint32_t aaru_commit(uint8_t *buffer, size_t length, uint64_t used, const int64_t *addresses, size_t address_count,
+                     uint64_t sector_size, const uint8_t *sectors, size_t sectors_length, uint64_t time,
+                     uint64_t *new_used, uint64_t *index, uint64_t *place);
 
 /*
- * Makes the index at `offset` the disc's. Where a creation or a commit answered that offset as its index, the disc then reads as right after that
- * call, as long as every call was handed the `used` that the last accepted one answered. Only the header's indexOffset and lastWrittenTime change,
- * and nothing is lost: a rollback to a later index brings back what was committed later.
- * `*new_used` is `used`, `*index` is `offset`.
+ * Makes the index at `offset` the disc's. Where a creation or a commit answered that offset as its index, the disc then
+ * reads as right after that call, as long as every call was handed the `used` that the last accepted one answered. Only
+ * the header's indexOffset and lastWrittenTime change, and nothing is lost: a rollback to a later index brings back
+ * what was committed later. `*new_used` is `used`, `*index` is `offset`.
  * Refused with, in this order:
  *   31  the buffer is longer than 4,294,967,296 bytes
  *   32  `used` exceeds the buffer's length
  *    1 to 14 and 70 to 72, as above, with `offset` in place of the header's indexOffset
  *   74  as above
  */
-uint32_t aaru_rollback(uint8_t *buffer, size_t length, uint64_t used, uint64_t offset, uint64_t time, uint64_t *new_used, uint64_t *index,
-                       uint64_t *place);
+uint32_t aaru_rollback(uint8_t *buffer, size_t length, uint64_t used, uint64_t offset, uint64_t time,
+                       uint64_t *new_used, uint64_t *index, uint64_t *place);
 
 #ifdef __cplusplus
 }

@@ -29,9 +29,9 @@ use opening::Image;
 use opening::Opened;
 
 // The first address that is refused, and how; the number of addresses where none is.
-pub struct First {
-    pub address: EntryNumber,
-    pub verdict: Verdict,
+struct First {
+    address: EntryNumber,
+    verdict: Verdict,
 }
 
 // Whether an address of the list has no table entry.
@@ -178,7 +178,7 @@ fn with_block(s: &[u8], t: Opened, p: ByteOffset, left: u64, first: First) -> Fi
 }
 
 // All sectors by rising address: the first that is refused other than with 21.
-pub fn first_refused(s: &[u8], t: Opened) -> First
+fn first_refused(s: &[u8], t: Opened) -> First
     requires { ⌜ opening (now s) ≡ accepted (contents t) ⌝ }
     ensures { λ r. ⌜ FirstRefused (now (s .entry)) (contents t) r ⌝ }
 {
@@ -196,7 +196,7 @@ pub fn first_refused(s: &[u8], t: Opened) -> First
 }
 
 // Its refusal.
-pub fn sectors_verdict(s: &[u8], t: Opened) -> Verdict
+fn sectors_verdict(s: &[u8], t: Opened) -> Verdict
     requires { ⌜ opening (now s) ≡ accepted (contents t) ⌝ }
     ensures { λ r. ⌜ r ≡ sectorsVerdict (now (s .entry)) (entries (now (s .entry)) (indexOffset (now (s .entry)))) (contents t) ⌝ }
 {

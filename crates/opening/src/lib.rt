@@ -207,7 +207,7 @@ pub fn count(t: Opened) -> u64
 }
 
 // Its lowest address: "the lowest is minus `negative`".
-pub fn lowest(t: Opened) -> SectorAddress
+fn lowest(t: Opened) -> SectorAddress
     ensures { λ r. ⌜ r .0 ≡ negℤ (pos (contents t .negative)) ⌝ }
 {
     SectorAddress(0 - (t.negative as i64))
@@ -221,7 +221,7 @@ pub fn address(t: Opened, n: EntryNumber) -> SectorAddress
     SectorAddress((n.0 as i64) - (t.negative as i64))
 }
 
-// Its addresses. The lowest has two bytes and a sign.
+// Its addresses. The lowest has two bytes and a sign, which the listing's room needs.
 pub fn range(t: Opened) -> AddressRange
     ensures { λ r. ⌜ (r ≡ rangeOf (contents t)) × (contents t .negative < 2 ^ 16) ⌝ }
 {
@@ -231,8 +231,8 @@ pub fn range(t: Opened) -> AddressRange
     }
 }
 
-// The entries of the table. Each function goes by the kind first, and has its widths, and that the first kind has no alignment, as constants: a loop over
-// all entries, as the search has one, then costs a table of the first kind nothing.
+// The entries of the table. Each function goes by the kind first, and has its widths, and that the first kind has no alignment, as constants: of a loop over
+// all entries, as the search has one, the compiler then makes one for each kind.
 
 // Where table entry n stands.
 pub fn entry_place(t: Opened, n: EntryNumber) -> ByteOffset
