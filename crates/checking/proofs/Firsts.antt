@@ -14,11 +14,11 @@ use Rattle.checking.specs.Checked.{IsFirst}
 
 -- a first address, and none
 pub first-at : (f : ℕ → Verdict) (n a : ℕ) (r : Refusal) → a < n → ((i : ℕ) → i < a → f i ≡ Passes) → f a ≡ Refuses r
-    → IsFirst f n (record { address = record { 0 = a }; verdict = Refuses r })
+    → IsFirst f n (record { number = record { 0 = a }; verdict = Refuses r })
 first-at f n a r l b e = record { within = omega arith; before = b; here = λ k. (e, not-passes); none = λ z. absurd (omega arith) }
 
 pub first-none : (f : ℕ → Verdict) (n a : ℕ) → a ≡ n → ((i : ℕ) → i < a → f i ≡ Passes)
-    → IsFirst f n (record { address = record { 0 = a }; verdict = Passes })
+    → IsFirst f n (record { number = record { 0 = a }; verdict = Passes })
 first-none f n a e b = record { within = omega arith; before = b; here = λ k. absurd (omega arith); none = λ z. refl }
 
 -- a check that says the same has the same first address
@@ -33,12 +33,12 @@ first-same f g n e p =
 
 -- it gives the first refusal
 module _ (f : ℕ → Verdict) (n : ℕ) (r : First) (p : IsFirst f n r) where
-  from : (k i : ℕ) → i + k ≡ n → i ≤ r .address .0 → firstRefusal f k i ≡ r .verdict
+  from : (k i : ℕ) → i + k ≡ n → i ≤ r .number .0 → firstRefusal f k i ≡ r .verdict
   unfolding firstRefusal
   from zero i e l = let w = p .within in sym (p .none (omega arith))
   from (suc k) i e l = ⊎-elim stop (λ m. then-rest _ _ (p .before i m) ∙ from k (suc i) (omega arith) m) (eq-or-lt-of-le l)
     where
-      stop : i ≡ r .address .0 → (f i then firstRefusal f k (suc i)) ≡ r .verdict
+      stop : i ≡ r .number .0 → (f i then firstRefusal f k (suc i)) ≡ r .verdict
       stop q =
           let (h, ne) = p .here (omega arith) in
           let v : f i ≡ r .verdict = ap f q ∙ h in

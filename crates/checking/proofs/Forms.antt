@@ -17,7 +17,7 @@ use Rattle.format.proofs.Tests.{not-iff, atLeast-iff, and-iff, choose-true, cho
 use Rattle.format.proofs.Refusals.{row-iff, then-iff}
 use Rattle.format.proofs.Checks.{block-ok}
 use Rattle.format.proofs.Chains.{on-last}
-use Rattle.checking.specs.Checked.{indexed, formVerdict, entryForm, wrongSum, onlyAfter, damaged, mark, addressVerdict}
+use Rattle.checking.specs.Checked.{indexed, formVerdict, entryForm, wrongSum, onlyAfter, damaged, mark, lookedVerdict}
 
 -- ---- a pointer, but for the checksums
 pub form-ok : (img : List ℕ) (at : ℕ) (p : Pointer) → (formVerdict img at p ≡ Passes)
@@ -44,16 +44,16 @@ module _ (img : List ℕ) (b : ℕ) where
 -- ---- an address
 module _ (img : List ℕ) (t : Opened) where
   pub written : (left : List ℕ) (a : ℕ) → notWritten img t a ≡ false
-      → addressVerdict img t left a ≡ (entryForm img t a then mark img left (pointerAt img t a .block .0))
-  unfolding addressVerdict
+      → lookedVerdict img t left a ≡ (entryForm img t a then mark img left (pointerAt img t a .block .0))
+  unfolding lookedVerdict
   written left a e = choose-false _ _ _ e
 
-  pub not-written : (left : List ℕ) (a : ℕ) → notWritten img t a ≡ true → addressVerdict img t left a ≡ Passes
-  unfolding addressVerdict
+  pub not-written : (left : List ℕ) (a : ℕ) → notWritten img t a ≡ true → lookedVerdict img t left a ≡ Passes
+  unfolding lookedVerdict
   not-written left a e = choose-true _ _ _ e
 
   -- while all blocks are still to be looked at, the form alone
-  pub form-only : (a : ℕ) → notWritten img t a ≡ false → addressVerdict img t (indexed img) a ≡ entryForm img t a
+  pub form-only : (a : ℕ) → notWritten img t a ≡ false → lookedVerdict img t (indexed img) a ≡ entryForm img t a
   unfolding _then_
   form-only a e = written (indexed img) a e ∙ alone _ refl
     where

@@ -17,7 +17,7 @@ use Rattle.format.proofs.Chains.{on-last, ends}
 use Rattle.format.proofs.Named.{has-head}
 use Rattle.index.proofs.Entries.{offsets-next}
 use Rattle.checking.specs.declared.First.{First}
-use Rattle.checking.specs.Checked.{entryForm, damaged, mark, addressVerdict, FirstLeft, FirstFrom}
+use Rattle.checking.specs.Checked.{entryForm, damaged, mark, lookedVerdict, FirstLeft, FirstFrom}
 use Rattle.checking.proofs.Firsts.{first-at, first-same}
 use Rattle.checking.proofs.Forms.{written, not-written}
 
@@ -27,17 +27,17 @@ module _ (img : List ℕ) (t : Opened) where
   Into b a = (notWritten img t a ≡ false) × (pointerAt img t a .block .0 ≡ b)
 
   module _ (b : ℕ) (left : List ℕ) where
-    into : (l : List ℕ) (a : ℕ) → Into b a → addressVerdict img t l a ≡ (entryForm img t a then mark img l b)
+    into : (l : List ℕ) (a : ℕ) → Into b a → lookedVerdict img t l a ≡ (entryForm img t a then mark img l b)
     into l a i = written img t l a (i .0) ∙ ap (λ (q : ℕ). entryForm img t a then mark img l q) (i .1)
 
-    into-before : (a : ℕ) → Into b a → addressVerdict img t (b ∷ left) a ≡ entryForm img t a
+    into-before : (a : ℕ) → Into b a → lookedVerdict img t (b ∷ left) a ≡ entryForm img t a
     into-before a i = into (b ∷ left) a i ∙ sym (ends _ (on-last _ (and-iff not-iff Iff·rfl .1 (inl (has-head b b left refl)))))
 
-    elsewhere : (a : ℕ) → ¬ Into b a → addressVerdict img t (b ∷ left) a ≡ addressVerdict img t left a
+    elsewhere : (a : ℕ) → ¬ Into b a → lookedVerdict img t (b ∷ left) a ≡ lookedVerdict img t left a
     unfolding has
     elsewhere a away = ⊎-elim (λ e. not-written img t (b ∷ left) a e ∙ sym (not-written img t left a e)) other (on-or-off (notWritten img t a))
       where
-        other : notWritten img t a ≡ false → addressVerdict img t (b ∷ left) a ≡ addressVerdict img t left a
+        other : notWritten img t a ≡ false → lookedVerdict img t (b ∷ left) a ≡ lookedVerdict img t left a
         other e =
             written img t (b ∷ left) a e
             ∙ ap (λ (h : Bool). entryForm img t a then row (not h and damaged img (pointerAt img t a .block .0)) (refusal 27 (pointerAt img t a .block .0)))
@@ -56,24 +56,24 @@ module _ (img : List ℕ) (t : Opened) where
 
     -- a damaged block: its first address below the limit is the new limit
     pub found : damaged img b ≡ true → has b left ≡ false → {first : First} → FirstLeft img t (b ∷ left) first
-        → (m : ℕ) → m < first .address .0 → Into b m → ((a : ℕ) → a < m → ¬ Into b a)
-        → FirstLeft img t left (record { address = record { 0 = m }; verdict = Refuses (refusal 27 b) })
+        → (m : ℕ) → m < first .number .0 → Into b m → ((a : ℕ) → a < m → ¬ Into b a)
+        → FirstLeft img t left (record { number = record { 0 = m }; verdict = Refuses (refusal 27 b) })
     found d h {first} p m l i away =
-        let w : first .address .0 ≤ t .count = p .within in
+        let w : first .number .0 ≤ t .count = p .within in
         first-at _ _ m _ (omega arith) (λ a k. sym (elsewhere a (away a k)) ∙ p .before a (omega arith))
         (into left m i ∙ then-rest _ _ (sym (into-before m i) ∙ p .before m l) ∙ row-refuses _ _ (and-true _ _ (ap not h) d))
 
     -- none points into it
-    pub stays : {first : First} → FirstLeft img t (b ∷ left) first → ((a : ℕ) → a < first .address .0 → ¬ Into b a) → FirstLeft img t left first
+    pub stays : {first : First} → FirstLeft img t (b ∷ left) first → ((a : ℕ) → a < first .number .0 → ¬ Into b a) → FirstLeft img t left first
     stays {first} p away =
         record {
           within = p .within;
           before = λ a k. sym (elsewhere a (away a k)) ∙ p .before a k;
-          here = λ k. let (h, ne) = p .here k in (keeps (first .address .0) (λ e. ne (sym h ∙ e)) ∙ h, ne);
+          here = λ k. let (h, ne) = p .here k in (keeps (first .number .0) (λ e. ne (sym h ∙ e)) ∙ h, ne);
           none = p .none;
         }
       where
-        keeps : (a : ℕ) → addressVerdict img t (b ∷ left) a ≢ Passes → addressVerdict img t left a ≡ addressVerdict img t (b ∷ left) a
+        keeps : (a : ℕ) → lookedVerdict img t (b ∷ left) a ≢ Passes → lookedVerdict img t left a ≡ lookedVerdict img t (b ∷ left) a
         keeps a ne =
             ⊎-elim (λ i. into left a i ∙ then-stays _ _ (λ e. ne (into-before a i ∙ e)) ∙ sym (into-before a i)) (λ n. sym (elsewhere a n)) (into-or-not a)
 

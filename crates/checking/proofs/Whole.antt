@@ -19,7 +19,7 @@ use Rattle.format.proofs.Refusals.{row-iff, then-rest, then-assoc}
 use Rattle.format.proofs.Checks.{keeps-others, sector-21, gives-21}
 use Rattle.index.proofs.Entries.{offsets-done}
 use Rattle.checking.specs.declared.First.{First}
-use Rattle.checking.specs.Checked.{indexed, formVerdict, entryForm, onlyAfter, damaged, mark, addressVerdict, FirstLeft, FirstFrom, FirstRefused}
+use Rattle.checking.specs.Checked.{indexed, formVerdict, entryForm, onlyAfter, damaged, mark, lookedVerdict, FirstLeft, FirstFrom, FirstRefused}
 use Rattle.checking.proofs.Firsts.{first-same, first-refusal}
 use Rattle.checking.proofs.Forms.{written, not-written}
 
@@ -35,7 +35,7 @@ module _ (img : List ℕ) (t : Opened) where
       then-assoc _ _ _
       ∙ ap (λ (v : Verdict). row (not (has (q .block .0) (indexed img))) (refusal 22 at) then v) (then-assoc _ _ _ ∙ only-after (blockVerdict img (q .block .0)) _ _ _)
 
-  address-whole : (a : ℕ) → a < t .count → addressVerdict img t [] a ≡ otherThan21 (sectorVerdict img (entries img (indexOffset img)) t a)
+  address-whole : (a : ℕ) → a < t .count → lookedVerdict img t [] a ≡ otherThan21 (sectorVerdict img (entries img (indexOffset img)) t a)
   unfolding otherThan21 same choose entryForm sectorVerdict
   address-whole a l =
       ⊎-elim (λ e. not-written img t [] a e ∙ sym (ap otherThan21 (sector-21 img _ t a e)))

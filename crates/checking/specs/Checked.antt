@@ -55,26 +55,26 @@ damaged img b = onlyAfter (blockVerdict img b) (wrongSum img b)
 abbrev pub mark : List ℕ → List ℕ → ℕ → Verdict
 mark img left b = row (not (has b left) and damaged img b) (refusal 27 b)
 
--- an address while the blocks `left` are still to be looked at: all checks but that of their checksums, 21 left out
-unfoldable pub addressVerdict : List ℕ → Opened → List ℕ → ℕ → Verdict
-addressVerdict img t left a =
-    choose (notWritten img t a) Passes (entryForm img t a then mark img left (pointerAt img t a .block .0))
+-- table entry n while the blocks `left` are still to be looked at: all checks but that of their checksums, 21 left out
+unfoldable pub lookedVerdict : List ℕ → Opened → List ℕ → ℕ → Verdict
+lookedVerdict img t left n =
+    choose (notWritten img t n) Passes (entryForm img t n then mark img left (pointerAt img t n .block .0))
 
--- the first of `count` addresses that a check refuses, and how; the count where there is none
+-- the first of `count` table entries that a check refuses, and how; the count where there is none
 pub record IsFirst (check : ℕ → Verdict) (count : ℕ) (first : First) : Type 0 where
-  pub within : first .address .0 ≤ count
-  pub before : (a : ℕ) → a < first .address .0 → check a ≡ Passes
-  pub here : first .address .0 < count → (check (first .address .0) ≡ first .verdict) × (first .verdict ≢ Passes)
-  pub none : first .address .0 ≡ count → first .verdict ≡ Passes
+  pub within : first .number .0 ≤ count
+  pub before : (a : ℕ) → a < first .number .0 → check a ≡ Passes
+  pub here : first .number .0 < count → (check (first .number .0) ≡ first .verdict) × (first .verdict ≢ Passes)
+  pub none : first .number .0 ≡ count → first .verdict ≡ Passes
 
--- the first address that is refused, while the blocks `left` are still to be looked at
+-- the first table entry that is refused, while the blocks `left` are still to be looked at
 abbrev pub FirstLeft : List ℕ → Opened → List ℕ → First → Type 0
-FirstLeft img t left first = IsFirst (addressVerdict img t left) (t .count) first
+FirstLeft img t left first = IsFirst (lookedVerdict img t left) (t .count) first
 
 -- the same, while these index entries are still to be looked at
 abbrev pub FirstFrom : List ℕ → Opened → ℕ → ℕ → First → Type 0
 FirstFrom img t left p first = FirstLeft img t (offsetsOf DBLK (entriesFrom img left p)) first
 
--- the first address that is refused other than with 21
+-- the first table entry that is refused other than with 21
 abbrev pub FirstRefused : List ℕ → Opened → First → Type 0
 FirstRefused img t first = IsFirst (λ (a : ℕ). otherThan21 (sectorVerdict img (entries img (indexOffset img)) t a)) (t .count) first

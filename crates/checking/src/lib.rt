@@ -1,8 +1,8 @@
 // Internal: the checks that a commit makes of an opened disc: 74 of its table (11/13), 20 of its addresses, then all sectors by rising address, of which the
 // first that is refused other than with 21 gives its refusal.
 //
-// Cost, with E addresses and I index entries: each data block that the index names is summed once at most, however often it is named. To
-// look blocks up takes at most E times I comparisons of numbers, and E plus I for each run of neighbours where neighbouring addresses share
+// Cost, with E table entries and I index entries: each data block that the index names is summed once at most, however often it is named. To
+// look blocks up takes at most E times I comparisons of numbers, and E plus I for each run of neighbours where neighbouring entries share
 // a block; to see that an entry's block is named again, at most half of I times I; each damaged block, at most E.
 ghost use mathlib.Core.Bool.{true, false};
 ghost use mathlib.Core.List.{List, _∷_};
@@ -28,9 +28,9 @@ use format::Verdict;
 use opening::Image;
 use opening::Opened;
 
-// The first address that is refused, and how; the number of addresses where none is.
+// The first table entry that is refused, and how; their number where none is.
 struct First {
-    address: EntryNumber,
+    number: EntryNumber,
     verdict: Verdict,
 }
 
@@ -81,7 +81,7 @@ fn entry_form(s: &[u8], t: Opened, n: EntryNumber, e: u64, p: Pointer, known: By
     form_verdict(s, t, opening::entry_place(t, n), p, known)
 }
 
-// The first address that is refused other than with 21, by all checks but that of the checksums.
+// The first table entry that is refused other than with 21, by all checks but that of the checksums.
 fn first_form(s: &[u8], t: Opened) -> First
     requires { ⌜ opening (now s) ≡ accepted (contents t) ⌝ }
     ensures { λ r. ⌜ FirstLeft (now (s .entry)) (contents t) (indexed (now (s .entry))) r ⌝ }
@@ -89,7 +89,7 @@ fn first_form(s: &[u8], t: Opened) -> First
     let count = opening::count(t);
     let mut known = ByteOffset(0);
     let mut a: u64 = 0;
-    // an iteration for each address, up to the first that is refused
+    // an iteration for each table entry, up to the first that is refused
     while a < count {
         let here = EntryNumber(a);
         a += 1;
@@ -99,7 +99,7 @@ fn first_form(s: &[u8], t: Opened) -> First
             let v = entry_form(s, t, here, e, p, known);
             if let Verdict::Refuses(r) = v {
                 return First {
-                    address: here,
+                    number: here,
                     verdict: Verdict::Refuses(r),
                 };
             }
@@ -107,7 +107,7 @@ fn first_form(s: &[u8], t: Opened) -> First
         }
     }
     First {
-        address: EntryNumber(count),
+        number: EntryNumber(count),
         verdict: Verdict::Passes,
     }
 }
@@ -128,14 +128,14 @@ fn is_damaged(s: &[u8], b: ByteOffset) -> bool
     )
 }
 
-// The first address below `first` that points into the damaged block at b, with 27; `first` where there is none.
+// The first table entry below `first` that points into the damaged block at b, with 27; `first` where there is none.
 fn first_into(s: &[u8], t: Opened, b: ByteOffset, first: First) -> First
-    requires { ⌜ (opening (now s) ≡ accepted (contents t)) × (first .address .0 ≤ contents t .count) × (damaged (now s) (b .0) ≡ true) ⌝ }
+    requires { ⌜ (opening (now s) ≡ accepted (contents t)) × (first .number .0 ≤ contents t .count) × (damaged (now s) (b .0) ≡ true) ⌝ }
     ensures { λ r. ⌜ ((left : List ℕ) → has (b .0) left ≡ false → FirstLeft (now (s .entry)) (contents t) (b .0 ∷ left) first → FirstLeft (now (s .entry)) (contents t) left r) ⌝ }
 {
-    let limit = first.address;
+    let limit = first.number;
     let mut a: u64 = 0;
-    // an iteration for each address below, up to the first that points into the block
+    // an iteration for each entry below, up to the first that points into the block
     while a < limit.0 {
         let here = EntryNumber(a);
         a += 1;
@@ -145,7 +145,7 @@ fn first_into(s: &[u8], t: Opened, b: ByteOffset, first: First) -> First
             let block = p.block;
             if block.0 == b.0 {
                 return First {
-                    address: here,
+                    number: here,
                     verdict: Verdict::Refuses(Refusal {
                         number: 27,
                         place: b,
@@ -157,7 +157,7 @@ fn first_into(s: &[u8], t: Opened, b: ByteOffset, first: First) -> First
     first
 }
 
-// The first address once the block of the index entry at p, the first of `left`, is looked at. An entry whose block a later one names
+// The first table entry once the block of the index entry at p, the first of `left`, is looked at. An entry whose block a later one names
 // again is passed over, so that no block is summed twice.
 fn with_block(s: &[u8], t: Opened, p: ByteOffset, left: u64, first: First) -> First
     requires { ⌜ (opening (now s) ≡ accepted (contents t)) × (0 < left) × (p .0 + entryLength * left ≤ length (now s)) × FirstFrom (now s) (contents t) left (p .0) first ⌝ }
@@ -177,7 +177,7 @@ fn with_block(s: &[u8], t: Opened, p: ByteOffset, left: u64, first: First) -> Fi
     first
 }
 
-// All sectors by rising address: the first that is refused other than with 21.
+// All sectors by rising address, that is, by the numbers of their table entries: the first that is refused other than with 21.
 fn first_refused(s: &[u8], t: Opened) -> First
     requires { ⌜ opening (now s) ≡ accepted (contents t) ⌝ }
     ensures { λ r. ⌜ FirstRefused (now (s .entry)) (contents t) r ⌝ }

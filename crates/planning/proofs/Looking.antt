@@ -14,9 +14,9 @@ use Rattle.format.specs.Reading.{notWritten, pointerAt}
 use Rattle.format.specs.Committing.{onDisc, amongStored, pieces, oldPointer, itemOrZero}
 use Rattle.format.proofs.Tests.{choose-true, choose-false}
 use Rattle.format.proofs.Storing.{onDisc-found}
-use Rattle.search.specs.Found.{addressFound, itemFound}
-use Rattle.search.specs.declared.Address.{Address}
-use Rattle.search.specs.declared.Address.the-variants as address
+use Rattle.search.specs.Found.{entryFound, itemFound}
+use Rattle.search.specs.declared.TableEntry.{TableEntry}
+use Rattle.search.specs.declared.TableEntry.the-variants as at-entry
 use Rattle.search.specs.declared.Item.{Item}
 use Rattle.search.specs.declared.Item.the-variants as item
 use Rattle.search.proofs.Stored.{room}
@@ -41,30 +41,30 @@ next-looks {addresses = addresses} {size = size} k a stored c e h =
 
 -- ---- the handed-in sector k, whose bytes are d; r and q are what the searches answer
 module _ (img : List ℕ) (t : Opened) (size : ℕ) (sectors : List ℕ) (k stored : ℕ) (looks : Looks img t size sectors k stored)
-    (d : List ℕ) (is : d ≡ sectorOf size sectors k) (r : Address) (disc : addressFound r ≡ onDisc img t d) where
+    (d : List ℕ) (is : d ≡ sectorOf size sectors k) (r : TableEntry) (disc : entryFound r ≡ onDisc img t d) where
   long : length d ≡ size
   long = ap length is ∙ length-part sectors (k * size) size (looks .1)
 
   pub earlier-inside : 0 + k * length d ≤ length sectors
   earlier-inside = rw long (omega (arith, looks .1))
 
-  pub found-inside : (a : EntryNumber) → r ≡ address.Is a → a .0 < t .count
-  unfolding addressFound
+  pub found-inside : (a : EntryNumber) → r ≡ at-entry.Is a → a .0 < t .count
+  unfolding entryFound
   found-inside a e = onDisc-found img t d (a .0) (sym (rw e at disc)) .inside
 
-  pub looked-old : (a : EntryNumber) (p : Pointer) → r ≡ address.Is a → p ≡ pointerAt img t (a .0)
+  pub looked-old : (a : EntryNumber) (p : Pointer) → r ≡ at-entry.Is a → p ≡ pointerAt img t (a .0)
       → record { item = p .item; stored = stored; k = k + 1 } ≡ looked img t size sectors k stored
-  unfolding looked lookedFor addressFound
+  unfolding looked lookedFor entryFound
   looked-old a p e f = rw (← is, ← disc, e, f)
 
-  module _ (q : Item) (missing : r ≡ address.Missing) (among : itemFound q ≡ amongStored (pieces k (length d) (drop 0 sectors)) d) where
+  module _ (q : Item) (missing : r ≡ at-entry.Missing) (among : itemFound q ≡ amongStored (pieces k (length d) (drop 0 sectors)) d) where
     earlier : amongStored (pieces k size sectors) d ≡ itemFound q
     earlier = sym (rw long at among)
 
     pub looked-earlier : (i : ItemNumber) → q ≡ item.Is i → record { item = record { 0 = 0 }; stored = stored; k = k + 1 } ≡ looked img t size sectors k stored
-    unfolding looked lookedFor addressFound itemFound
+    unfolding looked lookedFor entryFound itemFound
     looked-earlier i e = rw (← is, ← disc, missing, earlier, e)
 
     pub looked-new : q ≡ item.Missing → record { item = record { 0 = stored }; stored = stored + 1; k = k + 1 } ≡ looked img t size sectors k stored
-    unfolding looked lookedFor addressFound itemFound
+    unfolding looked lookedFor entryFound itemFound
     looked-new e = rw (← is, ← disc, missing, earlier, e)

@@ -18,12 +18,12 @@ use Rattle.search.specs.Found.{Checked}
 use Rattle.planning.specs.declared.Planned.{Planned}
 use Rattle.planning.specs.declared.Looked.{Looked}
 
--- the first address of a list is a
+-- the first number of a list is a
 unfoldable pub heads : List ℕ → ℕ → Bool
 heads [] a = false
 heads (b ∷ bs) a = same b a
 
--- a is the next address, where k are used up
+-- a is the next of the numbers, where k are used up
 unfoldable pub isNext : List ℕ → ℕ → ℕ → Bool
 isNext addresses k a = heads (drop k addresses) a
 
@@ -58,7 +58,7 @@ planFor img t addresses size sectors =
       largest = record { 0 = largestItem (pointersBy img t addresses size sectors) };
     }
 
--- ---- one address of the pass
+-- ---- one table entry of the pass
 -- the handed-in sector k lies among the sectors, and at most as many are stored as were handed in before it
 abbrev pub Looks : List ℕ → Opened → ℕ → List ℕ → ℕ → ℕ → Type 0
 Looks img t size sectors k stored = Checked img t × (k * size + size ≤ length sectors) × (k < mostAddresses) × (stored ≤ k)
@@ -74,7 +74,7 @@ looked img t size sectors k stored =
     let sector = sectorOf size sectors k in
     lookedFor img t k stored (onDisc img t sector) (amongStored (pieces k size sectors) sector)
 
--- what address a adds
+-- what table entry a adds
 unfoldable pub lookedAt : List ℕ → Opened → List ℕ → ℕ → List ℕ → ℕ → ℕ → ℕ → Looked
 lookedAt img t addresses size sectors k a stored =
     choose (isNext addresses k a) (looked img t size sectors k stored)

@@ -15,8 +15,8 @@ use format::ByteOffset;
 use format::EntryNumber;
 use format::ItemNumber;
 use opening::Opened;
-use search::Address;
 use search::Item;
+use search::TableEntry;
 
 // What a commit will store: how many sectors, and the largest item number of its table.
 pub struct Planned {
@@ -24,7 +24,7 @@ pub struct Planned {
     pub largest: ItemNumber,
 }
 
-// What one address adds: its item number, and how many sectors are stored and how many addresses of the list are used up after it.
+// What one table entry adds: its item number, and how many sectors are stored and how many addresses of the list are used up after it.
 struct Looked {
     item: ItemNumber,
     stored: u64,
@@ -73,7 +73,7 @@ fn look(s: &[u8], t: Opened, size: u64, sectors: &[u8], k: usize, stored: u64) -
     let handed = k as u64;
     let sector = fields::part(sectors, handed * size, size);
     let old = search::on_disc_of(s, t, sector);
-    if let Address::Is(a) = old {
+    if let TableEntry::Is(a) = old {
         let p = opening::pointer_of(s, t, a);
         let item = p.item;
         return Looked {
@@ -97,7 +97,7 @@ fn look(s: &[u8], t: Opened, size: u64, sectors: &[u8], k: usize, stored: u64) -
     }
 }
 
-// Address a of the new table.
+// Entry a of the new table.
 fn look_at(
     s: &[u8],
     t: Opened,
@@ -141,7 +141,7 @@ pub fn plan(s: &[u8], t: Opened, addresses: &[i64], size: u64, sectors: &[u8]) -
     let mut stored: u64 = 0;
     let mut k: usize = 0;
     let mut a: u64 = 0;
-    // an iteration for each address of the disc
+    // an iteration for each table entry of the disc
     while a < count {
         let l = look_at(s, t, addresses, size, sectors, k, EntryNumber(a), stored);
         let item = l.item;

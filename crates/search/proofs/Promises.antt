@@ -6,15 +6,15 @@ use Rattle.format.specs.Committing.{onDisc}
 use Rattle.opening.specs.Answers.{contents}
 use Rattle.opening.proofs.Passed.{enum-of, slice-of}
 use Rattle.opening.proofs.Views.{Promise}
-use Rattle.search.specs.Found.{Checked, addressFound}
-use Rattle.search.proofs.Address as address-type
-use Rattle.search.proofs.Address.Laws as address-type′
+use Rattle.search.specs.Found.{Checked, entryFound}
+use Rattle.search.proofs.TableEntry as entry-type
+use Rattle.search.proofs.TableEntry.Laws as entry-type′
 
 abbrev pub on-disc-promise : Promise
 on-disc-promise = record {
   others = 1;
   argument = slice-of 1 tt u8;
-  result = enum-of address-type.the-type address-type′.the-laws tt address-type′.lowers refl;
+  result = enum-of entry-type.the-type entry-type′.the-laws tt entry-type′.lowers refl;
   asks = λ κs s t sector. Checked (now s) (contents t);
-  answers = λ κs s t sector r. addressFound r ≡ onDisc (now s) (contents t) (now sector);
+  answers = λ κs s t sector r. entryFound r ≡ onDisc (now s) (contents t) (now sector);
 }

@@ -10,10 +10,10 @@ use Rattle.format.specs.Layouts.{indexOffset, entries}
 use Rattle.format.specs.Opening.{Opened, opening}
 use Rattle.format.specs.Reading.{notWritten, pointerAt, placeOf}
 use Rattle.format.specs.Committing.{sectorsVerdict}
-use Rattle.search.specs.declared.Address.{Address}
+use Rattle.search.specs.declared.TableEntry.{TableEntry}
 use Rattle.search.specs.declared.Item.{Item}
 use Rattle.search.specs.declared.Slot.{Slot}
-use Rattle.search.specs.declared.Address.the-variants as address
+use Rattle.search.specs.declared.TableEntry.the-variants as at-entry
 use Rattle.search.specs.declared.Item.the-variants as item
 use Rattle.search.specs.declared.Slot.the-variants as slot
 
@@ -21,16 +21,16 @@ use Rattle.search.specs.declared.Slot.the-variants as slot
 abbrev pub Checked : List ℕ → Opened → Type 0
 Checked img t = (opening img ≡ accepted t) × (sectorsVerdict img (entries img (indexOffset img)) t ≡ Passes)
 
--- the address found
-unfoldable pub addressFound : Address → Option ℕ
-addressFound (address.Is a) = some (a .0)
-addressFound address.Missing = none
+-- the table entry found
+unfoldable pub entryFound : TableEntry → Option ℕ
+entryFound (at-entry.Is a) = some (a .0)
+entryFound at-entry.Missing = none
 
 -- the item found
 unfoldable pub itemFound : Item → Option ℕ
 itemFound (item.Is i) = some (i .0)
 itemFound item.Missing = none
 
--- what address a has
+-- what table entry a has
 unfoldable pub slotAt : List ℕ → Opened → ℕ → Slot
 slotAt img t a = choose (notWritten img t a) slot.Empty (slot.Sector (placeOf img (pointerAt img t a)))

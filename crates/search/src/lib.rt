@@ -7,7 +7,7 @@ ghost use Prim.Native.Nat.{_+_, _*_, _≤_, _<_};
 ghost use lib.ListN.{length, drop};
 ghost use Rattle.format.specs.Committing.{onDisc, amongStored, pieces};
 ghost use Rattle.opening.specs.Answers.{contents, held};
-ghost use Rattle.search.specs.Found.{Checked, addressFound, itemFound, slotAt};
+ghost use Rattle.search.specs.Found.{Checked, entryFound, itemFound, slotAt};
 use format::ByteOffset;
 use format::EntryNumber;
 use format::ItemNumber;
@@ -16,7 +16,7 @@ use opening::Image;
 use opening::Opened;
 
 // The table entry at which a search ends.
-pub enum Address {
+pub enum TableEntry {
     Is(EntryNumber),
     Missing,
 }
@@ -46,14 +46,14 @@ fn slot_at(s: &[u8], t: Opened, a: EntryNumber) -> Slot
     Slot::Sector(sectors::place(s, p))
 }
 
-// The first address of the disc that opened as t whose sector holds these bytes, length included.
-pub fn on_disc_at(s: &[u8], t: Opened, sector: &[u8]) -> Address
+// The first table entry of the disc that opened as t whose sector holds these bytes, length included.
+pub fn on_disc_at(s: &[u8], t: Opened, sector: &[u8]) -> TableEntry
     requires { ⌜ Checked (now s) (contents t) ⌝ }
-    ensures { λ r. ⌜ addressFound r ≡ onDisc (now (s .entry)) (contents t) (now (sector .entry)) ⌝ }
+    ensures { λ r. ⌜ entryFound r ≡ onDisc (now (s .entry)) (contents t) (now (sector .entry)) ⌝ }
 {
     let size = sector.len();
-    let mut found = Address::Missing;
-    // an iteration for each address, up to the one that is found; within it at most one for each byte, up to the first that differs
+    let mut found = TableEntry::Missing;
+    // an iteration for each table entry, up to the one that is found; within it at most one for each byte, up to the first that differs
     'search: for a in 0..opening::count(t) {
         let slot = slot_at(s, t, EntryNumber(a));
         let Slot::Sector(place) = slot else {
@@ -67,7 +67,7 @@ pub fn on_disc_at(s: &[u8], t: Opened, sector: &[u8]) -> Address
         let mut j: usize = 0;
         loop {
             if j == size {
-                found = Address::Is(EntryNumber(a));
+                found = TableEntry::Is(EntryNumber(a));
                 break 'search;
             }
             if s[start + j] != sector[j] {
@@ -80,17 +80,17 @@ pub fn on_disc_at(s: &[u8], t: Opened, sector: &[u8]) -> Address
 }
 
 // Over an opened image, which it takes apart.
-pub fn on_disc<'a, 'b>(image: Image<'a>, sector: &'b [u8]) -> Address
+pub fn on_disc<'a, 'b>(image: Image<'a>, sector: &'b [u8]) -> TableEntry
     requires { ⌜ Checked (now (image .bytes)) (held image) ⌝ }
-    ensures { λ r. ⌜ addressFound r ≡ onDisc (now (image .entry .bytes)) (held (image .entry)) (now (sector .entry)) ⌝ }
+    ensures { λ r. ⌜ entryFound r ≡ onDisc (now (image .entry .bytes)) (held (image .entry)) (now (sector .entry)) ⌝ }
 {
     on_disc_at(opening::bytes(image), opening::numbers(image), sector)
 }
 
 // Makes the opened image and hands it on.
-pub fn on_disc_of(s: &[u8], t: Opened, sector: &[u8]) -> Address
+pub fn on_disc_of(s: &[u8], t: Opened, sector: &[u8]) -> TableEntry
     requires { ⌜ Checked (now s) (contents t) ⌝ }
-    ensures { λ r. ⌜ addressFound r ≡ onDisc (now (s .entry)) (contents t) (now (sector .entry)) ⌝ }
+    ensures { λ r. ⌜ entryFound r ≡ onDisc (now (s .entry)) (contents t) (now (sector .entry)) ⌝ }
 {
     on_disc(opening::view(s, t), sector)
 }

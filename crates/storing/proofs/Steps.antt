@@ -24,11 +24,11 @@ use Rattle.format.proofs.Lists.{Sized}
 use Rattle.format.proofs.Tests.{choose-true, choose-false}
 use Rattle.format.proofs.Storing.{onDisc-found, length-pieces, Source, old, new, step-ok}
 use Rattle.format.proofs.Appended.{pointer-small}
-use Rattle.search.specs.declared.Address.{Address}
-use Rattle.search.specs.declared.Address.the-variants as address
+use Rattle.search.specs.declared.TableEntry.{TableEntry}
+use Rattle.search.specs.declared.TableEntry.the-variants as at-entry
 use Rattle.search.specs.declared.Item.{Item}
 use Rattle.search.specs.declared.Item.the-variants as item
-use Rattle.search.specs.Found.{Checked, addressFound, itemFound}
+use Rattle.search.specs.Found.{Checked, entryFound, itemFound}
 use Rattle.search.proofs.Disc.{sector-good}
 use Rattle.storing.specs.Turns.{itemsIn, stepAt, entryOf, Steps, Stepped}
 use Rattle.storing.proofs.Pieces.{most-items, pieces-stand, pieces-next}
@@ -76,7 +76,7 @@ module _ {buf : List ℕ} {used : ℕ} {t : Opened} {sector : List ℕ} {n : ℕ
   step = stepAt img t items sector
 
   -- the image is the front of the buffer
-  on-disc : {s : List ℕ} (r : Address) → s ≡ part buf 0 used → addressFound r ≡ onDisc s t sector → onDisc img t sector ≡ addressFound r
+  on-disc : {s : List ℕ} (r : TableEntry) → s ≡ part buf 0 used → entryFound r ≡ onDisc s t sector → onDisc img t sector ≡ entryFound r
   unfolding part
   on-disc r p e = ap (λ (x : List ℕ). onDisc x t sector) (sym p) ∙ sym e
 
@@ -112,11 +112,11 @@ module _ {buf : List ℕ} {used : ℕ} {t : Opened} {sector : List ℕ} {n : ℕ
       }
 
   -- found on the disc; there the pointer is read
-  module _ {s s′ : List ℕ} {r : Address} {a : EntryNumber} (es : s ≡ part buf 0 used) (e : addressFound r ≡ onDisc s t sector) (q : r ≡ address.Is a)
+  module _ {s s′ : List ℕ} {r : TableEntry} {a : EntryNumber} (es : s ≡ part buf 0 used) (e : entryFound r ≡ onDisc s t sector) (q : r ≡ at-entry.Is a)
       (es′ : s′ ≡ part buf 0 used) where
     at-address : onDisc img t sector ≡ some (a .0)
-    unfolding addressFound
-    at-address = on-disc r es e ∙ ap addressFound q
+    unfolding entryFound
+    at-address = on-disc r es e ∙ ap entryFound q
 
     pub readable : (opening s′ ≡ accepted t) × (a .0 < t .count)
     unfolding part
@@ -129,10 +129,10 @@ module _ {buf : List ℕ} {used : ℕ} {t : Opened} {sector : List ℕ} {n : ℕ
         stands p (step-is at-address refl ∙ ap (λ (x : Pointer). record { stored = items; pointer = x }) same)
 
   -- not found there
-  module _ {s : List ℕ} {r : Address} (es : s ≡ part buf 0 used) (e : addressFound r ≡ onDisc s t sector) (q : r ≡ address.Missing) where
+  module _ {s : List ℕ} {r : TableEntry} (es : s ≡ part buf 0 used) (e : entryFound r ≡ onDisc s t sector) (q : r ≡ at-entry.Missing) where
     nowhere : onDisc img t sector ≡ none
-    unfolding addressFound
-    nowhere = on-disc r es e ∙ ap addressFound q
+    unfolding entryFound
+    nowhere = on-disc r es e ∙ ap entryFound q
 
     -- found among the stored ones
     pub again : {i : Item} {j : ItemNumber} → itemFound i ≡ amongStored items sector → i ≡ item.Is j

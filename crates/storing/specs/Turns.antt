@@ -1,4 +1,4 @@
--- One turn of the second pass of a commit: what becomes of an address, and of the sector that is handed in for it.
+-- One turn of the second pass of a commit: what becomes of a table entry, and of the sector that is handed in for its address.
 use mathlib.Core.List.{List, flatten}
 use mathlib.Core.Logic.{_≢_}
 use mathlib.Core.Option.{Option, none, some}
@@ -26,13 +26,13 @@ unfoldable pub entryOf : ℕ → Option Pointer → ℕ
 entryOf shift none = 0
 entryOf shift (some p) = encode shift p
 
--- the sectors stored after an address, its pointer in the new table, and how many addresses of the list are used up after it
+-- the sectors stored after a table entry, its pointer in the new table, and how many addresses of the list are used up after it
 pub record Turn : Type 0 where
   pub items : List (List ℕ)
   pub pointer : Option Pointer
   pub k : ℕ
 
--- for address a, where k addresses are used up
+-- for entry a, where k addresses are used up
 unfoldable pub turnAt : List ℕ → Opened → List ℕ → ℕ → List ℕ → List (List ℕ) → ℕ → ℕ → Turn
 turnAt img t addresses size sectors items k a =
     let step = stepAt img t items (sectorOf size sectors k) in
@@ -63,7 +63,7 @@ pub record Stepped (buf after : List ℕ) (used : ℕ) (t : Opened) (sector : Li
   pub stored : r .stored ≡ length (stepIn buf used t sector n .stored)
   pub buffer : after ≡ overwrite buf (used + blockHeaderLength) (flatten (stepIn buf used t sector n .stored))
 
--- an address, with room for a sector that has to be stored for it
+-- a table entry, with room for a sector that has to be stored for it
 pub record Turns (buf : List ℕ) (used : ℕ) (t : Opened) (addresses : List ℕ) (size : ℕ) (sectors : List ℕ) (shift k a n : ℕ) : Type 0 where
   pub commits : Commits (take used buf) t addresses size sectors
   pub below : a < t .count

@@ -20,8 +20,8 @@ use format::EntryNumber;
 use format::ItemNumber;
 use format::Pointer;
 use opening::Opened;
-use search::Address;
 use search::Item;
+use search::TableEntry;
 
 // Where a handed-in sector is, and how many are stored with it.
 struct Handed {
@@ -29,7 +29,7 @@ struct Handed {
     stored: u64,
 }
 
-// An address's table entry, and how many sectors are stored and how many addresses of the list are used up after it.
+// A new table entry, and how many sectors are stored and how many addresses of the list are used up after it.
 struct Next {
     entry: u64,
     stored: u64,
@@ -53,7 +53,7 @@ fn store(buf: &mut [u8], used: u64, t: Opened, sector: &[u8], stored: u64) -> Ha
     ensures { λ r. ⌜ Stepped (now (buf .entry)) (now (buf .exit)) used (contents t) (now (sector .entry)) stored r ⌝ }
 {
     let old = search::on_disc_at(part(buf, 0, used), t, sector);
-    if let Address::Is(a) = old {
+    if let TableEntry::Is(a) = old {
         return Handed {
             pointer: opening::pointer_at(part(buf, 0, used), t, a),
             stored,
@@ -81,7 +81,7 @@ fn store(buf: &mut [u8], used: u64, t: Opened, sector: &[u8], stored: u64) -> Ha
     }
 }
 
-// The entry of an address that is not in the list: what it was, encoded anew. It is read once.
+// The entry of an address that is not in the list, number a: what it was, encoded anew. It is read once.
 fn old_entry(s: &[u8], t: Opened, a: EntryNumber, shift: u64) -> u64
     requires { ⌜ Checked (now s) (contents t) × (length (now s) ≤ longestBuffer) × (a .0 < contents t .count) × (shift ≤ 32) ⌝ }
     ensures { λ r. ⌜ r ≡ entryOf shift (oldPointer (now (s .entry)) (contents t) (a .0)) ⌝ }
@@ -93,7 +93,7 @@ fn old_entry(s: &[u8], t: Opened, a: EntryNumber, shift: u64) -> u64
     encode(shift, opening::entry_decoded(t, e))
 }
 
-// The entry of address a in the new table; a sector that is handed in for it is stored if it has to be.
+// Entry a of the new table; a sector that is handed in for its address is stored if it has to be.
 fn next_entry(
     buf: &mut [u8],
     used: u64,
@@ -143,7 +143,7 @@ pub fn put_entries(
     let mut stored: u64 = 0;
     let mut k: usize = 0;
     let mut a: u64 = 0;
-    // an iteration for each address of the disc
+    // an iteration for each table entry of the disc
     while a < count {
         let n = next_entry(
             buf,

@@ -13,7 +13,7 @@ use Rattle.format.proofs.Chains.{by}
 use Rattle.opening.specs.Answers.{contents}
 use Rattle.opening.proofs.Accepted.{decodes}
 use Rattle.opening.proofs.Entries.{written-is, pointer-is}
-use Rattle.checking.specs.Checked.{indexed, Formed, addressVerdict}
+use Rattle.checking.specs.Checked.{indexed, Formed, lookedVerdict}
 use Rattle.checking.proofs.Firsts.{first-at, first-none}
 use Rattle.checking.proofs.Forms.{entry-form-ok, form-only, not-written}
 use Rattle.checking.proofs.first_form.Statement.{statement}
@@ -21,7 +21,7 @@ use Rattle.checking.proofs.first_form.Tie as tie
 
 abbrev Inv-loop : tie.InvT-loop
 Inv-loop s t count known₀ a₀ known a =
-    (a ≤ contents t .count) × ((i : ℕ) → i < a → addressVerdict s (contents t) (indexed s) i ≡ Passes) × Formed s (known .0)
+    (a ≤ contents t .count) × ((i : ℕ) → i < a → lookedVerdict s (contents t) (indexed s) i ≡ Passes) × Formed s (known .0)
 
 abbrev μ-loop : tie.MeasureT-loop
 μ-loop s t count known₀ a₀ known a = contents t .count - a
@@ -51,7 +51,7 @@ gap c = written-is _ _ _ (c .before .table-entry .ensures) (c .is-unwritten .ens
 form-is : (c : tie.After-entry-form Inv-loop μ-loop)
     → let l = c .before .before .before .before .before .before in
     let r = l .before .before .before .args in
-    addressVerdict (now (r .s)) (contents (r .t)) (indexed (now (r .s))) (l .loop .a) ≡ c .entry-form .result
+    lookedVerdict (now (r .s)) (contents (r .t)) (indexed (now (r .s))) (l .loop .a) ≡ c .entry-form .result
 form-is c = let i = c .before .before in form-only _ _ _ (by (gap (i .before)) (not-true _ (i .if1 .taken))) ∙ sym (c .entry-form .ensures)
 
 returns : tie.Need-returns Inv-loop μ-loop

@@ -18,10 +18,10 @@ use Rattle.checking.proofs.first_into.Statement.{statement}
 use Rattle.checking.proofs.first_into.Tie as tie
 
 abbrev Inv-loop : tie.InvT-loop
-Inv-loop s t b first limit a₀ a = (a ≤ first .address .0) × ((i : ℕ) → i < a → ¬ Into s (contents t) (b .0) i)
+Inv-loop s t b first limit a₀ a = (a ≤ first .number .0) × ((i : ℕ) → i < a → ¬ Into s (contents t) (b .0) i)
 
 abbrev μ-loop : tie.MeasureT-loop
-μ-loop s t b first limit a₀ a = first .address .0 - a
+μ-loop s t b first limit a₀ a = first .number .0 - a
 
 loop-holds : tie.Need-loop-holds Inv-loop μ-loop
 loop-holds c = (omega arith, λ i l. absurd (omega arith))

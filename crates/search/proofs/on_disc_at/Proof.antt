@@ -8,8 +8,8 @@ use lib.ListN.{length}
 use Rattle.format.specs.Committing.{holdsSector, onDisc}
 use Rattle.format.proofs.Chains.{by}
 use Rattle.opening.specs.Answers.{contents}
-use Rattle.search.specs.declared.Address.the-variants.{Missing}
-use Rattle.search.specs.Found.{addressFound}
+use Rattle.search.specs.declared.TableEntry.the-variants.{Missing}
+use Rattle.search.specs.Found.{entryFound}
 use Rattle.search.proofs.First.{Searching, Comparing, search-starts, search-goes, search-done, bytes-agree, bytes-differ, bytes-done}
 use Rattle.search.proofs.Disc.{empty-other, size-other, size-same}
 use Rattle.search.proofs.on_disc_at.Statement.{statement}
@@ -73,11 +73,11 @@ loop-again c =
     (l .loop .inv .0, l .loop .inv .1, bytes-agree _ _ _ (l .loop .inv .2) (short (c .before .before .before)) (c .if3 .left))
 
 returns : tie.Need-returns Inv-loop μ-loop Inv-search μ-search
-unfolding addressFound
+unfolding entryFound
 returns c = rw (c .before .search .inv .0) (search-done _ _ _ (c .before .search .inv .1) (omega arith))
 
 returns-2 : tie.Need-returns-2 Inv-loop μ-loop Inv-search μ-search
-unfolding addressFound
+unfolding entryFound
 returns-2 c = bytes-done _ _ _ (c .before .loop .inv .2) (omega arith)
 
 pub on-disc-at-spec : {M : Type 1} → statement M
