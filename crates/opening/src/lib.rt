@@ -328,7 +328,7 @@ pub enum Numbered {
     Outside,
 }
 
-// The number of an address's table entry: address + negative, where that is not below 0 and below the count. The only function that sees a sign.
+// The number of an address's table entry: address + negative, where that is not below 0 and below the count. No address becomes one anywhere else.
 pub fn entry_number(t: Opened, a: SectorAddress) -> Numbered
     ensures { λ r. ⌜ IsNumbered (contents t) (a .0) r ⌝ }
 {

@@ -231,7 +231,7 @@ pub fn is_second(kind: TableKind) -> bool
     }
 }
 
-// What a pointer means: "byte offset = pointer / 2^shift, whole part, times 2^alignment; item number = the remainder".
+// What a pointer means. 11/13: "Byte offset = pointer / 2^dataShift, whole part, times 2^blockAlignmentShift; item number = the remainder."
 pub fn decode(shift: u64, alignment: u64, pointer: u64) -> Pointer
     requires { ⌜ (shift ≤ 32) × (alignment ≤ 32) × (pointer / 2 ^ shift * 2 ^ alignment < 2 ^ 64) ⌝ }
     ensures { λ r. ⌜ r ≡ decode shift alignment pointer ⌝ }
