@@ -103,9 +103,6 @@ module _ (t : Opened) (flat : t .negative ≡ 0) where
   pub inside-flat : (a : ℤ) → outside t a ≡ false → a ≡ pos (entryNumber t a)
   inside-flat a h = sym (displaced-flat a) ∙ inside-number t a h .is
 
-  pub flat-number : (n : ℕ) → n < t .count → Numbered t (pos n) n
-  flat-number n h = record { is = displaced-flat (pos n); inside = h }
-
 -- two tables with the same lowest address and count
 module _ (t u : Opened) (low-same : t .negative ≡ u .negative) (count-same : t .count ≡ u .count) (a : ℤ) where
   pub outside-alike : outside t a ≡ outside u a

@@ -58,10 +58,6 @@ is-sector true p q e = let z : _≡_ {A = ℕ} 0 1 = cc in absurd (omega arith)
 is-sector false p q e = (refl, cc)
 
 module _ (img : List ℕ) (t : Opened) (a : ℕ) where
-  pub slot-gap : slot.Empty ≡ slotAt img t a → notWritten img t a ≡ true
-  unfolding slotAt
-  slot-gap e = is-empty _ _ e
-
   module _ (p : Place) (e : slot.Sector p ≡ slotAt img t a) where
     pub slot-written : notWritten img t a ≡ false
     unfolding slotAt
