@@ -8,7 +8,7 @@ use lib.IntN.{ℤ, pos, negsuc}
 use lib.ListN.{length, drop, getD, length-drop}
 use lib.Seq.{drop-cons}
 use lib.Signed.{ltZ, leZ, mag}
-use borrow.Author.Tests.{ltb-true, leb-true, leb-false, lt-ltb, le-ltb}
+use borrow.Author.Tests.{leb-true, leb-false, lt-ltb, le-ltb}
 use Rattle.fields.proofs.Signs.{again, read-back}
 use Rattle.format.specs.Tests.{lessThan, _and_}
 use Rattle.format.specs.Committing.{risingBy, rising}

@@ -1,5 +1,5 @@
 -- Each group of checks passes exactly if its facts hold. Nobody else opens a chain of checks.
-use Prim.{Unit, tt}
+use Prim.{tt}
 use mathlib.Core.Bool.{Bool, true, false, not, true≢false}
 use mathlib.Core.List.{List, [], _∷_, cons-ne-nil}
 use mathlib.Core.Logic.{_≢_, _⊎_, ⊎-elim, ⊎-map, inl, inr, _↔_, Iff·rfl, Iff·trans}
@@ -22,7 +22,7 @@ use Rattle.format.specs.Lists.{All, done, more}
 use Rattle.format.specs.Refusals.{refusal, row, Answer, refused, accepted, answer}
 use Rattle.format.specs.Layouts.{DBLK, DDT2, indexOffset, applicationLength, entryLength, entryAt, entriesFrom, entries, blockLength, sectorSize, tableAlignment, tableNegative}
 use Rattle.format.specs.Opening.{lacks, headerVerdict, indexVerdict, entryVerdict, entriesVerdict, offsetsWith, offsetsOf, isTable, oneOf, oneVerdict, tableAt, kindBy, kindAt, extentVerdict, payloadVerdict, tableMalformed, sumsDiffer, tableVerdict, openVerdict, Opened, openedAs, opened}
-use Rattle.format.specs.Reading.{outside, entryNumber, tableEntryAt, unwritten, notWritten, unknown, unknownStatus, pointerAt, has, blockMalformed, blockVerdict, itemVerdict, pointerVerdict, sectorVerdict, itemBytes, addressVerdict, readVerdict, pointerOf, readAt}
+use Rattle.format.specs.Reading.{outside, entryNumber, tableEntryAt, notWritten, unknown, unknownStatus, pointerAt, has, blockMalformed, blockVerdict, itemVerdict, pointerVerdict, sectorVerdict, itemBytes, addressVerdict, readVerdict, pointerOf, readAt}
 use Rattle.format.specs.Writing.{mostSectors, largestSize, mostAddresses, longestBuffer, bufferVerdict, isSecond, writableVerdict}
 use Rattle.format.specs.Creating.{createdUsed, createVerdict}
 use Rattle.format.specs.Committing.{rising, argumentsVerdict, anyOutside, otherThan21, sectorsVerdict, discVerdict, Appended, usedAfter, commitVerdict}

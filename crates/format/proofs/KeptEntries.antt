@@ -1,5 +1,5 @@
 -- The old entries as a new index has them: the data blocks stay, the table's entry is replaced in its place, no 'CKSM' entry is left.
-use mathlib.Core.Bool.{true, false}
+use mathlib.Core.Bool.{true}
 use mathlib.Core.List.{List, [], _∷_, map}
 use mathlib.Core.Logic.{_≢_}
 use mathlib.Core.Path.{_≡_, refl, sym, ap, _∙_}

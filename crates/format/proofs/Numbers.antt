@@ -1,20 +1,16 @@
 -- Signed addresses and the numbers of their table entries: an address is inside exactly if address + `negative` is a number below the count.
 use mathlib.Core.Bool.{Bool, true, false, not}
-use mathlib.Core.List.{List, [], _∷_, map}
-use mathlib.Core.Logic.{_≢_, _↔_, Iff·rfl}
 use mathlib.Core.Path.{_≡_, refl, sym, ap, _∙_}
 use Prim.Native.Nat.{ℕ, suc, _+_, _-_, _≤_, _<_}
 use native.Mathlib.Omega.{arith}
 use lib.Dec.{ltb}
 use lib.IntN.{ℤ, pos, negsuc, negℤ, natAbs, _+ℤ_, _-ℤ_, +ℤ-idr, +ℤ-comm, +ℤ-negℤ-cancel, -ℤ-+ℤ-cancel}
 use lib.Signed.{ltZ}
-use borrow.Author.Tests.{ltb-true, ltb-false, lt-ltb, le-ltb}
+use borrow.Author.Tests.{ltb-true, lt-ltb, le-ltb}
 use Rattle.format.specs.Tests.{lessThan, _or_}
-use Rattle.format.specs.Lists.{All, done, more}
 use Rattle.format.specs.Opening.{Opened}
 use Rattle.format.specs.Reading.{displaced, outside, entryNumber}
-use Rattle.format.specs.Committing.{rising, anyOutside, entryNumbers}
-use Rattle.format.proofs.Tests.{never, not-iff, or-iff}
+use Rattle.format.proofs.Tests.{never, not-iff}
 
 -- an address of this entry
 pub record Numbered (t : Opened) (a : ℤ) (n : ℕ) : Type 0 where

@@ -4,7 +4,7 @@ use mathlib.Core.Path.{_≡_, refl, ap, _∙_}
 use Prim.Native.Nat.{ℕ}
 use Rattle.format.specs.declared.TableKind.{TableKind}
 use Rattle.format.specs.Layouts.{entries}
-use Rattle.format.specs.Opening.{offsetsWith, isTable, tableAt, kindAt, Opened, openedAs, openedAt, opened}
+use Rattle.format.specs.Opening.{offsetsWith, isTable, tableAt, kindAt, openedAs, openedAt, opened}
 use Rattle.format.specs.Facts.{Opens}
 use Rattle.format.proofs.Checks.{kind-iff, tableAt-only, OpenOk}
 use Rattle.format.proofs.Named.{table-named}

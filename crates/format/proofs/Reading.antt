@@ -1,10 +1,10 @@
 -- Demand 2 for reading: a read answers bytes exactly if the address names an intact item, and those bytes are the item's.
-use mathlib.Core.Bool.{true, false}
-use mathlib.Core.List.{List, [], _∷_}
+use mathlib.Core.Bool.{false}
+use mathlib.Core.List.{List, []}
 use mathlib.Core.Path.{_≡_, refl, sym, ap, _∙_, subst}
 use mathlib.Core.Logic.{_≢_}
-use Prim.Native.Nat.{ℕ, _+_, _*_, _/_, _%_, _^_, _<_}
-use native.Mathlib.Nat.{mod-lt, div-add-mod}
+use Prim.Native.Nat.{ℕ, _+_, _*_, _/_, _%_, _^_}
+use native.Mathlib.Nat.{mod-lt}
 use native.Mathlib.Omega.{arith}
 use lib.ListN.{length}
 use lib.IntN.{ℤ}
@@ -19,7 +19,7 @@ use Rattle.format.specs.declared.Verdict.the-variants.{Passes, Refuses}
 use Rattle.format.specs.Refusals.{Answer, refused, accepted, answer}
 use Rattle.format.specs.Layouts.{DBLK, indexOffset, entries, blockHeaderLength, sectorSize, entryStatus, entryPointer, decode, tableShift, tableAlignment}
 use Rattle.format.specs.Opening.{tableAt, kindAt, Opened, openedAs, opened}
-use Rattle.format.specs.Reading.{displaced, outside, entryNumber, tableEntry, unwritten, notWritten, unknown, unknownStatus, pointerAt, placeOf, itemBytes, readVerdict, pointerOf, readAt, read, locate}
+use Rattle.format.specs.Reading.{displaced, entryNumber, tableEntry, unwritten, notWritten, unknown, unknownStatus, pointerAt, placeOf, itemBytes, readVerdict, pointerOf, readAt, read, locate}
 use Rattle.format.specs.Answers.{bytesRead}
 use Rattle.format.specs.Committing.{itemOf}
 use Rattle.format.specs.Facts.{PointsWith, written, dumped}

@@ -3,7 +3,7 @@
 use Prim.{Unit, tt}
 use mathlib.Core.Bool.{Bool, true, true≢false}
 use mathlib.Core.List.{List, [], _∷_}
-use mathlib.Core.Logic.{_≢_, _⊎_, inl, inr, ⊎-map, ⊎-elim, _↔_, Iff·rfl, Iff·trans}
+use mathlib.Core.Logic.{_≢_, _⊎_, inl, inr, ⊎-elim, _↔_, Iff·rfl, Iff·trans}
 use mathlib.Core.Path.{_≡_, refl, sym, ap, subst}
 use Prim.Native.Nat.{ℕ, zero, suc, _+_, _*_, _≤_, _<_}
 use native.Mathlib.Nat.{eq-or-lt-of-le}
@@ -16,7 +16,7 @@ use Rattle.format.specs.declared.Verdict.{Verdict}
 use Rattle.format.specs.declared.Verdict.the-variants.{Passes, Refuses}
 use Rattle.format.specs.Refusals.{refusal, row, _then_}
 use Rattle.format.specs.Layouts.{indexOffset, indexHeaderLength, entryCount, entryLength, entries}
-use Rattle.format.specs.Opening.{headerVerdict, indexVerdict, entryVerdict, entriesVerdict, oneOf, oneVerdict, tableAt, kindAt, extentVerdict, payloadVerdict, tableVerdict, openVerdict, Opened, openedAs, opened, sectorCount}
+use Rattle.format.specs.Opening.{headerVerdict, indexVerdict, entryVerdict, entriesVerdict, oneOf, oneVerdict, tableAt, extentVerdict, payloadVerdict, tableVerdict, openVerdict, Opened, openedAs, opened, sectorCount}
 use Rattle.format.specs.Reading.{entryNumber, unknownStatus, pointerVerdict, sectorVerdict, addressVerdict, readVerdict, locate}
 use Rattle.format.specs.Writing.{bufferVerdict, isSecond, writableVerdict}
 use Rattle.format.specs.Creating.{createVerdict, create}

@@ -1,6 +1,5 @@
 -- A written block, table and index, read back: the facts of their checks hold, and an image that holds a table and an index opens.
 use Prim.{tt}
-use mathlib.Core.Bool.{false}
 use mathlib.Core.List.{List, [], _∷_, _++_, map, append-nil, flatten}
 use mathlib.Core.Logic.{_≢_}
 use mathlib.Core.Path.{_≡_, refl, sym, ap, _∙_}
@@ -15,8 +14,7 @@ use Rattle.fields.specs.Bytes.{part, field, equal}
 use Rattle.fields.proofs.Holds.{Holds, holds-all, holds-left, holds-right}
 use Rattle.fields.proofs.Records.{length-layout, holds-num, holds-raw}
 use Rattle.format.specs.declared.Entry.{Entry}
-use Rattle.format.specs.declared.TableKind.{TableKind}
-use Rattle.format.specs.declared.TableKind.the-variants.{First, Second}
+use Rattle.format.specs.declared.TableKind.the-variants.{First}
 use Rattle.format.specs.Lists.{All, done, more}
 use Rattle.format.specs.Layouts.{IDX2, DBLK, DDT*, DDT2, headerLength, applicationLength, headerBytes, entryCount, entryAt, entriesFrom, entries, entryBytes, indexHeader, indexBytes, sectorSize, blockLength, blockPayload, blockHeader, blockBytes, tableShift, tableCount, tableLength, tablePayload, tableHeader, tableBytes, tableAlignment, tableNegative, tableHeaderLength, blockHeaderLength, indexHeaderLength, entryLength, tableEntryLength}
 use Rattle.format.specs.Opening.{offsetsWith, isTable, tableAt, kindAt, Opened, openedAs, openedAt, opened}

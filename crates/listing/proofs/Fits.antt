@@ -2,8 +2,8 @@
 -- lowest address is above -65,536, so an address has at most a minus and 5 digits, and a place and a size have at most 5.
 -- Assumes nothing.
 use mathlib.Core.Bool.{Bool, true, false}
-use mathlib.Core.List.{List, _++_}
-use mathlib.Core.Path.{_≡_, refl, sym, ap, _∙_, subst}
+use mathlib.Core.List.{List}
+use mathlib.Core.Path.{_≡_, refl, sym, ap, _∙_}
 use Prim.Native.Nat.{ℕ, zero, suc, _+_, _*_, _≤_, _<_}
 use native.Mathlib.Omega.{arith}
 use lib.Dec.{ltb}
@@ -11,7 +11,6 @@ use lib.IntN.{ℤ, pos, negsuc, negℤ, natAbs, _+ℤ_, +ℤ-idr}
 use lib.ListN.{length, take, length-append}
 use lib.Seq.{length-take-le}
 use Rattle.fields.proofs.Overwrite.{length-overwrite}
-use Rattle.format.specs.declared.AddressRange.{AddressRange}
 use Rattle.format.specs.declared.Place.{Place}
 use Rattle.format.specs.declared.Refusal.{Refusal}
 use Rattle.format.specs.Refusals.{Answer, refused, accepted}
@@ -19,7 +18,7 @@ use Rattle.format.specs.Opening.{Opened, rangeOf, sectorCount}
 use Rattle.format.specs.Reading.{locate}
 use Rattle.format.proofs.Reading.{located-inside}
 use Rattle.listing.specs.Buffer.{Writes, Prints}
-use Rattle.listing.specs.Listing.{decimal, signed, head, line, linesFrom, lines, imageText, longestInput, listing}
+use Rattle.listing.specs.Listing.{decimal, signed, head, line, linesFrom, lines, imageText, longestInput}
 use Rattle.listing.proofs.Decimal.{length-decimal}
 use Rattle.listing.proofs.Pieces.{address-next}
 use Rattle.listing.proofs.Short.{count-refusal, locate-refusal, count-short}

@@ -1,5 +1,5 @@
 -- No pointer of either kind wraps: 64 bits without an alignment, or 28 bits with one of 32 at most. Assumes nothing.
-use mathlib.Core.Path.{_≡_, refl, subst}
+use mathlib.Core.Path.{_≡_, refl}
 use Prim.Native.Nat.{ℕ, _*_, _/_, _%_, _^_, _≤_, _<_}
 use native.Mathlib.Nat.{div-le-self, le-trans, lt-of-le-of-lt, mul-le-mul-left, mul-le-mul-right, mod-lt, mul-one}
 use native.Mathlib.Omega.{arith}

@@ -1,5 +1,4 @@
 -- `opening::kind_of` meets its contract. Assumes nothing.
-use borrow.Author.Needs.{needs}
 use Rattle.format.specs.Opening.{kindBy}
 use Rattle.format.proofs.Tests.{differs-iff, differs-true}
 use Rattle.opening.specs.Answers.{kindNumbered}

@@ -1,9 +1,9 @@
 -- `sectors::find_address` meets its contract. Assumes nothing.
-use mathlib.Core.Path.{_≡_, subst}
+use mathlib.Core.Path.{subst}
 use borrow.Author.Needs.{needs}
 use Rattle.format.specs.Reading.{addressVerdict, pointerOf}
 use Rattle.format.proofs.Chains.{stop, on-last, refuses, answers}
-use Rattle.opening.specs.Answers.{contents, IsNumbered}
+use Rattle.opening.specs.Answers.{IsNumbered}
 use Rattle.sectors.specs.Found.{found}
 use Rattle.sectors.proofs.find_address.Statement.{statement}
 use Rattle.sectors.proofs.find_address.Tie as tie
