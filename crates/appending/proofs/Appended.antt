@@ -3,7 +3,7 @@ use mathlib.Core.Bool.{false}
 use mathlib.Core.List.{List, [], _∷_, _++_, append-assoc}
 use mathlib.Core.Logic.{Iff·rfl}
 use mathlib.Core.Option.{Option}
-use mathlib.Core.Path.{_≡_, refl, sym, ap, _∙_, subst}
+use mathlib.Core.Path.{_≡_, sym, ap, _∙_, subst}
 use Prim.Native.Nat.{ℕ, _+_, _*_, _≤_, _<_}
 use native.Mathlib.Omega.{arith}
 use lib.ListN.{length, take, length-append}
@@ -26,7 +26,9 @@ use Rattle.format.specs.Answers.{answered}
 use Rattle.format.proofs.Tests.{below-true, below-iff, or-iff}
 use Rattle.format.proofs.Chains.{stop-last, on-last, goes}
 use Rattle.format.proofs.Answers.{outcome-stops, outcome-done}
-use Rattle.format.proofs.Checks.{OpenOk, ArgumentsOk, DiscOk, arguments-ok, disc-ok, first-flat, second-iff}
+use Rattle.format.specs.Facts.{ArgumentsOk, blockLengthFor, blockEntry}
+use Rattle.format.proofs.Ends.{length-newBlock, length-newTable, block-entry}
+use Rattle.format.proofs.Checks.{OpenOk, DiscSound, rising-iff, arguments-ok, disc-ok, first-flat, second-iff}
 use Rattle.format.proofs.Numbers.{inside-number}
 use Rattle.format.proofs.Addresses.{numbers-rise, length-numbers}
 use Rattle.format.proofs.Refusals.{row-passes, then-rest}
@@ -38,15 +40,10 @@ use Rattle.checking.proofs.Disc.{disc-opened}
 use Rattle.planning.specs.declared.Planned.{Planned}
 use Rattle.planning.specs.Plans.{Commits, storedBy, planFor, pointersBy}
 use Rattle.storing.specs.Stores.{Stores, tableEntriesBytes, stored}
-use Rattle.indexing.specs.Entries.{blockEntry, newEntries, Indexes}
-use Rattle.appending.specs.Appends.{Passed, blockLengthFor, headerFor, layoutFor, Data, Fits}
+use Rattle.indexing.specs.Entries.{newEntries, Indexes}
+use Rattle.appending.specs.Appends.{Passed, headerFor, layoutFor, Data, Fits}
 use Rattle.appending.specs.declared.Layout.{Layout}
-use Rattle.appending.proofs.Sealed.{length-newBlock, length-newTable, block-room, data-sealed}
-
-block-entry : (block : ℕ) (items : List (List ℕ)) → newBlockEntry block items ≡ blockEntry block (length items)
-unfolding newBlockEntry blockEntry
-block-entry block [] = refl
-block-entry block (i ∷ is) = refl
+use Rattle.appending.proofs.Sealed.{block-room, data-sealed}
 
 module _ (img : List ℕ) (t : Opened) (addresses : List ℕ) (size : ℕ) (sectors : List ℕ) (o : opened img (indexOffset img) ≡ t)
     (whole : length sectors ≡ length addresses * size) where
@@ -168,7 +165,7 @@ module _ (buf : List ℕ) (used : ℕ) (t : Opened) (addresses : List ℤ) (size
   arguments : ArgumentsOk buf used addresses size sectors
   arguments = arguments-ok buf used addresses size sectors .0 (passed .arguments)
 
-  disc : DiscOk img (indexOffset img) addresses
+  disc : DiscSound img (indexOffset img) addresses
   disc = disc-ok img (indexOffset img) addresses .0 (passed .disc)
 
   opened-as : opened img (indexOffset img) ≡ t
@@ -202,10 +199,10 @@ module _ (buf : List ℕ) (used : ℕ) (t : Opened) (addresses : List ℤ) (size
       record {
         checked = (passed .opens, sectors-pass);
         short = omega (arith, length-img, arguments .bufferOk .inside, arguments .bufferOk .long);
-        rises = numbers-rise t lowest addresses inside (arguments .rises);
+        rises = numbers-rise t lowest addresses inside (rising-iff addresses .1 (arguments .rises));
         inside = numbers-inside t addresses inside;
         few = rw many (arguments .few);
-        pos = arguments .pos;
+        pos = arguments .some;
         small = arguments .small;
         whole = rw many (arguments .whole);
       }

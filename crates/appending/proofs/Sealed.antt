@@ -1,39 +1,27 @@
 -- The new block and the new table, written payloads first: what stands in the end, and how long it is. Assumes nothing.
 use mathlib.Core.List.{List, [], _∷_, _++_, flatten}
 use mathlib.Core.Logic.{_≢_}
-use mathlib.Core.Option.{Option}
-use mathlib.Core.Path.{_≡_, refl, sym, ap, _∙_}
+use mathlib.Core.Path.{_≡_, sym, ap, _∙_}
 use Prim.Native.Nat.{ℕ, zero, suc, _+_, _-_, _*_, _≤_}
 use native.Mathlib.Nat.{zero-mul, mul-le-mul}
 use native.Mathlib.Omega.{arith}
 use lib.ListN.{length}
 use Rattle.fields.specs.Bytes.{part, overwrite}
 use Rattle.fields.proofs.Overwrite.{length-overwrite, overwrite-nil, overwrite-then, overwrite-comm}
-use Rattle.format.specs.declared.Pointer.{Pointer}
 use Rattle.format.specs.Lists.{All}
 use Rattle.format.specs.Layouts.{blockHeaderLength, blockHeader, blockBytes, tableHeaderLength, tableHeader, tableBytes, tableEntryLength}
 use Rattle.format.specs.Writing.{largestSize, mostAddresses, longestBuffer}
-use Rattle.format.specs.Committing.{newTable, newBlock}
+use Rattle.format.specs.Committing.{newBlock}
+use Rattle.format.specs.Facts.{blockLengthFor, blockEntry}
 use Rattle.format.proofs.Lists.{Sized, length-flatten}
-use Rattle.format.proofs.Storing.{length-entries}
-use Rattle.format.proofs.Written.{length-blockHeader, length-blockBytes, length-tableHeader, length-tableBytes}
-use Rattle.indexing.specs.Entries.{blockEntry}
+use Rattle.format.proofs.Written.{length-blockHeader, length-tableHeader}
 use Rattle.records.proofs.Sealed.{sealed}
-use Rattle.appending.specs.Appends.{blockLengthFor, headerFor}
+use Rattle.appending.specs.Appends.{headerFor}
 
 -- ---- lengths
 -- the payload of a block is not too long for a buffer
 pub product-small : (n size : ℕ) → n ≤ mostAddresses → size ≤ largestSize → n * size ≤ longestBuffer
 product-small n size h k = mul-le-mul h k
-
-pub length-newBlock : (size : ℕ) (items : List (List ℕ)) → All (Sized size) items → length (newBlock size items) ≡ blockLengthFor (length items) size
-unfolding newBlock blockLengthFor
-length-newBlock size [] s = refl
-length-newBlock size (i ∷ is) s = length-blockBytes size (flatten (i ∷ is)) ∙ ap (λ n. blockHeaderLength + n) (length-flatten size (i ∷ is) s)
-
-pub length-newTable : (ps : List (Option Pointer)) → length (newTable ps) ≡ tableHeaderLength + tableEntryLength * length ps
-unfolding newTable
-length-newTable ps = length-tableBytes _ (length ps) _ ∙ ap (λ n. tableHeaderLength + n) (length-entries _ ps)
 
 -- the place of the items is before the table's entries, also where there is no block
 pub block-room : (n size : ℕ) → blockHeaderLength + n * size ≤ blockLengthFor n size + tableHeaderLength

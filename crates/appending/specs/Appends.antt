@@ -6,8 +6,9 @@ use lib.ListN.{length, take}
 use lib.IntN.{ℤ}
 use Rattle.format.specs.declared.Verdict.the-variants.{Passes}
 use Rattle.format.specs.Refusals.{accepted}
-use Rattle.format.specs.Layouts.{indexOffset, indexHeaderLength, entryLength, entries, blockHeaderLength, blockHeader, tableHeaderLength, tableEntryLength}
+use Rattle.format.specs.Layouts.{indexOffset, indexHeaderLength, entryLength, entries, blockHeader, tableHeaderLength, tableEntryLength}
 use Rattle.format.specs.Opening.{Opened, opening}
+use Rattle.format.specs.Facts.{blockLengthFor}
 use Rattle.format.specs.Committing.{argumentsVerdict, discVerdict, entryNumbers, largestItem, shiftFor, keptEntries}
 use Rattle.indexing.specs.Entries.{newEntries}
 use Rattle.planning.specs.declared.Planned.{Planned}
@@ -21,12 +22,7 @@ pub record Passed (buf : List ℕ) (used : ℕ) (t : Opened) (addresses : List �
   pub opens : opening (take used buf) ≡ accepted t
   pub disc : discVerdict (take used buf) (indexOffset (take used buf)) addresses ≡ Passes
 
--- how long the new data block is, by how many sectors are stored in it
-unfoldable pub blockLengthFor : ℕ → ℕ → ℕ
-blockLengthFor zero size = 0
-blockLengthFor (suc n) size = blockHeaderLength + suc n * size
-
--- its header, before its payload
+-- the header of the new data block, by how many sectors are stored in it
 unfoldable pub headerFor : ℕ → ℕ → List ℕ → List ℕ
 headerFor zero size payload = []
 headerFor (suc n) size payload = blockHeader size payload

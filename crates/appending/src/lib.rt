@@ -18,9 +18,9 @@ ghost use Rattle.format.specs.Writing.{largestSize, mostAddresses, longestBuffe
 ghost use Rattle.format.specs.Committing.{argumentsVerdict, anyOutside, entryNumbers, newBlock, newTable, indexStart, appended, appendedBytes, commit};
 ghost use Rattle.format.specs.Answers.{answered};
 ghost use Rattle.opening.specs.Answers.{contents};
-ghost use Rattle.indexing.specs.Entries.{blockEntry};
 ghost use Rattle.planning.specs.Plans.{storedBy, pointersBy};
-ghost use Rattle.appending.specs.Appends.{Passed, blockLengthFor, headerFor, layoutFor, Data, Fits};
+ghost use Rattle.format.specs.Facts.{blockLengthFor, blockEntry};
+ghost use Rattle.appending.specs.Appends.{Passed, headerFor, layoutFor, Data, Fits};
 use fields::get;
 use fields::part;
 use format::ByteOffset;

@@ -58,6 +58,11 @@ unfolding anyOutside
 inside-each t [] h = done
 inside-each t (a ∷ l) h = let r = or-iff Iff·rfl Iff·rfl .0 h in more (r .0) (inside-each t l (r .1))
 
+pub each-inside : (t : Opened) (l : List ℤ) → All (λ (a : ℤ). outside t a ≡ false) l → anyOutside t l ≡ false
+unfolding anyOutside
+each-inside t _ done = refl
+each-inside t _ (more {l = l} h hs) = or-iff Iff·rfl Iff·rfl .1 (h, each-inside t l hs)
+
 pub length-numbers : (t : Opened) (l : List ℤ) → length (entryNumbers t l) ≡ length l
 unfolding entryNumbers
 length-numbers t l = length-map l (entryNumber t)

@@ -9,7 +9,7 @@ use Prim.Native.Nat.{ℕ, suc, _+_, _*_, _/_, _^_, _≤_, _<_, zero-le}
 use native.Mathlib.Nat.{zero-add, mul-one, not-suc-le-zero, div-le-self, mul-le-mul-left, mul-le-mul-right, lt-of-lt-of-le, lt-of-le-of-lt}
 use native.Mathlib.Omega.{arith}
 use lib.Dec.{lit<, lit≤}
-use lib.ListN.{length, getD, length-map}
+use lib.ListN.{length, length-append, getD, length-map}
 use lib.Pow.{pow-mono, pow-pos, high, low}
 use Rattle.fields.specs.Bytes.{part, fromLe, toLe}
 use Rattle.fields.proofs.Holds.{Holds, holds-all, holds-left, holds-right, holds-number}
@@ -18,12 +18,11 @@ use Rattle.format.specs.declared.Pointer.{Pointer}
 use Rattle.format.specs.declared.TableKind.the-variants.{First}
 use Rattle.format.specs.Lists.{All, done, more, IsBytes}
 use Rattle.format.specs.Refusals.{refusal, Answer, refused, accepted}
-use Rattle.format.specs.Layouts.{DBLK, DDT*, DDT2, CKSM, tag, headerLength, entries, userDataEntry, indexBytes, sectorSize, blockLength, tableBytes, entryPointer, decode, encode, tableHeaderLength, blockHeaderLength, tableEntryLength}
+use Rattle.format.specs.Layouts.{DBLK, DDT*, DDT2, tag, headerLength, entries, userDataEntry, indexBytes, sectorSize, blockLength, tableBytes, entryPointer, decode, encode, tableHeaderLength, blockHeaderLength, tableEntryLength}
 use Rattle.format.specs.Opening.{isUserData, offsetsWith, offsetsOf, isTable, tableAt, Opened, openedAs, opened}
 use Rattle.format.specs.Reading.{tableEntry, unwritten, notWritten, pointerAt, has, placeOf, itemBytes}
 use Rattle.format.specs.Writing.{largestSize, longestBuffer}
-use Rattle.format.specs.Committing.{pieces, given, itemOf, oldPointer, newPointer, itemOrZero, largestItem, shiftFor, tableEntryBytes, keptEntries, newTable, newBlock, newBlockEntry, storedFor, pointersFor, Appended, tableStart, indexStart, appendedFor, appended, appendedBytes}
-use Rattle.format.specs.Demands.{NoStaleChecksum}
+use Rattle.format.specs.Committing.{pieces, given, itemOf, oldPointer, newPointer, itemOrZero, largestItem, shiftFor, tableEntryBytes, keptEntries, newTable, newBlock, newBlockEntry, storedFor, pointersFor, Appended, tableStart, indexStart, usedAfter, appendedFor, appended, appendedBytes}
 use Rattle.format.specs.Facts.{Identified, EntryOk, UserData, OfKind, ItemOk}
 use Rattle.format.proofs.Tests.{never, same-true, same-iff, choose-true, choose-false}
 use Rattle.format.proofs.Lists.{Sized, all-append, all-map, all-both, all-get, length-flatten, getD-map}
@@ -31,7 +30,7 @@ use Rattle.format.proofs.Checks.{kind-iff, OpenOk, PointerOk, SectorOk,
 use Rattle.format.proofs.Named.{identified-number, type-number, user-data-on, user-data-true, user-data-false, offsets-yes, offsets-no, offsets-append, has-head, has-left, has-right, tables-first, table-offset}
 use Rattle.format.proofs.Agree.{Agree, header-agree, entry-agree, item-agree, bytes-agree, block-low}
 use Rattle.format.proofs.Written.{EntryFits, holds-piece, length-tableBytes, table-identified, table-entries, length-blockBytes, block-identified, block-size, block-items, item-written, length-indexBytes, openedFirst, Opens, opens-written}
-use Rattle.format.proofs.KeptEntries.{cksm-dblk, dblk-ddt, dblk-ddt2, not-cksm, kept-all, kept-blocks, kept-table}
+use Rattle.format.proofs.KeptEntries.{dblk-ddt, dblk-ddt2, kept-all, kept-blocks, kept-table}
 use Rattle.format.proofs.Storing.{handedOr, stored-sized, entries-sized, length-entries, shift-fits, shift-least, Source, old, new, stored-ok, NewPointer, fresh, kept, new-pointer, length-newPointers, getD-newPointers, item-largest, largest-bound}
 use Rattle.format.proofs.Bytes.{field-fits, field-bytes, entries-fit, tag-bytes}
 
@@ -160,12 +159,17 @@ none-second x b o k f =
     n (ap (λ m. part x m 4) (sym at) ∙ is))
     (all-both (k .entriesOk) (table-offset (entries x o) (tableAt x o) (k .only)))
 
--- ---- the disc of y at index offset i, after the sectors ds were committed at these table entries to the disc of x at o
-pub record NewDisc (x : List ℕ) (o : ℕ) (addresses : List ℕ) (ds : List (List ℕ)) (y : List ℕ) (i : ℕ) : Type 0 where
+-- ---- where what is appended ends
+pub appended-total : (used : ℕ) (parts : Appended) → used + length (appendedBytes parts) ≡ usedAfter used parts
+unfolding appendedBytes usedAfter indexStart tableStart
+appended-total used parts = simp length-append (omega arith)
+
+-- ---- the disc of y at index offset i, whose entries are es, after the sectors ds were committed at these table entries to the disc of x at o
+pub record NewDisc (x : List ℕ) (o : ℕ) (addresses : List ℕ) (ds : List (List ℕ)) (y : List ℕ) (i : ℕ) (es : List Entry) : Type 0 where
   pub sound : Sound y i
   pub count : opened y i .count ≡ opened x o .count
   pub reads : (n : ℕ) → n < opened x o .count → entryRead y i n ≡ handedOr (given addresses ds n) (entryRead x o n)
-  pub stale : NoStaleChecksum y i
+  pub index : entries y i ≡ es
 
 module _ (x : List ℕ) (o : ℕ) (addresses : List ℕ) (size : ℕ) (sectors : List ℕ) where
   abbrev ds : List (List ℕ)
@@ -350,14 +354,14 @@ module _ (x : List ℕ) (o : ℕ) (addresses : List ℕ) (size : ℕ) (sectors :
     unfolding tag fromLe
     block-entry-fits = record { blockType = lit< tt; dataType = lit< tt; offset = omega (arith, g .longer) }
 
-    kept-fit : All (λ (e : Entry). EntryFits e × (e .blockType ≢ tag CKSM)) (keptEntries newTableAt (entries x o))
+    kept-fit : All EntryFits (keptEntries newTableAt (entries x o))
     unfolding entries
     kept-fit =
         kept-all EntryFits newTableAt (entries x o)
         (λ e k q. record { blockType = k .blockType; dataType = k .dataType; offset = omega (arith, table-fits) }) (entries-fit x isBytes _ _)
 
     new-entries-fit : All EntryFits newEntries
-    new-entries-fit = all-append (all-map (λ e k. k .0) kept-fit) (block-entry-all (length x) items (λ n. block-entry-fits))
+    new-entries-fit = all-append kept-fit (block-entry-all (length x) items (λ n. block-entry-fits))
 
     block-entry-ok : 0 < length items → EntryOk y (userDataEntry DBLK (length x))
     block-entry-ok k =
@@ -368,7 +372,7 @@ module _ (x : List ℕ) (o : ℕ) (addresses : List ℕ) (size : ℕ) (sectors :
     unfolding tableStart
     new-entries-ok =
         all-append
-        (all-map (λ e k. k .0 .1)
+        (all-map (λ e k. k .1)
         (kept-all (λ (e : Entry). (e .blockType < 256 ^ 4) × EntryOk y e) newTableAt (entries x o)
         (λ e k q. (
           k .0,
@@ -387,7 +391,7 @@ module _ (x : List ℕ) (o : ℕ) (addresses : List ℕ) (size : ℕ) (sectors :
     new-no-second : All (λ (e : Entry). ¬ UserData DDT2 e) newEntries
     new-no-second =
         all-append
-        (all-map (λ e k. k .0) (kept-all (λ (e : Entry). ¬ UserData DDT2 e) newTableAt (entries x o) (λ e n q u. n (record { type = u .type; userData = u .userData })) no-second))
+        (kept-all (λ (e : Entry). ¬ UserData DDT2 e) newTableAt (entries x o) (λ e n q u. n (record { type = u .type; userData = u .userData })) no-second)
         (block-entry-all (length x) items (λ n u. dblk-ddt2 (sym (tag-bytes DBLK tt) ∙ u .type)))
 
     only-table : offsetsWith isTable newEntries ≡ newTableAt ∷ []
@@ -472,11 +476,11 @@ module _ (x : List ℕ) (o : ℕ) (addresses : List ℕ) (size : ℕ) (sectors :
             entry-bytes y newIndexAt a (rw (opens-new .named, opens-new .found) (r .0))
             ∙ ap (λ (u : Opened). accepted (itemBytes y (pointerAt y u a))) (opens-new .found) ∙ sym (r .1)
 
-    pub new-disc : NewDisc x o addresses ds y newIndexAt
+    pub new-disc : NewDisc x o addresses ds y newIndexAt newEntries
     new-disc =
         record {
           sound = sound-new;
           count = ap (λ (u : Opened). u .count) (opens-new .found);
           reads = reads-new;
-          stale = rw (opens-new .named) (all-append (all-map (λ e k. k .1) kept-fit) (block-entry-all (length x) items (λ n. not-cksm (userDataEntry DBLK (length x)) (λ q. cksm-dblk (sym q ∙ tag-bytes DBLK tt)))));
+          index = opens-new .named;
         }

@@ -1,6 +1,6 @@
 -- A writing call on a buffer: its outcome by its verdict, and the image afterwards against the image before.
 use mathlib.Core.List.{List}
-use mathlib.Core.Logic.{inl, inr, ⊎-elim, _↔_}
+use mathlib.Core.Logic.{inl, inr, ⊎-elim, ⊎-map, _↔_}
 use mathlib.Core.Path.{_≡_, refl, sym, _∙_}
 use Prim.Native.Nat.{ℕ, _+_, _^_, _≤_, _<_}
 use native.Mathlib.Nat.{le-refl}
@@ -10,7 +10,7 @@ use lib.Seq.{getD-take, length-take-le}
 use Rattle.fields.specs.Bytes.{toLe, overwrite}
 use Rattle.fields.proofs.Numbers.{length-toLe}
 use Rattle.fields.proofs.Overwrite.{length-overwrite, getD-off, getD-in}
-use Rattle.fields.proofs.Holds.{Holds, holds-take, holds-overwrite, holds-number}
+use Rattle.fields.proofs.Holds.{Holds, holds-take, holds-overwrite, holds-all, holds-number}
 use Rattle.format.specs.declared.Placed.{Placed}
 use Rattle.format.specs.declared.Refusal.{Refusal}
 use Rattle.format.specs.declared.Verdict.{Verdict}
@@ -19,6 +19,7 @@ use Rattle.format.specs.Lists.{IsBytes}
 use Rattle.format.specs.Refusals.{refused, accepted}
 use Rattle.format.specs.Layouts.{headerLength, indexOffsetAt, lastWrittenAt, indexOffset}
 use Rattle.format.specs.Writing.{outcome, setHeader}
+use Rattle.format.specs.Demands.{Elsewhere, HeaderSet}
 use Rattle.format.proofs.Agree.{KeptAt, Agree}
 use Rattle.format.proofs.Bytes.{bytes-overwrite, bytes-toLe}
 
@@ -37,6 +38,13 @@ outcome-accepted buffer (Refuses r) p new q e = let z : _≡_ {A = ℕ} 0 1 = cc
 pub outcome-passes : (buffer : List ℕ) (v : Verdict) (p : Placed) (new : List ℕ) → v ≡ Passes → outcome buffer v p new ≡ record { result = accepted p; buffer = new }
 unfolding outcome
 outcome-passes buffer v p new e = rw e
+
+pub outcome-accepts : (buffer : List ℕ) (v : Verdict) (p : Placed) (new : List ℕ) (q : Placed) → (outcome buffer v p new .result ≡ accepted q) ↔ ((v ≡ Passes) × (p ≡ q))
+unfolding outcome
+outcome-accepts buffer v p new q = (
+  (λ e. let k = outcome-accepted buffer v p new q e in (k .passes, k .answer)),
+  λ (e, f). rw (e, f),
+)
 
 pub outcome-refused : (buffer : List ℕ) (v : Verdict) (p : Placed) (new : List ℕ) (r : Refusal) → outcome buffer v p new .result ≡ refused r
     → (v ≡ Refuses r) × (outcome buffer v p new .buffer ≡ buffer)
@@ -57,11 +65,16 @@ module _ (l : List ℕ) (o time : ℕ) where
   unfolding setHeader
   length-setHeader = length-overwrite once lastWrittenAt (toLe 8 time) ∙ length-overwrite l indexOffsetAt (toLe 8 o)
 
-  setHeader-kept : (p : ℕ) → KeptAt p → getD (setHeader l o time) p 0 ≡ getD l p 0
+  pub setHeader-elsewhere : (p : ℕ) → Elsewhere p → getD (setHeader l o time) p 0 ≡ getD l p 0
   unfolding setHeader
-  setHeader-kept p h =
-      getD-off once lastWrittenAt (toLe 8 time) p (⊎-elim (λ b. inl (omega arith)) (λ b. inr (omega (arith, length-toLe 8 time))) h)
-      ∙ getD-off l indexOffsetAt (toLe 8 o) p (⊎-elim inl (λ b. inr (omega (arith, length-toLe 8 o))) h)
+  setHeader-elsewhere p h =
+      getD-off once lastWrittenAt (toLe 8 time) p
+      (⊎-elim (λ b. inl (omega arith)) (⊎-elim (λ b. inl (omega arith)) (λ b. inr (omega (arith, length-toLe 8 time)))) h)
+      ∙ getD-off l indexOffsetAt (toLe 8 o) p
+      (⊎-elim inl (⊎-elim (λ b. inr (omega (arith, length-toLe 8 o))) (λ b. inr (omega (arith, length-toLe 8 o)))) h)
+
+  setHeader-kept : (p : ℕ) → KeptAt p → getD (setHeader l o time) p 0 ≡ getD l p 0
+  setHeader-kept p h = setHeader-elsewhere p (⊎-map (λ b. b) inr h)
 
   setHeader-holds : headerLength ≤ length l → Holds (setHeader l o time) indexOffsetAt (toLe 8 o)
   unfolding setHeader
@@ -71,6 +84,17 @@ module _ (l : List ℕ) (o time : ℕ) where
         there = λ i h.
             getD-off once lastWrittenAt (toLe 8 time) (indexOffsetAt + i) (inl (omega (arith, length-toLe 8 o)))
             ∙ getD-in l indexOffsetAt (toLe 8 o) i h (omega (arith, length-toLe 8 o));
+      }
+
+  setHeader-time : headerLength ≤ length l → Holds (setHeader l o time) lastWrittenAt (toLe 8 time)
+  unfolding setHeader
+  setHeader-time long = holds-overwrite once lastWrittenAt (toLe 8 time) (omega (arith, length-overwrite l indexOffsetAt (toLe 8 o), length-toLe 8 time))
+
+  pub header-set : headerLength ≤ length l → HeaderSet (setHeader l o time) o time
+  header-set long =
+      record {
+        indexOffset = rw (length-toLe 8 o) at (holds-all _ _ _ (setHeader-holds long));
+        lastWrittenTime = rw (length-toLe 8 time) at (holds-all _ _ _ (setHeader-time long));
       }
 
   pub bytes-setHeader : headerLength ≤ length l → IsBytes l → IsBytes (setHeader l o time)

@@ -9,6 +9,7 @@ use native.Mathlib.Nat.{le-trans, mul-le-mul-right, div-mul-le-self, suc-mul}
 use native.Mathlib.Omega.{arith}
 use lib.ListN.{length, take, getD}
 use lib.IntN.{ℤ}
+use lib.Signed.{ltZ, _<ℤ_, ltZ-yes}
 use Rattle.fields.specs.Bytes.{part, equal}
 use Rattle.fields.proofs.Equal.{equal-iff}
 use Rattle.format.specs.declared.Entry.{Entry}
@@ -17,19 +18,19 @@ use Rattle.format.specs.declared.TableKind.{TableKind}
 use Rattle.format.specs.declared.TableKind.the-variants.{First, Second}
 use Rattle.format.specs.declared.Verdict.{Verdict}
 use Rattle.format.specs.declared.Verdict.the-variants.{Passes, Refuses}
-use Rattle.format.specs.Tests.{same}
+use Rattle.format.specs.Tests.{same, lessThan}
 use Rattle.format.specs.Lists.{All, done, more}
 use Rattle.format.specs.Refusals.{refusal, row, Answer, refused, accepted, answer}
-use Rattle.format.specs.Layouts.{DBLK, DDT2, indexOffset, applicationLength, entryLength, entryAt, entriesFrom, entries, blockLength, sectorSize, tableAlignment, tableNegative}
+use Rattle.format.specs.Layouts.{DBLK, DDT2, indexOffset, entryLength, entryAt, entriesFrom, entries, blockLength, sectorSize, tableAlignment, tableNegative}
 use Rattle.format.specs.Opening.{lacks, headerVerdict, indexVerdict, entryVerdict, entriesVerdict, offsetsWith, offsetsOf, isTable, oneOf, oneVerdict, tableAt, kindBy, kindAt, extentVerdict, payloadVerdict, tableMalformed, sumsDiffer, tableVerdict, openVerdict, Opened, openedAs, opened}
 use Rattle.format.specs.Reading.{outside, entryNumber, tableEntryAt, notWritten, unknown, unknownStatus, pointerAt, has, blockMalformed, blockVerdict, itemVerdict, pointerVerdict, sectorVerdict, itemBytes, addressVerdict, readVerdict, pointerOf, readAt}
-use Rattle.format.specs.Writing.{mostSectors, largestSize, mostAddresses, longestBuffer, bufferVerdict, isSecond, writableVerdict}
-use Rattle.format.specs.Creating.{createdUsed, createVerdict}
-use Rattle.format.specs.Committing.{rising, argumentsVerdict, anyOutside, otherThan21, sectorsVerdict, discVerdict, Appended, usedAfter, commitVerdict}
+use Rattle.format.specs.Writing.{bufferVerdict, isSecond, writableVerdict}
+use Rattle.format.specs.Creating.{createdIndexAt, createdUsed, createVerdict}
+use Rattle.format.specs.Committing.{risingBy, rising, argumentsVerdict, anyOutside, otherThan21, sectorsVerdict, discVerdict, Appended, usedAfter, commitVerdict}
 use Rattle.format.specs.RollingBack.{rollbackVerdict}
-use Rattle.format.specs.Facts.{HeaderOk, IndexOk, EntryOk, OfKind, ExtentOk, TableOk, BlockOk, ItemOk, Identified}
+use Rattle.format.specs.Facts.{HeaderOk, IndexOk, EntryOk, OfKind, ExtentOk, TableOk, BlockOk, ItemOk, Identified, CreateOk, BufferOk, Rising, empty, single, rises, ArgumentsOk}
 use Rattle.format.proofs.Lists.{all-head, all-tail}
-use Rattle.format.proofs.Tests.{on-or-off, not-iff, below-iff, atLeast-iff, same-on, same-true, same-iff, differs-iff, or-iff, and-iff, choose-true, choose-false}
+use Rattle.format.proofs.Tests.{on-or-off, on-iff, not-iff, below-iff, atLeast-iff, same-on, same-true, same-iff, differs-iff, or-iff, and-iff, and-on, and-true, choose-true, choose-false}
 use Rattle.format.proofs.Refusals.{answer-passes, answer-refuses, not-passes, row-iff, then-iff, then-rest, row-refuses, then-refuses, firstRefusal-iff, Says, row-says, then-says, Gives, says-not}
 
 -- the facts of a chain of checks, put into a record or a list
@@ -291,39 +292,47 @@ unfolding opened openedAs tableNegative tableAlignment
 first-flat img o e = (rw e, rw e)
 
 -- ---- creating
-pub record CreateOk (buffer : List ℕ) (count : ℕ) (application : List ℕ) : Type 0 where
-  pub long : length buffer ≤ longestBuffer
-  pub some : count ≢ 0
-  pub few : count ≤ mostSectors
-  pub sized : length application ≡ applicationLength
-  pub room : createdUsed count ≤ length buffer
+pub created-index : (count : ℕ) → createdIndexAt count ≡ 153 + 8 * count
+unfolding createdIndexAt
+created-index count = omega arith
+
+pub created-used : (count : ℕ) → createdUsed count ≡ 189 + 8 * count
+unfolding createdUsed
+created-used count = omega (arith, created-index count)
 
 pub create-ok : (buffer : List ℕ) (count : ℕ) (application : List ℕ) → (createVerdict buffer count application ≡ Passes) ↔ CreateOk buffer count application
 unfolding createVerdict
 create-ok buffer count application =
     facts
     (then-iff (row-iff _ below-iff) (then-iff (row-iff _ (or-iff same-iff below-iff)) (then-iff (row-iff _ differs-iff) (row-iff _ below-iff))))
-    (λ (a, ((b, c), (d, e))). record { long = a; some = b; few = c; sized = d; room = e })
-    (λ k. (k .long, ((k .some, k .few), (k .sized, k .room))))
+    (λ (a, ((b, c), (d, e))). record { long = a; some = b; few = c; sized = d; room = rw (created-used count) at e })
+    (λ k. (k .long, ((k .some, k .few), (k .sized, rw (created-used count) (k .room)))))
 
 -- ---- the buffer of a commit or a rollback
-pub record BufferOk (buffer : List ℕ) (used : ℕ) : Type 0 where
-  pub long : length buffer ≤ longestBuffer
-  pub inside : used ≤ length buffer
-
 pub buffer-ok : (buffer : List ℕ) (used : ℕ) → (bufferVerdict buffer used ≡ Passes) ↔ BufferOk buffer used
 unfolding bufferVerdict
 buffer-ok buffer used =
     facts (then-iff (row-iff _ below-iff) (row-iff _ below-iff)) (λ (a, b). record { long = a; inside = b }) (λ k. (k .long, k .inside))
 
 -- ---- committing
-pub record ArgumentsOk (buffer : List ℕ) (used : ℕ) (addresses : List ℤ) (size : ℕ) (sectors : List ℕ) : Type 0 where
-  pub bufferOk : BufferOk buffer used
-  pub pos : size ≢ 0
-  pub small : size ≤ largestSize
-  pub few : length addresses ≤ mostAddresses
-  pub whole : length sectors ≡ length addresses * size
-  pub rises : rising addresses ≡ true
+less-iff : (a b : ℤ) → (lessThan a b ≡ true) ↔ (a <ℤ b)
+unfolding lessThan
+less-iff a b = facts (on-iff (ltZ a b)) ltZ-yes (λ h. h .lt)
+
+rising-forth : (l : List ℤ) → rising l ≡ true → Rising l
+unfolding risingBy
+rising-forth [] h = empty
+rising-forth (a ∷ []) h = single
+rising-forth (a ∷ b ∷ l) h = let r = and-on _ _ h in rises (less-iff a b .0 (r .0)) (rising-forth (b ∷ l) (r .1))
+
+rising-back : (l : List ℤ) → Rising l → rising l ≡ true
+unfolding risingBy
+rising-back _ empty = refl
+rising-back _ single = refl
+rising-back _ (rises {a = a} {b = b} {l = l} h k) = and-true _ _ (less-iff a b .1 h) (rising-back (b ∷ l) k)
+
+pub rising-iff : (l : List ℤ) → (rising l ≡ true) ↔ Rising l
+rising-iff l = (rising-forth l, rising-back l)
 
 pub arguments-ok : (buffer : List ℕ) (used : ℕ) (addresses : List ℤ) (size : ℕ) (sectors : List ℕ)
     → (argumentsVerdict buffer used addresses size sectors ≡ Passes) ↔ ArgumentsOk buffer used addresses size sectors
@@ -331,9 +340,9 @@ unfolding argumentsVerdict
 arguments-ok buffer used addresses size sectors =
     facts
     (then-iff (buffer-ok buffer used)
-    (then-iff (row-iff _ (or-iff same-iff (or-iff below-iff below-iff))) (then-iff (row-iff _ differs-iff) (row-iff _ not-iff))))
-    (λ (a, ((b, (c, d)), (e, f))). record { bufferOk = a; pos = b; small = c; few = d; whole = e; rises = f })
-    (λ k. (k .bufferOk, ((k .pos, (k .small, k .few)), (k .whole, k .rises))))
+    (then-iff (row-iff _ (or-iff same-iff (or-iff below-iff below-iff))) (then-iff (row-iff _ differs-iff) (row-iff _ (Iff·trans not-iff (rising-iff addresses))))))
+    (λ (a, ((b, (c, d)), (e, f))). record { bufferOk = a; some = b; small = c; few = d; whole = e; rises = f })
+    (λ k. (k .bufferOk, ((k .some, (k .small, k .few)), (k .whole, k .rises))))
 
 -- an image that may be written to: it opens, with a table of the first kind
 pub record WritableOk (img : List ℕ) (o : ℕ) : Type 0 where
@@ -361,11 +370,11 @@ pub record Sound (img : List ℕ) (o : ℕ) : Type 0 where
   pub first : opened img o .kind ≡ First
   pub sectors : (n : ℕ) → n < opened img o .count → AddressOk img o n
 
-pub record DiscOk (img : List ℕ) (o : ℕ) (addresses : List ℤ) : Type 0 where
+pub record DiscSound (img : List ℕ) (o : ℕ) (addresses : List ℤ) : Type 0 where
   pub sound : Sound img o
   pub inside : anyOutside (opened img o) addresses ≡ false
 
-pub disc-ok : (img : List ℕ) (o : ℕ) (addresses : List ℤ) → (discVerdict img o addresses ≡ Passes) ↔ DiscOk img o addresses
+pub disc-ok : (img : List ℕ) (o : ℕ) (addresses : List ℤ) → (discVerdict img o addresses ≡ Passes) ↔ DiscSound img o addresses
 unfolding discVerdict sectorsVerdict
 disc-ok img o addresses =
     facts
@@ -375,13 +384,13 @@ disc-ok img o addresses =
     (λ k. (record { opens = k .sound .opens; first = k .sound .first }, (k .inside, λ n l b. k .sound .sectors n b)))
 
 -- the whole of a commit's checks
-pub record CommitOk (buffer : List ℕ) (used : ℕ) (addresses : List ℤ) (size : ℕ) (sectors : List ℕ) (new : Appended) : Type 0 where
+pub record CommitSound (buffer : List ℕ) (used : ℕ) (addresses : List ℤ) (size : ℕ) (sectors : List ℕ) (new : Appended) : Type 0 where
   pub arguments : ArgumentsOk buffer used addresses size sectors
-  pub disc : DiscOk (take used buffer) (indexOffset (take used buffer)) addresses
+  pub disc : DiscSound (take used buffer) (indexOffset (take used buffer)) addresses
   pub room : usedAfter used new ≤ length buffer
 
 pub commit-ok : (buffer : List ℕ) (used : ℕ) (addresses : List ℤ) (size : ℕ) (sectors : List ℕ) (new : Appended)
-    → (commitVerdict buffer used addresses size sectors new ≡ Passes) ↔ CommitOk buffer used addresses size sectors new
+    → (commitVerdict buffer used addresses size sectors new ≡ Passes) ↔ CommitSound buffer used addresses size sectors new
 unfolding commitVerdict
 commit-ok buffer used addresses size sectors new =
     facts
@@ -390,11 +399,11 @@ commit-ok buffer used addresses size sectors new =
     (λ (a, (b, c)). record { arguments = a; disc = b; room = c }) (λ k. (k .arguments, (k .disc, k .room)))
 
 -- ---- rolling back
-pub record RollbackOk (buffer : List ℕ) (used offset : ℕ) : Type 0 where
+pub record RollbackSound (buffer : List ℕ) (used offset : ℕ) : Type 0 where
   pub bufferOk : BufferOk buffer used
   pub writable : WritableOk (take used buffer) offset
 
-pub rollback-ok : (buffer : List ℕ) (used offset : ℕ) → (rollbackVerdict buffer used offset ≡ Passes) ↔ RollbackOk buffer used offset
+pub rollback-ok : (buffer : List ℕ) (used offset : ℕ) → (rollbackVerdict buffer used offset ≡ Passes) ↔ RollbackSound buffer used offset
 unfolding rollbackVerdict
 rollback-ok buffer used offset =
     facts (then-iff (buffer-ok buffer used) (writable-ok (take used buffer) offset))

@@ -1,35 +1,38 @@
 -- An accepted commit: the disc afterwards is sound, keeps the old image's bytes, and reads as handed in, or as before.
 use mathlib.Core.Bool.{false}
-use mathlib.Core.List.{List, []}
+use mathlib.Core.List.{List, [], _++_}
 use mathlib.Core.Logic.{⊎-elim}
 use mathlib.Core.Option.{Option}
 use mathlib.Core.Path.{_≡_, sym, ap, _∙_, subst}
 use Prim.Native.Nat.{ℕ, _+_, _≤_, _<_}
 use native.Mathlib.Omega.{arith}
-use lib.ListN.{length, take, getD, length-append, length-take}
+use lib.ListN.{length, take, getD, length-take}
 use lib.IntN.{ℤ, pos}
 use lib.Seq.{length-take-le}
 use Rattle.fields.specs.Bytes.{overwrite}
 use Rattle.fields.proofs.Overwrite.{length-overwrite}
 use Rattle.fields.proofs.Holds.{Holds}
+use Rattle.format.specs.declared.Entry.{Entry}
 use Rattle.format.specs.declared.Placed.{Placed}
 use Rattle.format.specs.Lists.{IsBytes}
 use Rattle.format.specs.Refusals.{accepted}
-use Rattle.format.specs.Layouts.{headerLength, indexOffset}
+use Rattle.format.specs.Layouts.{headerLength, indexOffset, entries}
 use Rattle.format.specs.Opening.{opened}
 use Rattle.format.specs.Reading.{outside, entryNumber, readAt, read}
 use Rattle.format.specs.Writing.{longestBuffer, placed, setHeader}
-use Rattle.format.specs.Committing.{entryNumbers, pieces, given, Appended, appended, tableStart, indexStart, usedAfter, appendedBytes, append, commit}
-use Rattle.format.specs.Demands.{ReadsCommitted, NoStaleChecksum, Demand2Committing}
+use Rattle.format.specs.Committing.{entryNumbers, pieces, given, storedFor, keptEntries, newBlock, newBlockEntry, Appended, appended, tableStart, indexStart, usedAfter, appendedBytes, append, commit}
+use Rattle.format.specs.Demands.{Additions, newEntries, ReadsCommitted, Demand2Committing}
+use Rattle.format.specs.Facts.{ArgumentsOk}
 use Rattle.format.proofs.Tests.{on-or-off}
 use Rattle.format.proofs.Lists.{all-take, all-get}
-use Rattle.format.proofs.Checks.{commit-ok, ArgumentsOk, Sound, DiscOk, entryRead, read-20, read-inside, first-flat}
+use Rattle.format.proofs.Checks.{rising-iff, commit-ok, Sound, DiscSound, entryRead, read-20, read-inside, first-flat}
 use Rattle.format.proofs.Numbers.{inside-number, outside-alike, number-alike}
 use Rattle.format.proofs.Agree.{Agree}
 use Rattle.format.proofs.Bytes.{bytes-overwrite, bytes-appended}
 use Rattle.format.proofs.Addresses.{given-named, given-other, inside-each, numbers-rise, numbers-other, number-at, length-numbers}
 use Rattle.format.proofs.Storing.{handedOr, getD-pieces, length-pieces}
-use Rattle.format.proofs.Appended.{NewDisc, new-disc}
+use Rattle.format.proofs.Appended.{appended-total, NewDisc, new-disc}
+use Rattle.format.proofs.Ends.{additions, entries-are}
 use Rattle.format.proofs.Buffers.{outcome-accepted, agree-append, holds-appended, indexOffset-set, length-appended, bytes-setHeader}
 
 -- an accepted commit that answered p and left `after`
@@ -39,13 +42,14 @@ pub record Committed (buffer : List ℕ) (used : ℕ) (addresses : List ℤ) (si
   pub offset : indexOffset (take (p .used) after) ≡ p .index .0
   pub sound : Sound (take (p .used) after) (p .index .0)
   pub reads : ReadsCommitted (read (take used buffer)) (readAt (take (p .used) after) (p .index .0)) addresses size sectors
-  pub stale : NoStaleChecksum (take (p .used) after) (p .index .0)
+  pub additions : Additions (take used buffer) used size (pieces (length addresses) size sectors)
+  pub index : entries (take (p .used) after) (p .index .0) ≡ newEntries additions
   pub same-length : length after ≡ length buffer
   pub inside : p .used ≤ length after
   pub bytes : IsBytes sectors → IsBytes after
 
 module _ (buffer : List ℕ) (isBytes : IsBytes buffer) (used : ℕ) (addresses : List ℤ) (size : ℕ) (sectors : List ℕ) (time : ℕ)
-    (k : ArgumentsOk buffer used addresses size sectors) (d : DiscOk (take used buffer) (indexOffset (take used buffer)) addresses)
+    (k : ArgumentsOk buffer used addresses size sectors) (d : DiscSound (take used buffer) (indexOffset (take used buffer)) addresses)
     (room : let img = take used buffer in let o = indexOffset img in
     usedAfter used (appended img o (entryNumbers (opened img o) addresses) size sectors) ≤ length buffer) where
   abbrev x : List ℕ
@@ -67,6 +71,12 @@ module _ (buffer : List ℕ) (isBytes : IsBytes buffer) (used : ℕ) (addresses 
   abbrev ds : List (List ℕ)
   ds = pieces (length numbers) size sectors
 
+  -- the entries of its index
+  abbrev written : List Entry
+  written =
+      let items = storedFor x o numbers size sectors .items in
+      keptEntries (tableStart (length x) (newBlock size items)) (entries x o) ++ newBlockEntry (length x) items
+
   abbrev after : List ℕ
   after = setHeader (overwrite buffer used run) (indexStart used new) time
 
@@ -83,8 +93,7 @@ module _ (buffer : List ℕ) (isBytes : IsBytes buffer) (used : ℕ) (addresses 
   low = omega (arith, length-x, s .opens .header .long)
 
   total : used + length run ≡ usedAfter used new
-  unfolding appendedBytes usedAfter indexStart tableStart
-  total = simp length-append (omega arith)
+  total = appended-total used new
 
   fits : used + length run ≤ length buffer
   fits = omega (arith, total, room)
@@ -104,10 +113,10 @@ module _ (buffer : List ℕ) (isBytes : IsBytes buffer) (used : ℕ) (addresses 
   many : length numbers ≡ length addresses
   many = length-numbers (opened x o) addresses
 
-  disc : NewDisc x o numbers ds y (indexStart used new)
+  disc : NewDisc x o numbers ds y (indexStart used new) written
   disc =
-      subst (λ n. NewDisc x o numbers ds y (indexStart n new)) length-x
-      (new-disc x o numbers size sectors y agrees s (all-take buffer isBytes used) (k .pos) (k .small) (rw many (k .whole)) holds y-long)
+      subst (λ n. NewDisc x o numbers ds y (indexStart n new) written) length-x
+      (new-disc x o numbers size sectors y agrees s (all-take buffer isBytes used) (k .some) (k .small) (rw many (k .whole)) holds y-long)
 
   -- ---- the addresses: the lowest is 0 before and after
   lowest : opened x o .negative ≡ 0
@@ -134,7 +143,7 @@ module _ (buffer : List ℕ) (isBytes : IsBytes buffer) (used : ℕ) (addresses 
   unfolding handedOr
   reads-y =
       let ld : length ds ≡ length numbers = length-pieces (length numbers) size sectors in
-      let rise = numbers-rise (opened x o) lowest addresses (d .inside) (k .rises) in
+      let rise = numbers-rise (opened x o) lowest addresses (d .inside) (rising-iff addresses .1 (k .rises)) in
       record {
         named = λ j h.
             let a : ℤ = getD addresses j (pos 0) in
@@ -165,7 +174,8 @@ module _ (buffer : List ℕ) (isBytes : IsBytes buffer) (used : ℕ) (addresses 
         offset = indexOffset-set (overwrite buffer used run) (usedAfter used new) (indexStart used new) time (omega (arith, low)) (omega arith) (omega (arith, k .bufferOk .long));
         sound = rw y-is (disc .sound);
         reads = rw y-is reads-y;
-        stale = rw y-is (disc .stale);
+        additions = additions x s used length-x addresses size sectors (k .whole);
+        index = rw y-is (disc .index ∙ entries-are x s used length-x addresses size sectors (k .whole));
         same-length = length-after;
         inside = omega (arith, room, length-after);
         bytes = λ h.
@@ -190,5 +200,6 @@ demand-2-committing buffer b used addresses size sectors time p e =
     let c = commit-accepted buffer b used addresses size sectors time p e in
     record {
       disc = subst (λ n. ReadsCommitted (read (take used buffer)) (readAt (take (p .used) after) n) addresses size sectors) (sym (c .offset)) (c .reads);
-      index = c .stale;
+      additions = c .additions;
+      index = c .index;
     }

@@ -1,12 +1,13 @@
 -- An accepted creation: the disc is sound, and no sector of it is written.
 use mathlib.Core.Bool.{true}
 use mathlib.Core.List.{List, [], _∷_, _++_}
-use mathlib.Core.Logic.{inl}
+use mathlib.Core.Logic.{_≢_, inl, ⊎-elim}
 use mathlib.Core.Path.{_≡_, refl, ap, _∙_, subst}
 use Prim.Native.Nat.{ℕ, _+_, _*_, _≤_, _<_, zero-le}
 use native.Mathlib.Omega.{arith}
 use lib.Dec.{lit<, lit≤}
 use lib.ListN.{length, take, replicate, length-replicate, length-append}
+use lib.IntN.{ℤ, pos, +ℤ-idr}
 use Rattle.fields.specs.Bytes.{part, fromLe, field, overwrite}
 use Rattle.fields.proofs.Overwrite.{length-overwrite}
 use Rattle.fields.proofs.Holds.{Holds, holds-take, holds-overwrite, holds-part, holds-left, holds-right}
@@ -15,14 +16,17 @@ use Rattle.format.specs.declared.Placed.{Placed}
 use Rattle.format.specs.Lists.{All, done, more, IsBytes}
 use Rattle.format.specs.Refusals.{accepted}
 use Rattle.format.specs.Layouts.{AARUFRMT, DDT*, tag, headerLength, applicationLength, imageMajorAt, indexOffsetAt, indexOffset, headerBytes, indexBytes, tableBytes, tableHeaderLength, tableEntryLength}
-use Rattle.format.specs.Opening.{offsetsWith, isTable, Opened}
-use Rattle.format.specs.Reading.{tableEntry, unwritten, notWritten}
+use Rattle.format.specs.Opening.{offsetsWith, isTable, Opened, opened, rangeOf, sectorCount}
+use Rattle.format.specs.Reading.{displaced, outside, entryNumber, tableEntry, unwritten, notWritten, read}
 use Rattle.format.specs.Writing.{mostSectors, longestBuffer}
 use Rattle.format.specs.Creating.{createdIndexAt, createdUsed, createdEntries, createdBytes, create}
-use Rattle.format.specs.Facts.{Identified, HeaderOk, EntryOk}
-use Rattle.format.proofs.Tests.{same-true}
+use Rattle.format.specs.Facts.{Identified, HeaderOk, EntryOk, CreateOk}
+use Rattle.format.specs.Demands.{FreshDisc, Demand2Creating}
+use Rattle.format.proofs.Tests.{on-or-off, same-true}
 use Rattle.format.proofs.Lists.{all-take, all-drop, all-replicate}
-use Rattle.format.proofs.Checks.{Sound, create-ok}
+use Rattle.format.proofs.Refusals.{answer-passes}
+use Rattle.format.proofs.Numbers.{Numbered, inside-number, number-inside, number-is, inside-flat}
+use Rattle.format.proofs.Checks.{OpenOk, open-ok, entry-21, read-20, read-inside, Sound, created-used, create-ok}
 use Rattle.format.proofs.Named.{identified-number, table-iff, offsets-yes}
 use Rattle.format.proofs.Written.{EntryFits, length-headerBytes, length-tableBytes, table-identified, table-entries, length-indexBytes, openedFirst, Opens, opens-written}
 use Rattle.format.proofs.Bytes.{bytes-overwrite, bytes-created, tag-bytes}
@@ -52,7 +56,7 @@ module _ (count : ℕ) (application : List ℕ) (major minor mediaType creationT
   length-header : length header ≡ headerLength
   length-header = length-headerBytes application major minor mediaType (createdIndexAt count) creationTime lastWrittenTime sized
 
-  length-new : length new ≡ createdUsed count
+  pub length-new : length new ≡ createdUsed count
   unfolding createdBytes createdUsed createdIndexAt
   length-new =
       let a = length-append header (table ++ indexBytes createdEntries) in
@@ -132,6 +136,30 @@ module _ (count : ℕ) (application : List ℕ) (major minor mediaType creationT
     created-sound : Sound y o
     created-sound = record { opens = opens .ok; first = rw (opens .found) refl; sectors = rw (opens .found) (λ a k. inl (nothing-written a k)) }
 
+    -- ---- it reads as a new disc
+    opened-new : opened y (indexOffset y) ≡ newOpened
+    opened-new = ap (opened y) created-offset ∙ opens .found
+
+    open-new : OpenOk y (indexOffset y)
+    open-new = rw created-offset (opens .ok)
+
+    outside-new : (a : ℤ) → ((n : ℕ) → n < count → a ≢ pos n) → outside newOpened a ≡ true
+    outside-new a h =
+        ⊎-elim (λ e. e) (λ e. absurd (h (entryNumber newOpened a) (inside-number newOpened a e .inside) (inside-flat newOpened refl a e)))
+        (on-or-off (outside newOpened a))
+
+    fresh : FreshDisc y count
+    unfolding sectorCount rangeOf read displaced
+    fresh =
+        record {
+          sectors = answer-passes _ _ (open-ok y _ .1 open-new) ∙ ap (λ (t : Opened). accepted (rangeOf t)) opened-new;
+          inside = λ n k.
+              let m : Numbered newOpened (pos n) n = record { is = +ℤ-idr (pos n); inside = k } in
+              read-inside y _ open-new (pos n) (rw opened-new (number-inside newOpened (pos n) n m))
+              ∙ entry-21 y _ _ (rw (opened-new, number-is newOpened (pos n) n m) (nothing-written n k));
+          outside = λ a h. read-20 y _ open-new a (rw opened-new (outside-new a h));
+        }
+
 -- ---- an accepted creation that answered p and left `after`
 pub record Created (p : Placed) (after : List ℕ) : Type 0 where
   pub long : length after ≤ longestBuffer
@@ -139,6 +167,23 @@ pub record Created (p : Placed) (after : List ℕ) : Type 0 where
   pub offset : indexOffset (take (p .used) after) ≡ p .index .0
   pub sound : Sound (take (p .used) after) (p .index .0)
   pub bytes : IsBytes after
+
+-- the image that an accepted creation leaves holds what is created
+module _ (buffer : List ℕ) (count : ℕ) (application : List ℕ) (major minor mediaType creationTime lastWrittenTime : ℕ) (k : CreateOk buffer count application) where
+  abbrev run : List ℕ
+  run = createdBytes count application major minor mediaType creationTime lastWrittenTime
+
+  length-run : length run ≡ createdUsed count
+  length-run = length-new count application major minor mediaType creationTime lastWrittenTime (k .sized)
+
+  room : createdUsed count ≤ length buffer
+  room = rw (created-used count) (k .room)
+
+  fits : 0 + length run ≤ length buffer
+  fits = omega (arith, length-run, room)
+
+  held : Holds (take (createdUsed count) (overwrite buffer 0 run)) 0 run
+  held = holds-take (overwrite buffer 0 run) (createdUsed count) 0 run (holds-overwrite buffer 0 run fits) (omega (arith, length-run))
 
 pub create-accepted : (buffer : List ℕ) → IsBytes buffer → (count : ℕ) (application : List ℕ) → IsBytes application
     → (major minor mediaType creationTime lastWrittenTime : ℕ) (p : Placed)
@@ -148,17 +193,21 @@ unfolding create
 create-accepted buffer b count application ba major minor mediaType creationTime lastWrittenTime p e =
     let r = outcome-accepted _ _ _ _ p e in
     let k = create-ok buffer count application .0 (r .passes) in
-    let new : List ℕ = createdBytes count application major minor mediaType creationTime lastWrittenTime in
-    let ln : length new ≡ createdUsed count = length-new count application major minor mediaType creationTime lastWrittenTime (k .sized) in
-    let fits : 0 + length new ≤ length buffer = omega (arith, k .room) in
-    let lo : length (overwrite buffer 0 new) ≡ length buffer = length-overwrite buffer 0 new in
-    let h : Holds (take (createdUsed count) (overwrite buffer 0 new)) 0 new =
-    holds-take (overwrite buffer 0 new) (createdUsed count) 0 new (holds-overwrite buffer 0 new fits) (omega arith) in
+    let h = held buffer count application major minor mediaType creationTime lastWrittenTime k in
+    let lo = length-overwrite buffer 0 (createdBytes count application major minor mediaType creationTime lastWrittenTime) in
     rw (r .buffer, ← (r .answer))
     (record {
       long = omega (arith, k .long);
-      inside = omega (arith, k .room);
+      inside = omega (arith, room buffer count application major minor mediaType creationTime lastWrittenTime k);
       offset = created-offset count application major minor mediaType creationTime lastWrittenTime (k .sized) _ h (k .few);
       sound = created-sound count application major minor mediaType creationTime lastWrittenTime (k .sized) _ h (k .few);
-      bytes = bytes-overwrite buffer 0 new fits b (bytes-created count application ba major minor mediaType creationTime lastWrittenTime);
+      bytes = bytes-overwrite buffer 0 _ (fits buffer count application major minor mediaType creationTime lastWrittenTime k) b (bytes-created count application ba major minor mediaType creationTime lastWrittenTime);
     })
+
+pub demand-2-creating : Demand2Creating
+unfolding create
+demand-2-creating buffer count application major minor mediaType creationTime lastWrittenTime p e =
+    let r = outcome-accepted _ _ _ _ p e in
+    let k = create-ok buffer count application .0 (r .passes) in
+    rw (r .buffer, ← (r .answer))
+    (fresh count application major minor mediaType creationTime lastWrittenTime (k .sized) _ (held buffer count application major minor mediaType creationTime lastWrittenTime k) (k .few))

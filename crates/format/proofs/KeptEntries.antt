@@ -7,18 +7,18 @@ use Prim.Native.Nat.{ℕ}
 use Rattle.fields.specs.Bytes.{toLe, equal}
 use Rattle.format.specs.declared.Entry.{Entry}
 use Rattle.format.specs.Lists.{All, done, more}
-use Rattle.format.specs.Layouts.{DBLK, DDT*, DDT2, CKSM, tag}
+use Rattle.format.specs.Layouts.{DBLK, DDT*, DDT2, CKSM}
 use Rattle.format.specs.Opening.{isType, isUserData, offsetsWith, offsetsOf}
 use Rattle.format.specs.Committing.{keptEntry, keptEntries}
-use Rattle.format.proofs.Tests.{choose-cases}
-use Rattle.format.proofs.Bytes.{tag-bytes}
+use Rattle.format.specs.Facts.{Reindexed, end, stale, replaced, kept}
+use Rattle.format.proofs.Tests.{never, choose-cases}
 use Rattle.format.proofs.Named.{apart, type-on, type-off, user-data-on, user-data-true, user-data-false, offsets-yes, offsets-no, offsets-cons}
 
 cksm-ddt : CKSM ≢ DDT*
 unfolding equal
 cksm-ddt = apart refl
 
-pub cksm-dblk : CKSM ≢ DBLK
+cksm-dblk : CKSM ≢ DBLK
 unfolding equal
 cksm-dblk = apart refl
 
@@ -30,23 +30,46 @@ pub dblk-ddt2 : DBLK ≢ DDT2
 unfolding equal
 dblk-ddt2 = apart refl
 
--- an entry of another type has another number
-pub not-cksm : (e : Entry) → toLe 4 (e .blockType) ≢ CKSM → e .blockType ≢ tag CKSM
-not-cksm e h q = h (ap (toLe 4) q ∙ tag-bytes CKSM tt)
-
 -- an entry with another offset is of the same kind
 abbrev pub moved : ℕ → Entry → Entry
 moved table e = record { blockType = e .blockType; dataType = e .dataType; offset = record { 0 = table } }
 
 -- a property of every old entry that is kept, and of the table's new one
 pub kept-all : (P : Entry → Type 0) (table : ℕ) (es : List Entry) → ((e : Entry) → P e → isUserData DDT* e ≡ true → P (moved table e)) → All P es
-    → All (λ (e : Entry). P e × (e .blockType ≢ tag CKSM)) (keptEntries table es)
+    → All P (keptEntries table es)
 unfolding keptEntries keptEntry
 kept-all P table _ f done = done
 kept-all P table _ f (more {a = e} {l = es} k ks) =
     let ih = kept-all P table es f ks in
-    choose-cases (All (λ (q : Entry). P q × (q .blockType ≢ tag CKSM))) (isType CKSM e) _ _ (λ c. ih)
-    (λ c. more (choose-cases (λ (q : Entry). P q × (q .blockType ≢ tag CKSM)) (isUserData DDT* e) _ _ (λ d. (f e k d, not-cksm e (type-off CKSM e c))) (λ d. (k, not-cksm e (type-off CKSM e c)))) ih)
+    choose-cases (All P) (isType CKSM e) _ _ (λ c. ih) (λ c. more (choose-cases P (isUserData DDT* e) _ _ (f e k) (λ d. k)) ih)
+
+-- which entries they are
+pub reindexed-forth : (table : ℕ) (es : List Entry) → Reindexed table es (keptEntries table es)
+unfolding keptEntries keptEntry
+reindexed-forth table [] = end
+reindexed-forth table (e ∷ es) =
+    let ih = reindexed-forth table es in
+    choose-cases (Reindexed table (e ∷ es)) (isType CKSM e) _ _ (λ c. stale (type-on CKSM e c) ih)
+    (λ c. choose-cases (λ (q : Entry). Reindexed table (e ∷ es) (q ∷ keptEntries table es)) (isUserData DDT* e) _ _
+    (λ d. replaced (user-data-on DDT* e d) ih)
+    (λ d. kept (type-off CKSM e c) (λ u. never (user-data-true DDT* e u) d) ih))
+
+pub reindexed-back : (table : ℕ) (es fs : List Entry) → Reindexed table es fs → keptEntries table es ≡ fs
+unfolding keptEntries keptEntry
+reindexed-back table _ _ end = refl
+reindexed-back table _ fs (stale {e = e} {es = es} h r) =
+    let ih = reindexed-back table es fs r in
+    choose-cases (λ (l : List Entry). l ≡ fs) (isType CKSM e) _ _ (λ c. ih) (λ c. absurd (type-off CKSM e c h))
+reindexed-back table _ _ (replaced {e = e} {es = es} {fs = fs} u r) =
+    let ih = reindexed-back table es fs r in
+    choose-cases (λ (l : List Entry). l ≡ moved table e ∷ fs) (isType CKSM e) _ _ (λ c. absurd (cksm-ddt (sym (type-on CKSM e c) ∙ u .type)))
+    (λ c. choose-cases (λ (q : Entry). q ∷ keptEntries table es ≡ moved table e ∷ fs) (isUserData DDT* e) _ _
+    (λ d. ap (λ (l : List Entry). moved table e ∷ l) ih) (λ d. absurd (never (user-data-true DDT* e u) d)))
+reindexed-back table _ _ (kept {e = e} {es = es} {fs = fs} h n r) =
+    let ih = reindexed-back table es fs r in
+    choose-cases (λ (l : List Entry). l ≡ e ∷ fs) (isType CKSM e) _ _ (λ c. absurd (h (type-on CKSM e c)))
+    (λ c. choose-cases (λ (q : Entry). q ∷ keptEntries table es ≡ e ∷ fs) (isUserData DDT* e) _ _
+    (λ d. absurd (n (user-data-on DDT* e d))) (λ d. ap (λ (l : List Entry). e ∷ l) ih))
 
 -- the data blocks stay
 pub kept-blocks : (table : ℕ) (es : List Entry) → offsetsOf DBLK (keptEntries table es) ≡ offsetsOf DBLK es

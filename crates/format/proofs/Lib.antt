@@ -20,5 +20,8 @@ pub mod Refusing
 pub mod Committed
 pub mod Created
 pub mod Reading
+pub mod Ends
+pub mod Accepting
+pub mod Leaving
 pub mod History
 mod Examples

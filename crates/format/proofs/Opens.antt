@@ -1,12 +1,14 @@
 -- Opening accepts exactly if the image opens, by facts alone: what the tests find is what the facts say.
 use mathlib.Core.List.{List, [], _∷_}
-use mathlib.Core.Path.{_≡_, refl, ap, _∙_}
+use mathlib.Core.Logic.{_↔_}
+use mathlib.Core.Path.{_≡_, refl, ap, _∙_, subst}
 use Prim.Native.Nat.{ℕ}
 use Rattle.format.specs.declared.TableKind.{TableKind}
+use Rattle.format.specs.declared.Verdict.the-variants.{Passes}
 use Rattle.format.specs.Layouts.{entries}
-use Rattle.format.specs.Opening.{offsetsWith, isTable, tableAt, kindAt, openedAs, openedAt, opened}
-use Rattle.format.specs.Facts.{Opens}
-use Rattle.format.proofs.Checks.{kind-iff, tableAt-only, OpenOk}
+use Rattle.format.specs.Opening.{offsetsWith, isTable, tableAt, kindAt, openVerdict, Opened, openedAs, openedAt, opened}
+use Rattle.format.specs.Facts.{Opens, OpensWith}
+use Rattle.format.proofs.Checks.{kind-iff, tableAt-only, OpenOk, open-ok}
 use Rattle.format.proofs.Named.{table-named}
 
 module _ (img : List ℕ) (o : ℕ) where
@@ -47,3 +49,11 @@ module _ (img : List ℕ) (o : ℕ) where
     pub opened-as : opened img o ≡ openedAs img k t
     unfolding opened
     opened-as = ap (openedAt img) table-at ∙ ap (λ (j : TableKind). openedAs img j t) kind-at
+
+  -- with a table of this kind
+  pub opens-with : (k : TableKind) → ((openVerdict img o ≡ Passes) × (opened img o .kind ≡ k)) ↔ OpensWith img o k
+  unfolding opened openedAs
+  opens-with k = (
+    (λ (h, e). record { table = tableAt img o; opens = subst (λ (j : TableKind). Opens img o j (tableAt img o)) e (opens-forth (open-ok img o .0 h)) }),
+    λ n. (open-ok img o .1 (opens-back k (n .table) (n .opens)), ap (λ (t : Opened). t .kind) (opened-as k (n .table) (n .opens))),
+  )

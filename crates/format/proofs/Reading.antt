@@ -1,9 +1,9 @@
--- Demand 2 for reading: a read answers bytes exactly if the address names an intact item, and those bytes are the item's.
+-- An address is located, and its sector given, exactly if it names an intact item, and then it is that item. Demand 2 for reading.
 use mathlib.Core.Bool.{false}
 use mathlib.Core.List.{List, []}
 use mathlib.Core.Path.{_≡_, refl, sym, ap, _∙_, subst}
-use mathlib.Core.Logic.{_≢_}
-use Prim.Native.Nat.{ℕ, _+_, _*_, _/_, _%_, _^_}
+use mathlib.Core.Logic.{_≢_, _↔_}
+use Prim.Native.Nat.{ℕ, _+_, _*_, _/_, _%_, _^_, _≤_}
 use native.Mathlib.Nat.{mod-lt}
 use native.Mathlib.Omega.{arith}
 use lib.ListN.{length}
@@ -17,16 +17,16 @@ use Rattle.format.specs.declared.TableKind.the-variants.{First, Second}
 use Rattle.format.specs.declared.Verdict.{Verdict}
 use Rattle.format.specs.declared.Verdict.the-variants.{Passes, Refuses}
 use Rattle.format.specs.Refusals.{Answer, refused, accepted, answer}
-use Rattle.format.specs.Layouts.{DBLK, indexOffset, entries, blockHeaderLength, sectorSize, entryStatus, entryPointer, decode, tableShift, tableAlignment}
+use Rattle.format.specs.Layouts.{DBLK, indexOffset, entries, entryStatus, entryPointer, decode, tableShift, tableAlignment}
 use Rattle.format.specs.Opening.{tableAt, kindAt, Opened, openedAs, opened}
 use Rattle.format.specs.Reading.{displaced, entryNumber, tableEntry, unwritten, notWritten, unknown, unknownStatus, pointerAt, placeOf, itemBytes, readVerdict, pointerOf, readAt, read, locate}
 use Rattle.format.specs.Answers.{bytesRead}
 use Rattle.format.specs.Committing.{itemOf}
-use Rattle.format.specs.Facts.{PointsWith, written, dumped}
-use Rattle.format.specs.Demands.{NamesItem, Demand2Reading, Demand2Returned, partAt, ReadIsLocated, LocatedInside}
+use Rattle.format.specs.Facts.{PointsWith, written, dumped, EntryNames}
+use Rattle.format.specs.Demands.{NamesItem, ItemIs, Demand2Reading, Demand2Returned, partAt, ReadIsLocated, LocateRefusesAsRead, LocatedInside}
 use Rattle.format.proofs.Tests.{same-iff, differs-iff}
-use Rattle.format.proofs.Refusals.{answer-passes, answer-accepted}
-use Rattle.format.proofs.Checks.{item-inside, read-ok, SectorOk, read-inside, entry-bytes}
+use Rattle.format.proofs.Refusals.{answer-passes, answer-refuses, answer-accepted, answer-refused}
+use Rattle.format.proofs.Checks.{item-inside, read-ok, SectorOk}
 use Rattle.format.proofs.Named.{named}
 use Rattle.format.proofs.Opens.{opens-forth, opens-back, opened-as}
 use Rattle.format.proofs.Numbers.{Numbered, inside-number, number-inside, number-is}
@@ -52,14 +52,53 @@ points-back Second _ _ (dumped {pointer = p} h) =
     let s : (1 * 2 ^ 28 + p) / 2 ^ 28 ≡ 1 = high 1 28 h in
     record { here = same-iff .1 (λ e. absurd (omega arith)); known = differs-iff .1 s; is = low 1 28 h }
 
-module _ (img : List ℕ) (a : ℤ) (sector : List ℕ) where
+-- ---- a table entry names an item exactly if its sector's checks pass
+module _ (img : List ℕ) (o : ℕ) (k : TableKind) (t n : ℕ) where
+  pub entry-forth : SectorOk img (entries img o) (openedAs img k t) n → EntryNames img o k t n
+  unfolding openedAs notWritten unknownStatus tableEntry pointerAt decode
+  entry-forth q =
+      record {
+        entry = tableEntry img (openedAs img k t) n;
+        entryThere = refl;
+        pointer = entryPointer k (tableEntry img (openedAs img k t) n);
+        written = points-forth _ _ (q .written) (q .known);
+        block = pointerAt img (openedAs img k t) n .block .0;
+        blockPlace = refl;
+        item = pointerAt img (openedAs img k t) n .item .0;
+        itemNumber = refl;
+        indexed = named DBLK _ (entries img o) .0 (q .named);
+        itemOk = q .item;
+      }
+
+  module _ (e : EntryNames img o k t n) where
+    points : Points k (e .entry) (e .pointer)
+    points = points-back k (e .entry) (e .pointer) (e .written)
+
+    pub pointer-is : pointerAt img (openedAs img k t) n ≡ itemOf (e .block) (e .item)
+    unfolding pointerAt tableEntry openedAs decode
+    pointer-is =
+        ap (λ m. decode (tableShift img k t) (tableAlignment img k t) (entryPointer k m)) (e .entryThere)
+        ∙ ap (decode (tableShift img k t) (tableAlignment img k t)) (points .is)
+        ∙ (λ i. itemOf (e .blockPlace i) (e .itemNumber i))
+
+    pub entry-back : SectorOk img (entries img o) (openedAs img k t) n
+    unfolding notWritten unknownStatus tableEntry openedAs
+    entry-back =
+        record {
+          written = ap (unwritten k) (e .entryThere) ∙ points .here;
+          known = ap (unknown k) (e .entryThere) ∙ points .known;
+          named = rw pointer-is (named DBLK (e .block) (entries img o) .1 (e .indexed));
+          item = rw pointer-is (e .itemOk);
+        }
+
+module _ (img : List ℕ) (a : ℤ) (p : Place) where
   abbrev o : ℕ
   o = indexOffset img
 
-  forth : read img a ≡ accepted sector → NamesItem img a sector
-  unfolding read readAt opened openedAs displaced notWritten unknownStatus tableEntry pointerAt pointerOf decode itemBytes placeOf
+  forth : locate img a ≡ accepted p → NamesItem img a p
+  unfolding locate opened openedAs displaced pointerOf placeOf entry-forth
   forth e =
-      let r = answer-accepted _ _ sector e in
+      let r = answer-accepted _ _ p e in
       let v = read-ok img o a .0 (r .0) in
       let q = v .sector in
       let m = inside-number (opened img o) a (v .inside) in
@@ -67,74 +106,72 @@ module _ (img : List ℕ) (a : ℤ) (sector : List ℕ) where
         kind = kindAt img (tableAt img o);
         table = tableAt img o;
         opens = opens-forth img o (v .opens);
-        number = entryNumber (opened img o) a;
-        numbered = m .is;
-        inside = m .inside;
-        entry = tableEntry img (opened img o) (entryNumber (opened img o) a);
-        entryThere = refl;
-        pointer = entryPointer (kindAt img (tableAt img o)) (tableEntry img (opened img o) (entryNumber (opened img o) a));
-        written = points-forth _ _ (q .written) (q .known);
-        block = pointerAt img (opened img o) (entryNumber (opened img o) a) .block .0;
-        blockPlace = refl;
-        item = pointerAt img (opened img o) (entryNumber (opened img o) a) .item .0;
-        itemNumber = refl;
-        indexed = named DBLK _ (entries img o) .0 (q .named);
-        itemOk = q .item;
-        bytes = r .1;
+        hasEntry = record { number = entryNumber (opened img o) a; numbered = m .is; inside = m .inside };
+        names = entry-forth img o _ _ (entryNumber (opened img o) a) q;
+        start = ap (λ (l : Place). l .start .0) (sym (r .1));
+        size = ap (λ (l : Place). l .size) (sym (r .1));
       }
 
-  module _ (n : NamesItem img a sector) where
+  module _ (n : NamesItem img a p) where
     abbrev t : Opened
     t = openedAs img (n .kind) (n .table)
 
     opened-is : opened img o ≡ t
     opened-is = opened-as img o (n .kind) (n .table) (n .opens)
 
-    points : Points (n .kind) (n .entry) (n .pointer)
-    points = points-back (n .kind) (n .entry) (n .pointer) (n .written)
-
-    numbered : Numbered t a (n .number)
+    numbered : Numbered t a (n .hasEntry .number)
     unfolding displaced openedAs
-    numbered = record { is = n .numbered; inside = n .inside }
+    numbered = record { is = n .hasEntry .numbered; inside = n .hasEntry .inside }
 
-    number : entryNumber t a ≡ n .number
-    number = number-is t a (n .number) numbered
+    number : entryNumber t a ≡ n .hasEntry .number
+    number = number-is t a (n .hasEntry .number) numbered
 
-    pointer-is : pointerAt img t (n .number) ≡ itemOf (n .block) (n .item)
-    unfolding pointerAt tableEntry openedAs decode
-    pointer-is =
-        ap (λ e. decode (tableShift img (n .kind) (n .table)) (tableAlignment img (n .kind) (n .table)) (entryPointer (n .kind) e)) (n .entryThere)
-        ∙ ap (decode (tableShift img (n .kind) (n .table)) (tableAlignment img (n .kind) (n .table))) (points .is)
-        ∙ (λ i. itemOf (n .blockPlace i) (n .itemNumber i))
+    passes : readVerdict img o a ≡ Passes
+    passes =
+        read-ok img o a .1
+        (record {
+          opens = opens-back img o (n .kind) (n .table) (n .opens);
+          inside = rw opened-is (number-inside t a (n .hasEntry .number) numbered);
+          sector = rw (opened-is, number) (entry-back img o (n .kind) (n .table) (n .hasEntry .number) (n .names));
+        })
 
-    sector-is : SectorOk img (entries img o) t (n .number)
-    unfolding notWritten unknownStatus tableEntry openedAs
-    sector-is =
-        record {
-          written = ap (unwritten (n .kind)) (n .entryThere) ∙ points .here;
-          known = ap (unknown (n .kind)) (n .entryThere) ∙ points .known;
-          named = rw pointer-is (named DBLK (n .block) (entries img o) .1 (n .indexed));
-          item = rw pointer-is (n .itemOk);
-        }
-
-    back : read img a ≡ accepted sector
-    unfolding read itemBytes placeOf
+    back : locate img a ≡ accepted p
+    unfolding locate pointerOf placeOf
     back =
-        read-inside img o (opens-back img o (n .kind) (n .table) (n .opens)) a (rw opened-is (number-inside t a (n .number) numbered)) ∙ entry-bytes img o _ (rw (opened-is, number) sector-is)
-        ∙ ap accepted (ap (λ (u : Opened). itemBytes img (pointerAt img u (entryNumber u a))) opened-is ∙ ap (λ m. itemBytes img (pointerAt img t m)) number ∙ ap (itemBytes img) pointer-is ∙ n .bytes)
+        answer-passes _ _ passes
+        ∙ ap accepted
+        (ap (λ (u : Opened). placeOf img (pointerAt img u (entryNumber u a))) opened-is ∙ ap (λ m. placeOf img (pointerAt img t m)) number
+        ∙ ap (placeOf img) (pointer-is img o (n .kind) (n .table) (n .hasEntry .number) (n .names))
+        ∙ (λ i. record { start = record { 0 = sym (n .start) i }; size = sym (n .size) i }))
+
+pub locating : (img : List ℕ) (a : ℤ) (p : Place) → (locate img a ≡ accepted p) ↔ NamesItem img a p
+locating img a p = (forth img a p, back img a p)
+
+-- ---- a read gives the bytes at that place
+module _ (img : List ℕ) (a : ℤ) (sector : List ℕ) where
+  reads-forth : read img a ≡ accepted sector → ItemIs img a sector
+  unfolding read readAt locate itemBytes
+  reads-forth e =
+      let r = answer-accepted _ _ sector e in
+      record { place = _; names = locating img a _ .0 (answer-passes _ _ (r .0)); bytes = r .1 }
+
+  reads-back : ItemIs img a sector → read img a ≡ accepted sector
+  unfolding read readAt locate itemBytes
+  reads-back n =
+      let r = answer-accepted _ _ (n .place) (locating img a (n .place) .1 (n .names)) in
+      answer-passes _ _ (r .0) ∙ ap accepted (ap (λ (l : Place). part img (l .start .0) (l .size)) (r .1) ∙ n .bytes)
 
 pub demand-2-reading : Demand2Reading
-demand-2-reading img a sector = (forth img a sector, back img a sector)
+demand-2-reading img a sector = (reads-forth img a sector, reads-back img a sector)
 
 -- ---- the same of what the call hands out
--- no sector is empty
-some : (img : List ℕ) (a : ℤ) (sector : List ℕ) → NamesItem img a sector → sector ≢ []
-some img a sector n e =
-    let k = n .itemOk in
-    let b : ℕ = n .block in
-    let i : ℕ = n .item in
-    let l = length-part img (b + blockHeaderLength + i * sectorSize img b) (sectorSize img b) (omega (arith, item-inside img b i k, k .block .fits)) in
-    k .block .size (sym l ∙ ap length (n .bytes ∙ e))
+-- the place of an item lies in the image, and no item is empty
+module _ (img : List ℕ) (a : ℤ) (p : Place) (n : NamesItem img a p) where
+  item-fits : p .start .0 + p .size ≤ length img
+  item-fits = let k = n .names .itemOk in rw (n .start, n .size) (omega (arith, item-inside _ _ _ k, k .block .fits))
+
+  item-some : part img (p .start .0) (p .size) ≢ []
+  item-some e = n .names .itemOk .block .size (sym (n .size) ∙ sym (length-part img (p .start .0) (p .size) item-fits) ∙ ap length e)
 
 given : (img : List ℕ) (a : ℤ) (sector : List ℕ) (r : Answer (List ℕ)) → read img a ≡ r → bytesRead r ≡ sector → sector ≢ [] → read img a ≡ accepted sector
 unfolding bytesRead
@@ -145,7 +182,7 @@ pub demand-2-returned : Demand2Returned
 unfolding bytesRead
 demand-2-returned img a sector = (
   (λ (e, s). demand-2-reading img a sector .0 (given img a sector (read img a) refl e s)),
-  λ n. (ap bytesRead (demand-2-reading img a sector .1 n), some img a sector n),
+  λ n. (ap bytesRead (demand-2-reading img a sector .1 n), λ e. item-some img a (n .place) (n .names) (n .bytes ∙ e)),
 )
 
 -- ---- it is the part that `locate` names
@@ -155,18 +192,20 @@ same-part img p Passes = refl
 same-part img p (Refuses r) = refl
 
 pub read-is-located : ReadIsLocated
-unfolding read readAt locate itemBytes bytesRead
+unfolding read readAt locate itemBytes partAt
 read-is-located img a = (
   same-part img _ (readVerdict img (indexOffset img) a),
-  λ p e.
-      let bytes = answer-passes _ (itemBytes img (pointerOf img (opened img (indexOffset img)) a)) (answer-accepted _ _ p e .0) in
-      rw bytes (some img a _ (demand-2-reading img a _ .0 bytes)),
+  λ p e z. item-some img a p (locating img a p .0 e) (sym (ap (partAt img) e) ∙ sym (same-part img _ (readVerdict img (indexOffset img) a)) ∙ z),
+)
+
+-- ---- it is refused as the other is
+pub locate-refuses-as-read : LocateRefusesAsRead
+unfolding read readAt locate
+locate-refuses-as-read img a r = (
+  (λ e. answer-refuses _ _ r (answer-refused _ _ r e)),
+  λ e. answer-refuses _ _ r (answer-refused _ _ r e),
 )
 
 -- ---- which lies in the image
 pub located-inside : LocatedInside
-unfolding locate placeOf pointerOf
-located-inside img a p e =
-    let q = answer-accepted _ _ p e in
-    let k = read-ok img (indexOffset img) a .0 (q .0) .sector .item in
-    rw (← q .1) (omega (arith, item-inside _ _ _ k, k .block .fits))
+located-inside img a p e = item-fits img a p (locating img a p .0 e)

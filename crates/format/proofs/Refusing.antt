@@ -3,8 +3,8 @@
 use Prim.{Unit, tt}
 use mathlib.Core.Bool.{Bool, true, true≢false}
 use mathlib.Core.List.{List, [], _∷_}
-use mathlib.Core.Logic.{_≢_, _⊎_, inl, inr, ⊎-elim, _↔_, Iff·rfl, Iff·trans}
-use mathlib.Core.Path.{_≡_, refl, sym, ap, subst}
+use mathlib.Core.Logic.{_≢_, _⊎_, inl, inr, ⊎-elim, _↔_, Iff·rfl, Iff·trans, Iff·and}
+use mathlib.Core.Path.{_≡_, refl, sym, subst}
 use Prim.Native.Nat.{ℕ, zero, suc, _+_, _*_, _≤_, _<_}
 use native.Mathlib.Nat.{eq-or-lt-of-le}
 use native.Mathlib.Omega.{arith}
@@ -16,19 +16,19 @@ use Rattle.format.specs.declared.Verdict.{Verdict}
 use Rattle.format.specs.declared.Verdict.the-variants.{Passes, Refuses}
 use Rattle.format.specs.Refusals.{refusal, row, _then_}
 use Rattle.format.specs.Layouts.{indexOffset, indexHeaderLength, entryCount, entryLength, entries}
-use Rattle.format.specs.Opening.{headerVerdict, indexVerdict, entryVerdict, entriesVerdict, oneOf, oneVerdict, tableAt, extentVerdict, payloadVerdict, tableVerdict, openVerdict, Opened, openedAs, opened, sectorCount}
+use Rattle.format.specs.Opening.{headerVerdict, indexVerdict, entryVerdict, entriesVerdict, oneOf, oneVerdict, tableAt, extentVerdict, payloadVerdict, tableVerdict, openVerdict, opened, sectorCount}
 use Rattle.format.specs.Reading.{entryNumber, unknownStatus, pointerVerdict, sectorVerdict, addressVerdict, readVerdict, locate}
 use Rattle.format.specs.Writing.{bufferVerdict, isSecond, writableVerdict}
 use Rattle.format.specs.Creating.{createVerdict, create}
 use Rattle.format.specs.Committing.{Appended, argumentsVerdict, anyOutside, otherThan21, sectorsVerdict, discVerdict, commitVerdict, append, commit}
 use Rattle.format.specs.RollingBack.{rollbackVerdict, rollback}
-use Rattle.format.specs.Demands.{FromTo, openingNumber, readingNumber, creatingNumber, committingNumber, rollingBackNumber, PlaceFor, atHeader, atIndex, atEntry, atTable, atTableEntry, atBlock, atNone, NoSector, Demand1Refusals, OpensSecond, SecondRefused}
-use Rattle.format.specs.Facts.{Opens}
+use Rattle.format.specs.Demands.{FromTo, openingNumber, readingNumber, creatingNumber, committingNumber, rollingBackNumber, PlaceFor, atHeader, atIndex, atEntry, atTable, atTableEntry, atBlock, atNone, NoSector, Demand1Refusals, SecondRefused}
+use Rattle.format.specs.Facts.{OpensWith}
 use Rattle.format.proofs.Tests.{same-iff, choose-cases}
 use Rattle.format.proofs.Refusals.{Says, row-says, off-says, then-says, after-says, first-says, says-refused, says-also, Gives, says-not, row-gives, then-gives, gives-then, answer-refused}
-use Rattle.format.proofs.Checks.{first-second, item-says, open-ok, writable-ok, first-known}
+use Rattle.format.proofs.Checks.{first-second, item-says, buffer-ok, arguments-ok, writable-ok, first-known}
 use Rattle.format.proofs.Buffers.{outcome-refused, outcome-refuses}
-use Rattle.format.proofs.Opens.{opens-forth, opens-back, opened-as}
+use Rattle.format.proofs.Opens.{opens-with}
 
 -- a number of these, at its place
 abbrev Listed : List ℕ → ℕ → (ℕ → Type 0) → (ℕ → Type 0) → ℕ → ℕ → Type 0
@@ -207,9 +207,6 @@ Not-74 n p = n ≢ 74
 apart-from : {P : ℕ → ℕ → Type 0} (v : Verdict) (N : ℕ → Type 0) → ((n p : ℕ) → P n p → N n) → ¬ N 74 → Says P v → ¬ Gives 74 v
 apart-from v N f m s = says-not 74 v (says-also v (λ n p k e. m (subst N e (f n p k))) s)
 
-×-iff : {A B C D : Type 0} → A ↔ B → C ↔ D → (A × C) ↔ (B × D)
-×-iff f g = ((λ p. (f .0 (p .0), g .0 (p .1))), λ p. (f .1 (p .0), g .1 (p .1)))
-
 second-iff : (k : TableKind) → (isSecond k ≡ true) ↔ (k ≡ Second)
 unfolding isSecond
 second-iff First = (λ h. absurd (true≢false (sym h)), λ h. absurd (first-second h))
@@ -219,24 +216,11 @@ module _ (img : List ℕ) (o : ℕ) where
   open-not-74 : ¬ Gives 74 (openVerdict img o)
   open-not-74 = apart-from _ openingNumber (λ n p k. k .0) (⊎-elim (λ f. omega arith) (λ f. omega arith)) (open-says img o NoSector)
 
-  second-forth : (openVerdict img o ≡ Passes) × (isSecond (opened img o .kind) ≡ true) → OpensSecond img o
-  unfolding opened openedAs
-  second-forth (h, e) =
-      record { table = tableAt img o; opens = subst (λ (k : TableKind). Opens img o k (tableAt img o)) (second-iff _ .0 e) (opens-forth img o (open-ok img o .0 h)) }
-
-  second-back : OpensSecond img o → (openVerdict img o ≡ Passes) × (isSecond (opened img o .kind) ≡ true)
-  unfolding openedAs
-  second-back s = (
-    open-ok img o .1 (opens-back img o Second (s .table) (s .opens)),
-    second-iff _ .1 (ap (λ (t : Opened). t .kind) (opened-as img o Second (s .table) (s .opens))),
-  )
-
-  writable-74 : (writableVerdict img o ≡ Refuses (refusal 74 0)) ↔ OpensSecond img o
+  writable-74 : (writableVerdict img o ≡ Refuses (refusal 74 0)) ↔ OpensWith img o Second
   unfolding writableVerdict
   writable-74 =
-      let g = then-gives (openVerdict img o) _ (refusal 74 0) open-not-74 in
-      let w = row-gives (isSecond (opened img o .kind)) (refusal 74 0) in
-      ((λ h. let k = g .0 h in second-forth (k .0, w .0 (k .1))), λ s. let k = second-back s in g .1 (k .0, w .1 (k .1)))
+      let w = Iff·trans (row-gives (isSecond (opened img o .kind)) (refusal 74 0)) (second-iff _) in
+      Iff·trans (then-gives (openVerdict img o) _ (refusal 74 0) open-not-74) (Iff·trans (Iff·and Iff·rfl w) (opens-with img o Second))
 
   -- 20, and the sectors' numbers
   rest-not-74 : (addresses : List ℤ) → ¬ Gives 74 (row (anyOutside (opened img o) addresses) (refusal 20 0) then sectorsVerdict img (entries img o) (opened img o))
@@ -249,7 +233,7 @@ module _ (img : List ℕ) (o : ℕ) where
       (says-also _ (λ n p s d. s .0)
       (sector-says img o (λ n. Unit {0}) (λ n. n ≢ 74) (λ n f e. omega arith) i tt (row-says _ _ (refusal 73 0) ((λ e. omega arith), atNone (inr (inr (omega arith))))))))))
 
-  disc-74 : (addresses : List ℤ) → (discVerdict img o addresses ≡ Refuses (refusal 74 0)) ↔ OpensSecond img o
+  disc-74 : (addresses : List ℤ) → (discVerdict img o addresses ≡ Refuses (refusal 74 0)) ↔ OpensWith img o Second
   unfolding discVerdict
   disc-74 addresses = Iff·trans (gives-then _ _ (refusal 74 0) (rest-not-74 addresses)) writable-74
 
@@ -260,8 +244,8 @@ second-refused = record {
       let u : ¬ Gives 74 (argumentsVerdict buffer used addresses size sectors) = apart-from _ (FromTo 30 35) (λ n p k. k .0) (λ f. omega arith) (arguments-say [] 0 NoSector _ (λ n f. f) buffer used addresses size sectors) in
       Iff·trans (outcome-refuses _ _ _ _ (refusal 74 0))
       (Iff·trans (then-gives _ _ (refusal 74 0) u)
-      (×-iff Iff·rfl (Iff·trans (gives-then _ _ (refusal 74 0) (says-not 74 _ (row-says _ _ (refusal 35 0) (λ e. omega arith)))) (disc-74 _ _ addresses))));
+      (Iff·and (arguments-ok buffer used addresses size sectors) (Iff·trans (gives-then _ _ (refusal 74 0) (says-not 74 _ (row-says _ _ (refusal 35 0) (λ e. omega arith)))) (disc-74 _ _ addresses))));
   rollingBack = λ buffer used offset time.
       let u : ¬ Gives 74 (bufferVerdict buffer used) = apart-from _ (FromTo 30 35) (λ n p k. k .0) (λ f. omega arith) (buffer-says [] 0 NoSector _ (omega arith) (omega arith) buffer used) in
-      Iff·trans (outcome-refuses _ _ _ _ (refusal 74 0)) (Iff·trans (then-gives _ _ (refusal 74 0) u) (×-iff Iff·rfl (writable-74 _ offset)));
+      Iff·trans (outcome-refuses _ _ _ _ (refusal 74 0)) (Iff·trans (then-gives _ _ (refusal 74 0) u) (Iff·and (buffer-ok buffer used) (writable-74 _ offset)));
 }

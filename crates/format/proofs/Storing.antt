@@ -1,10 +1,11 @@
 -- Where the sectors of a commit end up: each handed-in sector gets a pointer to an equal one, on the old disc or among the stored ones.
 use mathlib.Core.Bool.{Bool, true, false}
 use mathlib.Core.List.{List, [], _∷_, _++_, map, flatten, append-assoc, append-nil, Forall₂, Forall₂·nil, Forall₂·cons}
+use mathlib.Core.Logic.{⊎-elim}
 use mathlib.Core.Option.{Option, none, some, orElse}
 use mathlib.Core.Path.{_≡_, refl, sym, ap, _∙_, subst}
 use Prim.Native.Nat.{ℕ, zero, suc, _+_, _*_, _^_, _≤_, _<_}
-use native.Mathlib.Nat.{add-zero, zero-mul, suc-mul, lt-of-not-le, le-trans, not-suc-le-zero, le-of-suc-le-suc, le-max-left, le-max-right}
+use native.Mathlib.Nat.{eq-or-lt-of-le, add-zero, zero-mul, suc-mul, lt-of-not-le, le-trans, not-suc-le-zero, le-of-suc-le-suc, le-max-left, le-max-right}
 use native.Mathlib.Omega.{arith}
 use lib.ListN.{length, take, drop, getD, length-append, length-take, length-drop, length-map, List·getD-append}
 use lib.Pow.{pow-mono}
@@ -51,6 +52,15 @@ firstWith-found f (suc k) i a e =
     let ih = firstWith-found f k (suc i) a in
     choose-cases (λ (r : Option ℕ). r ≡ some a → (f a ≡ true) × (i ≤ a) × (a < i + suc k)) (f i) _ _
     (λ t q. let ia : i ≡ a = cc in (rw ia at t, omega arith, omega arith)) (λ t q. let r = ih q in (r .0, omega (arith, r .1), omega (arith, r .2))) e
+
+-- and where it finds nothing, nothing does
+pub firstWith-none : (f : ℕ → Bool) (k i j : ℕ) → firstWith f k i ≡ none → i ≤ j → j < i + k → f j ≡ false
+unfolding firstWith
+firstWith-none f zero i j e h l = absurd (omega arith)
+firstWith-none f (suc k) i j e h l =
+    let ih = firstWith-none f k (suc i) j in
+    choose-cases (λ (r : Option ℕ). r ≡ none → f j ≡ false) (f i) _ _ (λ y q. let z : _≡_ {A = ℕ} 0 1 = cc in absurd (omega arith))
+    (λ n q. ⊎-elim (λ s. subst (λ m. f m ≡ false) s n) (λ s. ih q s (omega arith)) (eq-or-lt-of-le h)) e
 
 pub record OnDisc (img : List ℕ) (t : Opened) (sector : List ℕ) (a : ℕ) : Type 0 where
   pub inside : a < t .count

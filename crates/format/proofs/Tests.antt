@@ -1,14 +1,21 @@
 -- What each test says: its `-on` reads a fact off a yes, its `-true` shows a yes from a fact, its `-iff` says exactly when it is a no.
+use Prim.{tt}
 use mathlib.Core.Bool.{Bool, true, false, not, true≢false}
 use mathlib.Core.Logic.{_≢_, _⊎_, ⊎-elim, inl, inr, _↔_, Iff·trans}
 use mathlib.Core.Path.{_≡_, refl, sym, ap, _∙_}
 use Prim.Native.Nat.{ℕ, _≤_, _<_}
+use lib.Dec.{T}
 use borrow.Author.Tests.{ltb-true, ltb-false, leb-false, eqb-true, eqb-false, not-false, lt-ltb, le-ltb, le-leb, lt-leb, eq-eqb, ne-eqb}
 use Rattle.format.specs.Tests.{same, differs, below, atLeast, _or_, _and_, choose}
 
 pub on-or-off : (b : Bool) → (b ≡ true) ⊎ (b ≡ false)
 on-or-off true = inl refl
 on-or-off false = inr refl
+
+-- a test says yes, as the library's order of signed numbers has it
+pub on-iff : (b : Bool) → (b ≡ true) ↔ T b
+on-iff true = (λ h. tt, λ h. refl)
+on-iff false = (λ h. absurd (true≢false (sym h)), λ h. absurd h)
 
 -- a test does not say both
 pub never : {b : Bool} → b ≡ true → b ≡ false → ⊥

@@ -1,31 +1,31 @@
 -- The demands, as the claims that proofs/ proves of these definitions.
 use mathlib.Core.Bool.{true, false}
-use mathlib.Core.List.{List, [], _∷_}
+use mathlib.Core.List.{List, [], _∷_, _++_}
 use mathlib.Core.Logic.{_≢_, _⊎_, _↔_}
 use mathlib.Core.Path.{_≡_}
-use Prim.Native.Nat.{ℕ, _+_, _*_, _/_, _%_, _^_, _≤_, _<_}
+use Prim.Native.Nat.{ℕ, _+_, _*_, _≤_, _<_}
 use lib.ListN.{length, take, getD}
 use lib.IntN.{ℤ, pos, _+ℤ_}
-use Rattle.fields.specs.Bytes.{part, field}
+use Rattle.fields.specs.Bytes.{part, toLe}
+use Rattle.format.specs.declared.AddressRange.{AddressRange}
 use Rattle.format.specs.declared.Entry.{Entry}
 use Rattle.format.specs.declared.Place.{Place}
 use Rattle.format.specs.declared.Placed.{Placed}
 use Rattle.format.specs.declared.Refusal.{Refusal}
 use Rattle.format.specs.declared.TableKind.{TableKind}
-use Rattle.format.specs.declared.TableKind.the-variants.{Second}
-use Rattle.format.specs.declared.Verdict.the-variants.{Passes}
-use Rattle.format.specs.Lists.{All, Any, IsBytes}
+use Rattle.format.specs.declared.TableKind.the-variants.{First, Second}
+use Rattle.format.specs.Lists.{All, IsBytes}
 use Rattle.format.specs.Refusals.{refusal, Answer, refused, accepted}
-use Rattle.format.specs.Layouts.{DBLK, CKSM, tag, indexOffset, indexHeaderLength, entryCount, entryLength, entryAt, entries, blockHeaderLength, sectorSize, tableHeaderLengthOf, tableShift, tableCount, entryWidth, tableAlignment, tableNegative}
+use Rattle.format.specs.Layouts.{indexOffset, indexHeaderLength, entryCount, entryLength, entryAt, entries, blockHeaderLength, sectorSize, tableCount, tableNegative}
 use Rattle.format.specs.Opening.{lacks, isType, tableAt, opened, sectorCount}
 use Rattle.format.specs.Reading.{entryNumber, tableEntryAt, pointerAt, read, locate}
 use Rattle.format.specs.Answers.{bytesRead}
-use Rattle.format.specs.Writing.{bufferVerdict, placed}
+use Rattle.format.specs.Writing.{placed}
 use Rattle.format.specs.Creating.{create}
-use Rattle.format.specs.Committing.{argumentsVerdict, commit}
+use Rattle.format.specs.Committing.{pieces, commit}
 use Rattle.format.specs.RollingBack.{rollback}
 use Rattle.format.specs.Histories.{Call, commits, rollsBack, Point, Moment, reads, ReadTheSame, started, outcomeOf, after, atEnd, Throughout, Permitted}
-use Rattle.format.specs.Facts.{UserData, Opens, PointsWith, ItemOk}
+use Rattle.format.specs.Facts.{Opens, OpensWith, HasEntry, EntryNames, CreateOk, BufferOk, ArgumentsOk, DiscOk, Stores, Reindexed, blockLengthFor, blockEntry}
 
 -- ---- Demand 1: every call refuses by 01's numbers, and says where: "number and place". (That they are given in 01's order, and exactly when their
 -- check applies, is how the calls are defined.) These are the numbers that each call gives; none is 0, so that an interface can answer 0 for "accepted".
@@ -84,18 +84,115 @@ pub record Demand1Refusals : Type 0 where
   pub rollingBack : (buffer : List ℕ) (used offset time : ℕ)
       → RefusesBy rollingBackNumber (PlaceFor (take used buffer) offset NoSector) (rollback buffer used offset time .result)
 
+-- "Each refusal .. writes nothing": every byte of the buffer is as it was
+pub record Demand1Unchanged : Type 0 where
+  pub creating : (buffer : List ℕ) (count : ℕ) (application : List ℕ) (major minor mediaType creationTime lastWrittenTime : ℕ) (r : Refusal)
+      → create buffer count application major minor mediaType creationTime lastWrittenTime .result ≡ refused r
+      → create buffer count application major minor mediaType creationTime lastWrittenTime .buffer ≡ buffer
+  pub committing : (buffer : List ℕ) (used : ℕ) (addresses : List ℤ) (size : ℕ) (sectors : List ℕ) (time : ℕ) (r : Refusal)
+      → commit buffer used addresses size sectors time .result ≡ refused r → commit buffer used addresses size sectors time .buffer ≡ buffer
+  pub rollingBack : (buffer : List ℕ) (used offset time : ℕ) (r : Refusal)
+      → rollback buffer used offset time .result ≡ refused r → rollback buffer used offset time .buffer ≡ buffer
+
+-- ---- "a call to which none applies is accepted": each call is accepted, and with which value, exactly if these facts hold. No check is mentioned
+-- in them: only places, fields, checksums, index entries and lengths (and, of a sector that a disc holds, that some address reads as it).
+-- how many sectors an image has, and its lowest address: those of the one table that its index names
+pub record HasSectors (img : List ℕ) (range : AddressRange) : Type 0 where
+  pub kind : TableKind
+  pub table : ℕ
+  pub opens : Opens img (indexOffset img) kind table
+  pub count : range .count ≡ tableCount img kind table
+  pub lowest : range .lowest .0 +ℤ pos (tableNegative img kind table) ≡ pos 0
+
+-- address a of the image names an item, which lies at this place
+pub record NamesItem (img : List ℕ) (a : ℤ) (place : Place) : Type 0 where
+  pub kind : TableKind
+  pub table : ℕ
+  pub opens : Opens img (indexOffset img) kind table
+  pub hasEntry : HasEntry img kind table a
+  pub names : EntryNames img (indexOffset img) kind table (hasEntry .number)
+  pub start : place .start .0 ≡ names .block + blockHeaderLength + names .item * sectorSize img (names .block)
+  pub size : place .size ≡ sectorSize img (names .block)
+
+-- a disc holds a sector: some address reads as it
+pub record Held (img : List ℕ) (sector : List ℕ) : Type 0 where
+  pub address : ℤ
+  pub reads : read img address ≡ accepted sector
+
+-- what a commit appends to the disc `img`, which has `used` bytes: a data block of the sectors that are stored, if there are any, a table, and an index
+-- of the old entries that are kept and, last, the block's
+pub record Additions (img : List ℕ) (used size : ℕ) (handed : List (List ℕ)) : Type 0 where
+  pub stored : List (List ℕ)
+  pub stores : Stores (Held img) [] handed stored
+  pub kept : List Entry
+  pub keeps : Reindexed (used + blockLengthFor (length stored) size) (entries img (indexOffset img)) kept
+
+abbrev pub newEntries : {img : List ℕ} {used size : ℕ} {handed : List (List ℕ)} → Additions img used size handed → List Entry
+newEntries {used = used} a = a .kept ++ blockEntry used (length (a .stored))
+
+-- committing: the facts of its arguments and of the disc, and what is appended fits
+pub record CommitOk (buffer : List ℕ) (used : ℕ) (addresses : List ℤ) (size : ℕ) (sectors : List ℕ) (p : Placed) : Type 0 where
+  pub arguments : ArgumentsOk buffer used addresses size sectors
+  pub table : ℕ
+  pub disc : DiscOk (take used buffer) (indexOffset (take used buffer)) addresses table
+  pub additions : Additions (take used buffer) used size (pieces (length addresses) size sectors)
+  pub index : p .index .0 ≡ used + blockLengthFor (length (additions .stored)) size + (49 + 8 * tableCount (take used buffer) First table)
+  pub end : p .used ≡ p .index .0 + (20 + 16 * length (newEntries additions))
+  pub room : p .used ≤ length buffer
+
+-- rolling back: the image opens with this offset in place of the header's
+pub record RollbackOk (buffer : List ℕ) (used offset : ℕ) : Type 0 where
+  pub bufferOk : BufferOk buffer used
+  pub opens : OpensWith (take used buffer) offset First
+
+pub record Demand1Accepted : Type 0 where
+  pub counting : (img : List ℕ) (range : AddressRange) → (sectorCount img ≡ accepted range) ↔ HasSectors img range
+  pub locating : (img : List ℕ) (a : ℤ) (p : Place) → (locate img a ≡ accepted p) ↔ NamesItem img a p
+  pub creating : (buffer : List ℕ) (count : ℕ) (application : List ℕ) (major minor mediaType creationTime lastWrittenTime : ℕ) (p : Placed)
+      → (create buffer count application major minor mediaType creationTime lastWrittenTime .result ≡ accepted p)
+      ↔ (CreateOk buffer count application × (p ≡ placed (189 + 8 * count) (153 + 8 * count)))
+  pub committing : (buffer : List ℕ) (used : ℕ) (addresses : List ℤ) (size : ℕ) (sectors : List ℕ) (time : ℕ) (p : Placed)
+      → (commit buffer used addresses size sectors time .result ≡ accepted p) ↔ CommitOk buffer used addresses size sectors p
+  pub rollingBack : (buffer : List ℕ) (used offset time : ℕ) (p : Placed)
+      → (rollback buffer used offset time .result ≡ accepted p) ↔ (RollbackOk buffer used offset × (p ≡ placed used offset))
+
+-- ---- what an accepted call leaves as it was: all of these bytes
+pub record Leaves (before after : List ℕ) (Untouched : ℕ → Type 0) : Type 0 where
+  pub sameLength : length after ≡ length before
+  pub bytes : (i : ℕ) → Untouched i → getD after i 0 ≡ getD before i 0
+
+-- no byte of the header's indexOffset or lastWrittenTime, by 2/13's numbers
+abbrev pub Elsewhere : ℕ → Type 0
+Elsewhere i = (i < 80) ⊎ FromTo 88 95 i ⊎ (104 ≤ i)
+
+-- which are set to these
+pub record HeaderSet (after : List ℕ) (index time : ℕ) : Type 0 where
+  pub indexOffset : part after 80 8 ≡ toLe 8 index
+  pub lastWrittenTime : part after 96 8 ≡ toLe 8 time
+
+-- "Later bytes of the buffer don't change."; "No other byte changes below the old `used` or from the new one on."; "It sets indexOffset and
+-- lastWrittenTime only"
+pub record WritesOnly : Type 0 where
+  pub creating : (buffer : List ℕ) (count : ℕ) (application : List ℕ) (major minor mediaType creationTime lastWrittenTime : ℕ) (p : Placed)
+      → create buffer count application major minor mediaType creationTime lastWrittenTime .result ≡ accepted p
+      → Leaves buffer (create buffer count application major minor mediaType creationTime lastWrittenTime .buffer) (λ i. p .used ≤ i)
+  pub committing : (buffer : List ℕ) (used : ℕ) (addresses : List ℤ) (size : ℕ) (sectors : List ℕ) (time : ℕ) (p : Placed)
+      → commit buffer used addresses size sectors time .result ≡ accepted p
+      → let after = commit buffer used addresses size sectors time .buffer in
+      Leaves buffer after (λ i. Elsewhere i × ((i < used) ⊎ (p .used ≤ i))) × HeaderSet after (p .index .0) time
+  pub rollingBack : (buffer : List ℕ) (used offset time : ℕ) (p : Placed)
+      → rollback buffer used offset time .result ≡ accepted p
+      → let after = rollback buffer used offset time .buffer in
+      Leaves buffer after Elsewhere × HeaderSet after offset time
+
 -- ---- 11/13: "Commit, rollback, .. are refused" on a table of the second kind, with 74, "(rollback: at its offset), after opening's": exactly if the image
 -- opens with such a table and no check before it applies
-pub record OpensSecond (img : List ℕ) (o : ℕ) : Type 0 where
-  pub table : ℕ
-  pub opens : Opens img o Second table
-
 pub record SecondRefused : Type 0 where
   pub committing : (buffer : List ℕ) (used : ℕ) (addresses : List ℤ) (size : ℕ) (sectors : List ℕ) (time : ℕ)
       → (commit buffer used addresses size sectors time .result ≡ refused (refusal 74 0))
-      ↔ ((argumentsVerdict buffer used addresses size sectors ≡ Passes) × OpensSecond (take used buffer) (indexOffset (take used buffer)))
+      ↔ (ArgumentsOk buffer used addresses size sectors × OpensWith (take used buffer) (indexOffset (take used buffer)) Second)
   pub rollingBack : (buffer : List ℕ) (used offset time : ℕ)
-      → (rollback buffer used offset time .result ≡ refused (refusal 74 0)) ↔ ((bufferVerdict buffer used ≡ Passes) × OpensSecond (take used buffer) offset)
+      → (rollback buffer used offset time .result ≡ refused (refusal 74 0)) ↔ (BufferOk buffer used × OpensWith (take used buffer) offset Second)
 
 -- ---- 6/13: the test of an identifier "says yes exactly if the bytes are those letters in that order", at a place and in an index entry
 pub record TestsLetters (img : List ℕ) (letters : List ℕ) : Type 0 where
@@ -107,37 +204,17 @@ LettersTested = (img : List ℕ) → IsBytes img → (letters : List ℕ) → Te
 
 -- ---- Demand 2, reading: in an image that opens, a sector is given exactly if its table entry names an item of an indexed, intact,
 -- unpacked data block, and then it is that item's bytes.
--- Address a of the image names an item, whose bytes are the sector's. No check is mentioned here: only places, fields, checksums and
--- index entries.
-pub record NamesItem (img : List ℕ) (a : ℤ) (sector : List ℕ) : Type 0 where
-  -- the image opens, at its header's index offset
-  pub kind : TableKind
-  pub table : ℕ
-  pub opens : Opens img (indexOffset img) kind table
-  -- the address has a table entry, by its number, which points with a number
-  pub number : ℕ
-  pub numbered : a +ℤ pos (tableNegative img kind table) ≡ pos number
-  pub inside : number < tableCount img kind table
-  pub entry : ℕ
-  pub entryThere : field img (table + tableHeaderLengthOf kind + entryWidth kind * number) (entryWidth kind) ≡ entry
-  pub pointer : ℕ
-  pub written : PointsWith kind entry pointer
-  -- it names an item of an indexed, intact, unpacked data block
-  pub block : ℕ
-  pub blockPlace : pointer / 2 ^ tableShift img kind table * 2 ^ tableAlignment img kind table ≡ block
-  pub item : ℕ
-  pub itemNumber : pointer % 2 ^ tableShift img kind table ≡ item
-  pub indexed : Any (λ (e : Entry). UserData DBLK e × (e .offset .0 ≡ block)) (entries img (indexOffset img))
-  pub itemOk : ItemOk img block item
-  -- the sector is that item's bytes
-  pub bytes : part img (block + blockHeaderLength + item * sectorSize img block) (sectorSize img block) ≡ sector
+pub record ItemIs (img : List ℕ) (a : ℤ) (sector : List ℕ) : Type 0 where
+  pub place : Place
+  pub names : NamesItem img a place
+  pub bytes : part img (place .start .0) (place .size) ≡ sector
 
 abbrev pub Demand2Reading : Type 0
-Demand2Reading = (img : List ℕ) (a : ℤ) (sector : List ℕ) → (read img a ≡ accepted sector) ↔ NamesItem img a sector
+Demand2Reading = (img : List ℕ) (a : ℤ) (sector : List ℕ) → (read img a ≡ accepted sector) ↔ ItemIs img a sector
 
 -- the same of what the call hands out: some bytes exactly if the address names an item, and then that item's; else none
 abbrev pub Demand2Returned : Type 0
-Demand2Returned = (img : List ℕ) (a : ℤ) (sector : List ℕ) → ((bytesRead (read img a) ≡ sector) × (sector ≢ [])) ↔ NamesItem img a sector
+Demand2Returned = (img : List ℕ) (a : ℤ) (sector : List ℕ) → ((bytesRead (read img a) ≡ sector) × (sector ≢ [])) ↔ ItemIs img a sector
 
 -- and it is the part that `locate` names, none exactly where `locate` refuses
 unfoldable pub partAt : List ℕ → Answer Place → List ℕ
@@ -148,9 +225,25 @@ abbrev pub ReadIsLocated : Type 0
 ReadIsLocated =
     (img : List ℕ) (a : ℤ) → (bytesRead (read img a) ≡ partAt img (locate img a)) × ((p : Place) → locate img a ≡ accepted p → bytesRead (read img a) ≢ [])
 
+-- and where one of the two is refused, so is the other, with the same number and place: what is said of a read's refusals holds of `locate`'s
+abbrev pub LocateRefusesAsRead : Type 0
+LocateRefusesAsRead = (img : List ℕ) (a : ℤ) (r : Refusal) → (locate img a ≡ refused r) ↔ (read img a ≡ refused r)
+
 -- which lies in the image: whoever is told the place may follow it
 abbrev pub LocatedInside : Type 0
 LocatedInside = (img : List ℕ) (a : ℤ) (p : Place) → locate img a ≡ accepted p → p .start .0 + p .size ≤ length img
+
+-- ---- a new disc: so many sectors, from address 0 on, none of them written
+pub record FreshDisc (img : List ℕ) (count : ℕ) : Type 0 where
+  pub sectors : sectorCount img ≡ accepted (record { count = count; lowest = record { 0 = pos 0 } })
+  pub inside : (n : ℕ) → n < count → read img (pos n) ≡ refused (refusal 21 0)
+  pub outside : (a : ℤ) → ((n : ℕ) → n < count → a ≢ pos n) → read img a ≡ refused (refusal 20 0)
+
+abbrev pub Demand2Creating : Type 0
+Demand2Creating =
+    (buffer : List ℕ) (count : ℕ) (application : List ℕ) (major minor mediaType creationTime lastWrittenTime : ℕ) (p : Placed)
+    → create buffer count application major minor mediaType creationTime lastWrittenTime .result ≡ accepted p
+    → FreshDisc (take (p .used) (create buffer count application major minor mediaType creationTime lastWrittenTime .buffer)) count
 
 -- ---- Demand 2, committing: an accepted commit makes the named sectors read as handed in and every other sector read as before: the same bytes, or the
 -- same refusal, number and place.
@@ -159,14 +252,11 @@ pub record ReadsCommitted (before later : ℤ → Answer (List ℕ)) (addresses 
   pub named : (i : ℕ) → i < length addresses → later (getD addresses i (pos 0)) ≡ accepted (part sectors (i * size) size)
   pub others : (a : ℤ) → All (λ (b : ℤ). b ≢ a) addresses → later a ≡ before a
 
--- and its index names no 'CKSM' block (01: "004 calls it stale")
-abbrev pub NoStaleChecksum : List ℕ → ℕ → Type 0
-NoStaleChecksum img o = All (λ (e : Entry). e .blockType ≢ tag CKSM) (entries img o)
-
--- what demand 2 asks of an accepted commit that answered p and left `after`
+-- what demand 2 asks of an accepted commit that answered p and left `after`; and its index has the entries that it is to have
 pub record CommitKept (buffer : List ℕ) (used : ℕ) (addresses : List ℤ) (size : ℕ) (sectors : List ℕ) (p : Placed) (after : List ℕ) : Type 0 where
   pub disc : ReadsCommitted (read (take used buffer)) (read (take (p .used) after)) addresses size sectors
-  pub index : NoStaleChecksum (take (p .used) after) (p .index .0)
+  pub additions : Additions (take used buffer) used size (pieces (length addresses) size sectors)
+  pub index : entries (take (p .used) after) (p .index .0) ≡ newEntries additions
 
 -- the buffer is one of bytes, as every lent buffer is
 abbrev pub Demand2Committing : Type 0

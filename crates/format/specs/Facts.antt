@@ -1,17 +1,19 @@
 -- What the checks stand for, as facts about places, fields and checksums. proofs/ shows each group of checks passes exactly if its facts hold.
 use Prim.{Unit}
-use mathlib.Core.List.{List}
+use mathlib.Core.List.{List, [], _∷_, _++_}
 use mathlib.Core.Logic.{_≢_, _⊎_}
 use mathlib.Core.Path.{_≡_}
-use Prim.Native.Nat.{ℕ, _+_, _*_, _/_, _%_, _^_, _≤_, _<_}
+use Prim.Native.Nat.{ℕ, zero, suc, _+_, _*_, _/_, _%_, _^_, _≤_, _<_}
 use lib.ListN.{length}
+use lib.IntN.{ℤ, pos, _+ℤ_}
+use lib.Signed.{_<ℤ_}
 use Rattle.crc64.specs.Crc.{crcOf}
 use Rattle.fields.specs.Bytes.{part, field, toLe}
 use Rattle.format.specs.declared.Entry.{Entry}
 use Rattle.format.specs.declared.TableKind.{TableKind}
 use Rattle.format.specs.declared.TableKind.the-variants.{First, Second}
-use Rattle.format.specs.Lists.{All, Only}
-use Rattle.format.specs.Layouts.{AARUFRMT, DICMFRMT, IDX2, DDT*, DDT2, headerLength, imageMajorAt, indexHeaderLength, entryCount, indexCrc64, entryLength, entries, entriesPart, blockHeaderLength, blockDataType, blockCompression, sectorSize, blockCmpLength, blockLength, blockCmpCrc64, blockCrc64, blockPayload, tableHeaderLengthOf, tableDataType, tableCompression, tableShift, tableCount, tableCmpLength, tableLength, tableCmpCrc64, tableCrc64, tablePayload, entryWidth, tableLevels, tableBlocks, tableOverflow, tableSizeType, tableAlignment, tableNegative}
+use Rattle.format.specs.Lists.{All, Any, Only}
+use Rattle.format.specs.Layouts.{AARUFRMT, DICMFRMT, IDX2, DBLK, DDT*, DDT2, CKSM, headerLength, imageMajorAt, indexHeaderLength, entryCount, indexCrc64, entryLength, entries, entriesPart, userDataEntry, blockHeaderLength, blockDataType, blockCompression, sectorSize, blockCmpLength, blockLength, blockCmpCrc64, blockCrc64, blockPayload, tableHeaderLengthOf, tableDataType, tableCompression, tableShift, tableCount, tableCmpLength, tableLength, tableCmpCrc64, tableCrc64, tablePayload, entryWidth, tableLevels, tableBlocks, tableOverflow, tableSizeType, tableAlignment, tableNegative}
 
 -- the identifier at a place is this one
 unfoldable pub Identified : List ℕ → ℕ → List ℕ → Type 0
@@ -86,6 +88,10 @@ pub record Opens (img : List ℕ) (o : ℕ) (k : TableKind) (t : ℕ) : Type 0 w
   pub ofKind : OfKind img t k
   pub tableOk : TableOk img k t
 
+pub record OpensWith (img : List ℕ) (o : ℕ) (k : TableKind) : Type 0 where
+  pub table : ℕ
+  pub opens : Opens img o k table
+
 -- a table entry points with this number: of the first kind, every entry but 0, with itself; of the second, status 1 and the pointer in the
 -- other 28 bits. "for demand 2 an entry whose status gives 21 or 73 names no item"
 pub data PointsWith : TableKind → ℕ → ℕ → Type 0 where
@@ -108,3 +114,84 @@ pub record ItemOk (img : List ℕ) (b i : ℕ) : Type 0 where
   pub item : i < blockLength img b / sectorSize img b
   pub cmpSum : crcOf (blockPayload img b) ≡ blockCmpCrc64 img b
   pub sum : crcOf (blockPayload img b) ≡ blockCrc64 img b
+
+-- ---- a table entry, and an address
+-- 11/13: "the entry number is address + `negative`; 20 now applies .. where that number is below 0 or not below entries"
+pub record HasEntry (img : List ℕ) (k : TableKind) (t : ℕ) (a : ℤ) : Type 0 where
+  pub number : ℕ
+  pub numbered : a +ℤ pos (tableNegative img k t) ≡ pos number
+  pub inside : number < tableCount img k t
+
+-- entry n of the table at t, of kind k, names an item of a data block that the index at o names and that is intact and unpacked
+pub record EntryNames (img : List ℕ) (o : ℕ) (k : TableKind) (t n : ℕ) : Type 0 where
+  pub entry : ℕ
+  pub entryThere : field img (t + tableHeaderLengthOf k + entryWidth k * n) (entryWidth k) ≡ entry
+  pub pointer : ℕ
+  pub written : PointsWith k entry pointer
+  pub block : ℕ
+  pub blockPlace : pointer / 2 ^ tableShift img k t * 2 ^ tableAlignment img k t ≡ block
+  pub item : ℕ
+  pub itemNumber : pointer % 2 ^ tableShift img k t ≡ item
+  pub indexed : Any (λ (e : Entry). UserData DBLK e × (e .offset .0 ≡ block)) (entries img o)
+  pub itemOk : ItemOk img block item
+
+-- ---- the calls that write. Their bounds are the papers' numbers themselves, so that these facts hold the definitions' constants.
+-- creating: checks 31, 30, 33 and 35; "189 + 8E bytes" (2/13)
+pub record CreateOk (buffer : List ℕ) (count : ℕ) (application : List ℕ) : Type 0 where
+  pub long : length buffer ≤ 4294967296
+  pub some : count ≢ 0
+  pub few : count ≤ 1048576
+  pub sized : length application ≡ 64
+  pub room : 189 + 8 * count ≤ length buffer
+
+-- the buffer of a commit or a rollback: checks 31 and 32
+pub record BufferOk (buffer : List ℕ) (used : ℕ) : Type 0 where
+  pub long : length buffer ≤ 4294967296
+  pub inside : used ≤ length buffer
+
+-- "addresses .. strictly rising": each is less than the next
+pub data Rising : List ℤ → Type 0 where
+  empty : Rising []
+  single : {a : ℤ} → Rising (a ∷ [])
+  rises : {a b : ℤ} {l : List ℤ} → a <ℤ b → Rising (b ∷ l) → Rising (a ∷ b ∷ l)
+
+-- a commit's arguments: checks 31, 32, 30, 33 and 34
+pub record ArgumentsOk (buffer : List ℕ) (used : ℕ) (addresses : List ℤ) (size : ℕ) (sectors : List ℕ) : Type 0 where
+  pub bufferOk : BufferOk buffer used
+  pub some : size ≢ 0
+  pub small : size ≤ 65536
+  pub few : length addresses ≤ 65536
+  pub whole : length sectors ≡ length addresses * size
+  pub rises : Rising addresses
+
+-- the disc that a commit is made to, whose table, of the first kind, stands at t: opening's checks, 74, 20, and those of all sectors but 21
+pub record DiscOk (img : List ℕ) (o : ℕ) (addresses : List ℤ) (t : ℕ) : Type 0 where
+  pub opens : Opens img o First t
+  pub inside : All (HasEntry img First t) addresses
+  pub sectors : (n : ℕ) → n < tableCount img First t → (field img (t + 49 + 8 * n) 8 ≡ 0) ⊎ EntryNames img o First t n
+
+-- which sectors are stored, behind those that are stored already, of those handed in: each that neither the old disc nor a stored one holds
+pub data Stores (Held : List ℕ → Type 0) : List (List ℕ) → List (List ℕ) → List (List ℕ) → Type 0 where
+  all : {stored : List (List ℕ)} → Stores Held stored [] stored
+  again : {stored end ds : List (List ℕ)} {d : List ℕ} → Held d ⊎ Any (λ (s : List ℕ). s ≡ d) stored
+      → Stores Held stored ds end → Stores Held stored (d ∷ ds) end
+  new : {stored end ds : List (List ℕ)} {d : List ℕ} → ¬ (Held d ⊎ Any (λ (s : List ℕ). s ≡ d) stored)
+      → Stores Held (stored ++ (d ∷ [])) ds end → Stores Held stored (d ∷ ds) end
+
+-- the entries of a commit's index that come from the old one, where the new table stands at `table`: "the old entries in order, the table's entry
+-- replaced in its place, every 'CKSM' entry left out"
+pub data Reindexed (table : ℕ) : List Entry → List Entry → Type 0 where
+  end : Reindexed table [] []
+  stale : {e : Entry} {es fs : List Entry} → toLe 4 (e .blockType) ≡ CKSM → Reindexed table es fs → Reindexed table (e ∷ es) fs
+  replaced : {e : Entry} {es fs : List Entry} → UserData DDT* e → Reindexed table es fs
+      → Reindexed table (e ∷ es) (record { blockType = e .blockType; dataType = e .dataType; offset = record { 0 = table } } ∷ fs)
+  kept : {e : Entry} {es fs : List Entry} → toLe 4 (e .blockType) ≢ CKSM → ¬ UserData DDT* e → Reindexed table es fs → Reindexed table (e ∷ es) (e ∷ fs)
+
+-- the new data block, by how many sectors are stored in it: its length, and "the new data block's entry (dataType 1)", where it stands at `place`
+unfoldable pub blockLengthFor : ℕ → ℕ → ℕ
+blockLengthFor zero size = 0
+blockLengthFor (suc n) size = 36 + suc n * size
+
+unfoldable pub blockEntry : ℕ → ℕ → List Entry
+blockEntry place zero = []
+blockEntry place (suc n) = userDataEntry DBLK place ∷ []

@@ -12,7 +12,8 @@ use Rattle.format.specs.Layouts.{DBLK, indexHeaderLength, entryLength, entryByt
 use Rattle.format.specs.Committing.{keptEntries}
 use Rattle.format.proofs.Written.{length-entriesBytes, length-indexHeader}
 use Rattle.records.proofs.Sealed.{sealed}
-use Rattle.indexing.specs.Entries.{blockEntry, newEntries, entriesBytes, Indexes}
+use Rattle.format.specs.Facts.{blockEntry}
+use Rattle.indexing.specs.Entries.{newEntries, entriesBytes, Indexes}
 
 entriesBytes-append : (a b : List Entry) → entriesBytes (a ++ b) ≡ entriesBytes a ++ entriesBytes b
 unfolding entriesBytes flatten

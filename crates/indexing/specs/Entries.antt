@@ -1,16 +1,12 @@
 -- The entries of a new index.
-use mathlib.Core.List.{List, [], _∷_, _++_, map, flatten}
+use mathlib.Core.List.{List, _++_, map, flatten}
 use mathlib.Core.Path.{_≡_}
-use Prim.Native.Nat.{ℕ, zero, suc, _+_, _*_, _≤_}
+use Prim.Native.Nat.{ℕ, _+_, _*_, _≤_}
 use lib.ListN.{length, take}
 use Rattle.format.specs.declared.Entry.{Entry}
-use Rattle.format.specs.Layouts.{DBLK, indexHeaderLength, entryLength, entryCount, entries, entryBytes, userDataEntry}
+use Rattle.format.specs.Layouts.{indexHeaderLength, entryLength, entryCount, entries, entryBytes}
+use Rattle.format.specs.Facts.{blockEntry}
 use Rattle.format.specs.Committing.{keptEntries}
-
--- the new data block's, by how many sectors are stored in it
-unfoldable pub blockEntry : ℕ → ℕ → List Entry
-blockEntry block zero = []
-blockEntry block (suc n) = userDataEntry DBLK block ∷ []
 
 -- those of the index at o that are kept, and the new block's
 unfoldable pub newEntries : List ℕ → ℕ → ℕ → ℕ → List Entry

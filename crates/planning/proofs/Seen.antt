@@ -1,10 +1,9 @@
 -- Which sectors are among the stored ones, said without their list: of sectors that the old disc does not hold, those that were handed in.
-use mathlib.Core.Bool.{Bool, false}
 use mathlib.Core.List.{List, [], _∷_, _++_}
 use mathlib.Core.Logic.{_⊎_, ⊎-elim, ⊎-map, inl, inr, _↔_}
 use mathlib.Core.Option.{Option, none, some}
 use mathlib.Core.Path.{_≡_, refl, sym, ap, _∙_, subst}
-use Prim.Native.Nat.{ℕ, zero, suc, _+_, _*_, _≤_, _<_}
+use Prim.Native.Nat.{ℕ, zero, suc, _+_, _*_, _<_}
 use native.Mathlib.Nat.{zero-mul, suc-mul, eq-or-lt-of-le, le-of-suc-le-suc}
 use native.Mathlib.Numerals.{add-one}
 use native.Mathlib.Omega.{arith}
@@ -13,9 +12,9 @@ use lib.Seq.{drop-drop, getD-append-seam}
 use Rattle.fields.specs.Bytes.{part, equal}
 use Rattle.fields.proofs.Equal.{equal-refl}
 use Rattle.format.specs.Opening.{Opened}
-use Rattle.format.specs.Committing.{firstWith, onDisc, amongStored, pieces, stepFor, storeOne}
-use Rattle.format.proofs.Tests.{never, choose-cases}
-use Rattle.format.proofs.Storing.{amongStored-found}
+use Rattle.format.specs.Committing.{onDisc, amongStored, pieces, stepFor, storeOne}
+use Rattle.format.proofs.Tests.{never}
+use Rattle.format.proofs.Storing.{firstWith-none, amongStored-found}
 use Rattle.planning.specs.Plans.{sectorOf}
 
 -- d is one of them
@@ -25,14 +24,6 @@ pub record Has (l : List (List ℕ)) (d : List ℕ) : Type 0 where
   pub is : getD l index [] ≡ d
 
 -- ---- by the search among them
-firstWith-none : (f : ℕ → Bool) (k i j : ℕ) → firstWith f k i ≡ none → i ≤ j → j < i + k → f j ≡ false
-unfolding firstWith
-firstWith-none f zero i j e h l = absurd (omega arith)
-firstWith-none f (suc k) i j e h l =
-    let ih = firstWith-none f k (suc i) j in
-    choose-cases (λ (r : Option ℕ). r ≡ none → f j ≡ false) (f i) _ _ (λ y q. let z : _≡_ {A = ℕ} 0 1 = cc in absurd (omega arith))
-    (λ n q. ⊎-elim (λ s. subst (λ m. f m ≡ false) s n) (λ s. ih q s (omega arith)) (eq-or-lt-of-le h)) e
-
 pub found-has : (l : List (List ℕ)) (d : List ℕ) (j : ℕ) → amongStored l d ≡ some j → Has l d
 found-has l d j e = let r = amongStored-found l d j e in record { index = j; inside = r .0; is = r .1 }
 

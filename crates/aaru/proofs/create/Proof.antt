@@ -4,7 +4,8 @@ use borrow.Author.Needs.{needs}
 use mathlib.Core.Path.{refl, sym}
 use denote.Ref.{now}
 use Rattle.format.specs.Creating.{createdIndexAt, createdUsed, create}
-use Rattle.format.proofs.Checks.{CreateOk, create-ok}
+use Rattle.format.specs.Facts.{CreateOk}
+use Rattle.format.proofs.Checks.{created-used, create-ok}
 use Rattle.format.proofs.Chains.{by}
 use Rattle.format.proofs.Answers.{outcome-stops, outcome-done}
 use Rattle.aaru.proofs.create.Statement.{statement}
@@ -18,7 +19,7 @@ unfolding create
 returns c = outcome-stops _ _ _ (by (c .before .v .given .1) (c .before .before .before .create-verdict .ensures))
 
 put-image-requires : tie.Need-put-image-requires
-put-image-requires c κs = let k = ok (c .before) in (k .room, k .sized)
+put-image-requires c κs = let k = ok (c .before) in (rw (created-used _) (k .room), k .sized)
 
 mul-at : tie.Need-mul-at
 mul-at c = let k = ok (c .before .before .before .before) in omega arith
