@@ -32,9 +32,11 @@ struct History<'a> {
 pub fn run(sides: &mut Sides, seed: u64, histories: usize) {
     let mut random = Random::new(seed);
     let mut damaged = 0;
+    let any = |random: &mut Random| Description::random(Kind::Old, random);
     for number in 0..histories {
-        let mut history = match number % 3 {
-            0 => built(sides, &mut random),
+        let mut history = match number % 6 {
+            0 => built(sides, any(&mut random).wild(), &mut random),
+            3 => built(sides, any(&mut random), &mut random),
             _ => created(sides, &mut random),
         };
         damaged += usize::from(history.damage().is_some());
@@ -56,8 +58,8 @@ fn created<'a>(sides: &'a mut Sides, random: &mut Random) -> History<'a> {
     start(sides, buffer, used, index)
 }
 
-fn built<'a>(sides: &'a mut Sides, random: &mut Random) -> History<'a> {
-    let image = Description::random(Kind::Old, random).build(random);
+fn built<'a>(sides: &'a mut Sides, description: Description, random: &mut Random) -> History<'a> {
+    let image = description.build(random);
     let room = 300 + random.below(3000);
     let buffer = with_room(&image, room, random);
     let index = Layout::of(&image).index as u64;

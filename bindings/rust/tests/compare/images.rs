@@ -137,6 +137,11 @@ impl Description {
         Description { count, ..self }
     }
 
+    /// With table entries that may name what can't be read.
+    pub fn wild(self) -> Description {
+        Description { wild: true, ..self }
+    }
+
     pub fn build(mut self, random: &mut Random) -> Vec<u8> {
         let blocks = std::mem::take(&mut self.blocks);
         let others = std::mem::take(&mut self.others);

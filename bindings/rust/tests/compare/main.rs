@@ -22,6 +22,7 @@ mod tally;
 use aaru::ffi::*;
 use aaru::Creation;
 use layout::Kind;
+use random::seed_of_run;
 use sides::Sides;
 use std::ptr::{null, null_mut};
 use std::thread;
@@ -29,8 +30,8 @@ use tally::Tally;
 
 type Part = (Kind, fn(&mut Sides));
 
-/// Each part has images of one kind. The numbers after `sides` are seeds; those after them say how
-/// many images or histories.
+/// Each part has images of one kind. The numbers after `sides` are seeds, to which that of the run
+/// is added; those after them say how many images or histories.
 const PARTS: [Part; 18] = [
     (Kind::Old, |sides| fields::run(sides, 1, 9)),
     (Kind::Old, |sides| fields::run(sides, 2, 9)),
@@ -45,7 +46,7 @@ const PARTS: [Part; 18] = [
     (Kind::Second, |sides| fields::run(sides, 12, 9)),
     (Kind::Second, |sides| pairs::run(sides, 13, 18)),
     (Kind::Second, |sides| pairs::run(sides, 15, 18)),
-    (Kind::Second, |sides| tables::run(sides, 14, 1280)),
+    (Kind::Second, |sides| tables::run(sides, 14, 1440)),
     (Kind::Second, |sides| lengths::run(sides, 16, 3000)),
     (Kind::Second, |sides| large::run(sides, 17)),
     (Kind::Second, |sides| sparse::run(sides, 18)),
@@ -54,6 +55,8 @@ const PARTS: [Part; 18] = [
 
 #[test]
 fn both_sides_agree() {
+    // First, so that a run that fails can be made again.
+    println!("\nthe comparison runs with SEED={}", seed_of_run());
     let mut tallies = [Kind::Old, Kind::Second].map(Tally::new);
     thread::scope(|scope| {
         let run = |(kind, part): Part| {

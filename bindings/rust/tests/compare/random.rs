@@ -1,10 +1,29 @@
-//! A small generator of numbers. Its seeds are fixed, so that every run is the same.
+//! A small generator of numbers. Every run is the same, unless the environment's `SEED` asks for
+//! another one.
+
+use std::env;
+use std::sync::OnceLock;
 
 pub struct Random(u64);
 
+/// The run's seed: the decimal number `SEED`, or 0 if it is not set.
+pub fn seed_of_run() -> u64 {
+    static SEED: OnceLock<u64> = OnceLock::new();
+    *SEED.get_or_init(|| {
+        env::var_os("SEED").map_or(0, |text| {
+            let number = text.to_str().and_then(|text| text.parse().ok());
+            number.unwrap_or_else(|| panic!("SEED is no decimal number below 2^64: {text:?}"))
+        })
+    })
+}
+
 impl Random {
+    /// For one part of the run.
     pub fn new(seed: u64) -> Random {
-        Random((seed + 1).wrapping_mul(0x9E37_79B9_7F4A_7C15))
+        let part = (seed + 1).wrapping_mul(0x9E37_79B9_7F4A_7C15);
+        let run = seed_of_run().wrapping_mul(0xD6E8_FEB8_6659_FD93);
+        // From 0 only zeros would come.
+        Random((part ^ run).max(1))
     }
 
     pub fn number(&mut self) -> u64 {
