@@ -1,5 +1,5 @@
 -- Each call is accepted exactly if its facts hold.
-use mathlib.Core.Bool.{true, false}
+use mathlib.Core.Bool.{true}
 use mathlib.Core.List.{List}
 use mathlib.Core.Logic.{_⊎_, ⊎-map, _↔_, Iff·trans, Iff·and}
 use mathlib.Core.Path.{_≡_, sym, ap, _∙_, subst}
@@ -14,22 +14,21 @@ use Rattle.format.specs.declared.TableKind.the-variants.{First}
 use Rattle.format.specs.Refusals.{accepted}
 use Rattle.format.specs.Layouts.{indexOffset, entries, tableNegative}
 use Rattle.format.specs.Opening.{tableAt, kindAt, Opened, openedAs, opened, rangeOf, sectorCount}
-use Rattle.format.specs.Reading.{displaced, outside, entryNumber, tableEntry, unwritten, notWritten}
+use Rattle.format.specs.Reading.{tableEntry, unwritten, notWritten}
 use Rattle.format.specs.Writing.{placed}
 use Rattle.format.specs.Creating.{createdIndexAt, createdUsed, create}
 use Rattle.format.specs.Committing.{append, commit}
 use Rattle.format.specs.RollingBack.{rollback}
-use Rattle.format.specs.Facts.{Opens, OpensWith, HasEntry, EntryNames, DiscOk}
+use Rattle.format.specs.Facts.{Opens, OpensWith, EntryNames, DiscOk}
 use Rattle.format.specs.Demands.{HasSectors, newEntries, CommitOk, Demand1Accepted}
 use Rattle.format.proofs.Tests.{same-on, same-true}
 use Rattle.format.proofs.Lists.{all-map}
 use Rattle.format.proofs.Refusals.{answer-passes, answer-accepted}
-use Rattle.format.proofs.Numbers.{inside-number, number-inside}
 use Rattle.format.proofs.Checks.{open-ok, SectorOk, created-index, created-used, create-ok, WritableOk, Sound, DiscSound, commit-ok, rollback-ok}
 use Rattle.format.proofs.Opens.{opens-forth, opens-back, opened-as, opens-with}
 use Rattle.format.proofs.Addresses.{inside-each, each-inside}
 use Rattle.format.proofs.Buffers.{outcome-accepts}
-use Rattle.format.proofs.Reading.{entry-forth, entry-back, locating}
+use Rattle.format.proofs.Reading.{entry-forth, entry-back, inside-entry, entry-inside, locating}
 use Rattle.format.proofs.Ends.{additions, index-is, end-is, ends-at}
 
 -- ---- counting
@@ -70,15 +69,6 @@ module _ (img : List ℕ) (o t : ℕ) (n : Opens img o First t) where
   opened-is : opened img o ≡ u
   opened-is = opened-as img o First t n
 
-  -- the addresses
-  entry-of : (a : ℤ) → outside u a ≡ false → HasEntry img First t a
-  unfolding openedAs displaced
-  entry-of a h = let m = inside-number u a h in record { number = entryNumber u a; numbered = m .is; inside = m .inside }
-
-  of-entry : (a : ℤ) → HasEntry img First t a → outside u a ≡ false
-  unfolding openedAs displaced
-  of-entry a h = number-inside u a (h .number) (record { is = h .numbered; inside = h .inside })
-
   -- a table entry
   first-entry : (m : ℕ) → ((notWritten img u m ≡ true) ⊎ SectorOk img (entries img o) u m) ↔ ((field img (t + 49 + 8 * m) 8 ≡ 0) ⊎ EntryNames img o First t m)
   unfolding notWritten unwritten tableEntry openedAs
@@ -89,7 +79,7 @@ module _ (img : List ℕ) (o t : ℕ) (n : Opens img o First t) where
   disc-forth addresses d =
       record {
         opens = n;
-        inside = all-map entry-of (inside-each u addresses (rw opened-is at (d .inside)));
+        inside = all-map (inside-entry img First t) (inside-each u addresses (rw opened-is at (d .inside)));
         sectors = λ m h. first-entry m .0 (rw opened-is at (d .sound .sectors m (rw opened-is h)));
       }
 
@@ -100,7 +90,7 @@ disc-back img o addresses t d =
     let w = writable-with img o .1 (record { table = t; opens = d .opens }) in
     record {
       sound = record { opens = w .opens; first = w .first; sectors = rw is (λ m h. first-entry img o t (d .opens) m .1 (d .sectors m h)) };
-      inside = rw is (each-inside _ addresses (all-map (of-entry img o t (d .opens)) (d .inside)));
+      inside = rw is (each-inside _ addresses (all-map (entry-inside img First t) (d .inside)));
     }
 
 -- ---- committing

@@ -84,44 +84,35 @@ module _ (img : List ℕ) (s : Sound img (indexOffset img)) where
       (firstWith-none (holdsSector img t d) (t .count) 0 (entryNumber t (h .address)) e (omega arith) (omega (arith, m .inside)))
 
   module _ (block : ℕ) where
-    step-again : (stored : List (List ℕ)) (d : List ℕ) → Known stored d → storeOne img t block stored d .stored ≡ stored
+    -- one sector
+    step : (stored : List (List ℕ)) (d : List ℕ)
+        → (Known stored d × (storeOne img t block stored d .stored ≡ stored)) ⊎ ((¬ Known stored d) × (storeOne img t block stored d .stored ≡ stored ++ (d ∷ [])))
     unfolding storeOne stepFor
-    step-again stored d k = go (onDisc img t d) refl (amongStored stored d) refl
-      where
-        go : (u : Option ℕ) → onDisc img t d ≡ u → (v : Option ℕ) → amongStored stored d ≡ v → stepFor img t block stored d u v .stored ≡ stored
-        go (some a) e v f = refl
-        go none e (some j) f = refl
-        go none e none f = absurd (⊎-elim (disc-none d e) (among-none stored d f) k)
-
-    step-new : (stored : List (List ℕ)) (d : List ℕ) → ¬ Known stored d → storeOne img t block stored d .stored ≡ stored ++ (d ∷ [])
-    unfolding storeOne stepFor
-    step-new stored d k = go (onDisc img t d) refl (amongStored stored d) refl
-      where
-        go : (u : Option ℕ) → onDisc img t d ≡ u → (v : Option ℕ) → amongStored stored d ≡ v → stepFor img t block stored d u v .stored ≡ stored ++ (d ∷ [])
-        go (some a) e v f = absurd (k (inl (disc-some d a e)))
-        go none e (some j) f = let r = amongStored-found stored d j f in absurd (k (inr (any-at stored d j (r .0) (r .1))))
-        go none e none f = refl
-
-    -- what is stored in the end
-    stores-forth : (ds stored : List (List ℕ)) → Stores (Held img) stored ds (storeAll img t block stored ds .items)
-    unfolding storeAll storeOne stepFor
-    stores-forth [] stored = all
-    stores-forth (d ∷ ds) stored = go (onDisc img t d) refl (amongStored stored d) refl (stores-forth ds)
+    step stored d = go (onDisc img t d) refl (amongStored stored d) refl
       where
         go : (u : Option ℕ) → onDisc img t d ≡ u → (v : Option ℕ) → amongStored stored d ≡ v
-            → ((l : List (List ℕ)) → Stores (Held img) l ds (storeAll img t block l ds .items))
-            → Stores (Held img) stored (d ∷ ds) (storeAll img t block (stepFor img t block stored d u v .stored) ds .items)
-        go (some a) e v f ih = again (inl (disc-some d a e)) (ih stored)
-        go none e (some j) f ih = let r = amongStored-found stored d j f in again (inr (any-at stored d j (r .0) (r .1))) (ih stored)
-        go none e none f ih = new (⊎-elim (disc-none d e) (among-none stored d f)) (ih (stored ++ (d ∷ [])))
+            → (Known stored d × (stepFor img t block stored d u v .stored ≡ stored)) ⊎ ((¬ Known stored d) × (stepFor img t block stored d u v .stored ≡ stored ++ (d ∷ [])))
+        go (some a) e v f = inl (inl (disc-some d a e), refl)
+        go none e (some j) f = let r = amongStored-found stored d j f in inl (inr (any-at stored d j (r .0) (r .1)), refl)
+        go none e none f = inr (⊎-elim (disc-none d e) (among-none stored d f), refl)
+
+    -- all of them
+    stores-forth : (ds stored : List (List ℕ)) → Stores (Held img) stored ds (storeAll img t block stored ds .items)
+    unfolding storeAll
+    stores-forth [] stored = all
+    stores-forth (d ∷ ds) stored =
+        let ih = stores-forth ds in
+        ⊎-elim (λ (k, e). again k (rw e (ih stored))) (λ (k, e). new k (rw e (ih (stored ++ (d ∷ []))))) (step stored d)
 
     stores-back : (stored ds last : List (List ℕ)) → Stores (Held img) stored ds last → storeAll img t block stored ds .items ≡ last
     unfolding storeAll
     stores-back stored _ _ all = refl
     stores-back stored _ last (again {ds = ds} {d = d} k r) =
-        ap (λ (l : List (List ℕ)). storeAll img t block l ds .items) (step-again stored d k) ∙ stores-back stored ds last r
+        let ih = stores-back stored ds last r in
+        ⊎-elim (λ (h, e). ap (λ (l : List (List ℕ)). storeAll img t block l ds .items) e ∙ ih) (λ (h, e). absurd (h k)) (step stored d)
     stores-back stored _ last (new {ds = ds} {d = d} k r) =
-        ap (λ (l : List (List ℕ)). storeAll img t block l ds .items) (step-new stored d k) ∙ stores-back (stored ++ (d ∷ [])) ds last r
+        let ih = stores-back (stored ++ (d ∷ [])) ds last r in
+        ⊎-elim (λ (h, e). absurd (k h)) (λ (h, e). ap (λ (l : List (List ℕ)). storeAll img t block l ds .items) e ∙ ih) (step stored d)
 
 -- ---- lengths
 pub length-newBlock : (size : ℕ) (items : List (List ℕ)) → All (Sized size) items → length (newBlock size items) ≡ blockLengthFor (length items) size

@@ -19,10 +19,10 @@ use Rattle.format.specs.declared.Verdict.the-variants.{Passes, Refuses}
 use Rattle.format.specs.Refusals.{Answer, refused, accepted, answer}
 use Rattle.format.specs.Layouts.{DBLK, indexOffset, entries, entryStatus, entryPointer, decode, tableShift, tableAlignment}
 use Rattle.format.specs.Opening.{tableAt, kindAt, Opened, openedAs, opened}
-use Rattle.format.specs.Reading.{displaced, entryNumber, tableEntry, unwritten, notWritten, unknown, unknownStatus, pointerAt, placeOf, itemBytes, readVerdict, pointerOf, readAt, read, locate}
+use Rattle.format.specs.Reading.{displaced, outside, entryNumber, tableEntry, unwritten, notWritten, unknown, unknownStatus, pointerAt, placeOf, itemBytes, readVerdict, pointerOf, readAt, read, locate}
 use Rattle.format.specs.Answers.{bytesRead}
 use Rattle.format.specs.Committing.{itemOf}
-use Rattle.format.specs.Facts.{PointsWith, written, dumped, EntryNames}
+use Rattle.format.specs.Facts.{PointsWith, written, dumped, HasEntry, EntryNames}
 use Rattle.format.specs.Demands.{NamesItem, ItemIs, Demand2Reading, Demand2Returned, partAt, ReadIsLocated, LocateRefusesAsRead, LocatedInside}
 use Rattle.format.proofs.Tests.{same-iff, differs-iff}
 use Rattle.format.proofs.Refusals.{answer-passes, answer-refuses, answer-accepted, answer-refused}
@@ -91,23 +91,39 @@ module _ (img : List ℕ) (o : ℕ) (k : TableKind) (t n : ℕ) where
           item = rw pointer-is (e .itemOk);
         }
 
+-- ---- an address has a table entry exactly if it is not outside
+module _ (img : List ℕ) (k : TableKind) (t : ℕ) (a : ℤ) where
+  pub inside-entry : outside (openedAs img k t) a ≡ false → HasEntry img k t a
+  unfolding openedAs displaced
+  inside-entry h = let m = inside-number (openedAs img k t) a h in record { number = entryNumber (openedAs img k t) a; numbered = m .is; inside = m .inside }
+
+  module _ (e : HasEntry img k t a) where
+    numbered : Numbered (openedAs img k t) a (e .number)
+    unfolding openedAs displaced
+    numbered = record { is = e .numbered; inside = e .inside }
+
+    pub entry-inside : outside (openedAs img k t) a ≡ false
+    entry-inside = number-inside (openedAs img k t) a (e .number) numbered
+
+    entry-number : entryNumber (openedAs img k t) a ≡ e .number
+    entry-number = number-is (openedAs img k t) a (e .number) numbered
+
+-- ---- an address is located exactly if it names an item
 module _ (img : List ℕ) (a : ℤ) (p : Place) where
   abbrev o : ℕ
   o = indexOffset img
 
   forth : locate img a ≡ accepted p → NamesItem img a p
-  unfolding locate opened openedAs displaced pointerOf placeOf entry-forth
+  unfolding locate opened pointerOf placeOf entry-forth inside-entry
   forth e =
       let r = answer-accepted _ _ p e in
       let v = read-ok img o a .0 (r .0) in
-      let q = v .sector in
-      let m = inside-number (opened img o) a (v .inside) in
       record {
         kind = kindAt img (tableAt img o);
         table = tableAt img o;
         opens = opens-forth img o (v .opens);
-        hasEntry = record { number = entryNumber (opened img o) a; numbered = m .is; inside = m .inside };
-        names = entry-forth img o _ _ (entryNumber (opened img o) a) q;
+        hasEntry = inside-entry img _ _ a (v .inside);
+        names = entry-forth img o _ _ _ (v .sector);
         start = ap (λ (l : Place). l .start .0) (sym (r .1));
         size = ap (λ (l : Place). l .size) (sym (r .1));
       }
@@ -119,19 +135,15 @@ module _ (img : List ℕ) (a : ℤ) (p : Place) where
     opened-is : opened img o ≡ t
     opened-is = opened-as img o (n .kind) (n .table) (n .opens)
 
-    numbered : Numbered t a (n .hasEntry .number)
-    unfolding displaced openedAs
-    numbered = record { is = n .hasEntry .numbered; inside = n .hasEntry .inside }
-
     number : entryNumber t a ≡ n .hasEntry .number
-    number = number-is t a (n .hasEntry .number) numbered
+    number = entry-number img (n .kind) (n .table) a (n .hasEntry)
 
     passes : readVerdict img o a ≡ Passes
     passes =
         read-ok img o a .1
         (record {
           opens = opens-back img o (n .kind) (n .table) (n .opens);
-          inside = rw opened-is (number-inside t a (n .hasEntry .number) numbered);
+          inside = rw opened-is (entry-inside img (n .kind) (n .table) a (n .hasEntry));
           sector = rw (opened-is, number) (entry-back img o (n .kind) (n .table) (n .hasEntry .number) (n .names));
         })
 

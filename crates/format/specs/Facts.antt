@@ -88,6 +88,7 @@ pub record Opens (img : List ℕ) (o : ℕ) (k : TableKind) (t : ℕ) : Type 0 w
   pub ofKind : OfKind img t k
   pub tableOk : TableOk img k t
 
+-- the same, wherever the table stands
 pub record OpensWith (img : List ℕ) (o : ℕ) (k : TableKind) : Type 0 where
   pub table : ℕ
   pub opens : Opens img o k table
