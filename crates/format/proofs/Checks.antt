@@ -28,7 +28,7 @@ use Rattle.format.specs.Writing.{bufferVerdict, isSecond, writableVerdic
 use Rattle.format.specs.Creating.{createdIndexAt, createdUsed, createVerdict}
 use Rattle.format.specs.Committing.{risingBy, rising, argumentsVerdict, anyOutside, otherThan21, sectorsVerdict, discVerdict, Appended, usedAfter, commitVerdict}
 use Rattle.format.specs.RollingBack.{rollbackVerdict}
-use Rattle.format.specs.Facts.{HeaderOk, IndexOk, EntryOk, OfKind, ExtentOk, TableOk, BlockOk, ItemOk, Identified, CreateOk, BufferOk, Rising, empty, single, rises, ArgumentsOk}
+use Rattle.format.specs.Facts.{HeaderOk, IndexOk, EntryOk, OfKind, ExtentOk, TableOk, BlockOk, ItemOk, Identified, CreateOk, BufferOk, Rising, empty, single, next, ArgumentsOk}
 use Rattle.format.proofs.Lists.{all-head, all-tail}
 use Rattle.format.proofs.Tests.{on-or-off, on-iff, not-iff, below-iff, atLeast-iff, same-on, same-true, same-iff, differs-iff, or-iff, and-iff, and-on, and-true, choose-true, choose-false}
 use Rattle.format.proofs.Refusals.{answer-passes, answer-refuses, not-passes, row-iff, then-iff, then-rest, row-refuses, then-refuses, firstRefusal-iff, Says, row-says, then-says, Gives, says-not}
@@ -323,13 +323,13 @@ rising-forth : (l : List ℤ) → rising l ≡ true → Rising l
 unfolding risingBy
 rising-forth [] h = empty
 rising-forth (a ∷ []) h = single
-rising-forth (a ∷ b ∷ l) h = let r = and-on _ _ h in rises (less-iff a b .0 (r .0)) (rising-forth (b ∷ l) (r .1))
+rising-forth (a ∷ b ∷ l) h = let r = and-on _ _ h in next (less-iff a b .0 (r .0)) (rising-forth (b ∷ l) (r .1))
 
 rising-back : (l : List ℤ) → Rising l → rising l ≡ true
 unfolding risingBy
 rising-back _ empty = refl
 rising-back _ single = refl
-rising-back _ (rises {a = a} {b = b} {l = l} h k) = and-true _ _ (less-iff a b .1 h) (rising-back (b ∷ l) k)
+rising-back _ (next {a = a} {b = b} {l = l} h k) = and-true _ _ (less-iff a b .1 h) (rising-back (b ∷ l) k)
 
 pub rising-iff : (l : List ℤ) → (rising l ≡ true) ↔ Rising l
 rising-iff l = (rising-forth l, rising-back l)

@@ -1,13 +1,12 @@
 -- Where what a commit appends ends: how long its parts are, by the sectors that it stores and the index entries that it keeps.
 use mathlib.Core.Bool.{not}
 use mathlib.Core.List.{List, [], _∷_, _++_, flatten}
-use mathlib.Core.Logic.{_≢_, _⊎_, ⊎-elim, inl, inr}
+use mathlib.Core.Logic.{_⊎_, ⊎-elim, inl, inr}
 use mathlib.Core.Option.{Option, none, some}
 use mathlib.Core.Path.{_≡_, refl, sym, ap, _∙_, subst}
-use Prim.Native.Nat.{ℕ, zero, suc, _+_, _*_, _<_}
-use native.Mathlib.Nat.{not-suc-le-zero, le-of-suc-le-suc}
+use Prim.Native.Nat.{ℕ, _+_, _*_}
 use native.Mathlib.Omega.{arith}
-use lib.ListN.{length, getD}
+use lib.ListN.{length}
 use lib.IntN.{ℤ, pos, negℤ, _+ℤ_}
 use Rattle.fields.specs.Bytes.{equal}
 use Rattle.fields.proofs.Equal.{equal-refl}
@@ -15,7 +14,7 @@ use Rattle.format.specs.declared.Entry.{Entry}
 use Rattle.format.specs.declared.Placed.{Placed}
 use Rattle.format.specs.declared.Pointer.{Pointer}
 use Rattle.format.specs.declared.TableKind.the-variants.{First}
-use Rattle.format.specs.Lists.{All, Any, here, there}
+use Rattle.format.specs.Lists.{All}
 use Rattle.format.specs.Refusals.{accepted}
 use Rattle.format.specs.Layouts.{indexOffset, entries, blockHeaderLength, tableHeaderLength, tableEntryLength, tableCount}
 use Rattle.format.specs.Opening.{Opened, openedAs, opened}
@@ -33,31 +32,15 @@ use Rattle.format.proofs.Opens.{opened-as}
 use Rattle.format.proofs.Addresses.{length-numbers}
 use Rattle.format.proofs.KeptEntries.{reindexed-forth, reindexed-back}
 use Rattle.format.proofs.Written.{length-tableBytes, length-blockBytes, length-indexBytes}
-use Rattle.format.proofs.Storing.{firstWith-none, onDisc-found, amongStored-found, stored-sized, length-newPointers, length-entries}
+use Rattle.format.proofs.Storing.{firstWith-none, onDisc-found, Among, among-some, among-none, stored-sized, length-newPointers, length-entries}
 
 -- ---- the sectors that are stored
--- one of the stored ones
-any-at : (l : List (List ℕ)) (d : List ℕ) (j : ℕ) → j < length l → getD l j [] ≡ d → Any (λ (s : List ℕ). s ≡ d) l
-any-at [] d j h e = absurd (not-suc-le-zero h)
-any-at (s ∷ l) d zero h e = here e
-any-at (s ∷ l) d (suc j) h e = there (any-at l d j (le-of-suc-le-suc h) e)
-
-not-any : (l : List (List ℕ)) (d : List ℕ) → ((j : ℕ) → j < length l → getD l j [] ≢ d) → ¬ Any (λ (s : List ℕ). s ≡ d) l
-not-any _ d h (here e) = h 0 (omega arith) e
-not-any _ d h (there {l = l} k) = not-any l d (λ j b. h (suc j) (omega arith)) k
-
-among-none : (l : List (List ℕ)) (d : List ℕ) → amongStored l d ≡ none → ¬ Any (λ (s : List ℕ). s ≡ d) l
-unfolding amongStored
-among-none l d e =
-    not-any l d (λ j h q.
-    never (ap (λ (x : List ℕ). equal x d) q ∙ equal-refl d) (firstWith-none (λ i. equal (getD l i []) d) (length l) 0 j e (omega arith) (omega arith)))
-
 module _ (img : List ℕ) (s : Sound img (indexOffset img)) where
   abbrev t : Opened
   t = opened img (indexOffset img)
 
   abbrev Known : List (List ℕ) → List ℕ → Type 0
-  Known stored d = Held img d ⊎ Any (λ (x : List ℕ). x ≡ d) stored
+  Known stored d = Held img d ⊎ Among stored d
 
   -- the search of the disc finds a sector exactly if some address reads as it
   disc-some : (d : List ℕ) (n : ℕ) → onDisc img t d ≡ some n → Held img d
@@ -93,7 +76,7 @@ module _ (img : List ℕ) (s : Sound img (indexOffset img)) where
         go : (u : Option ℕ) → onDisc img t d ≡ u → (v : Option ℕ) → amongStored stored d ≡ v
             → (Known stored d × (stepFor img t block stored d u v .stored ≡ stored)) ⊎ ((¬ Known stored d) × (stepFor img t block stored d u v .stored ≡ stored ++ (d ∷ [])))
         go (some a) e v f = inl (inl (disc-some d a e), refl)
-        go none e (some j) f = let r = amongStored-found stored d j f in inl (inr (any-at stored d j (r .0) (r .1)), refl)
+        go none e (some j) f = inl (inr (among-some stored d j f), refl)
         go none e none f = inr (⊎-elim (disc-none d e) (among-none stored d f), refl)
 
     -- all of them

@@ -1,7 +1,7 @@
 -- Where the sectors of a commit end up: each handed-in sector gets a pointer to an equal one, on the old disc or among the stored ones.
 use mathlib.Core.Bool.{Bool, true, false}
 use mathlib.Core.List.{List, [], _∷_, _++_, map, flatten, append-assoc, append-nil, Forall₂, Forall₂·nil, Forall₂·cons}
-use mathlib.Core.Logic.{⊎-elim}
+use mathlib.Core.Logic.{_≢_, ⊎-elim}
 use mathlib.Core.Option.{Option, none, some, orElse}
 use mathlib.Core.Path.{_≡_, refl, sym, ap, _∙_, subst}
 use Prim.Native.Nat.{ℕ, zero, suc, _+_, _*_, _^_, _≤_, _<_}
@@ -12,17 +12,17 @@ use lib.Pow.{pow-mono}
 use lib.Seq.{drop-drop, getD-append-seam}
 use borrow.Author.Tests.{not-true}
 use Rattle.fields.specs.Bytes.{part, equal}
-use Rattle.fields.proofs.Equal.{equal-true}
+use Rattle.fields.proofs.Equal.{equal-true, equal-refl}
 use Rattle.fields.proofs.Numbers.{length-toLe}
 use Rattle.format.specs.declared.Pointer.{Pointer}
 use Rattle.format.specs.Tests.{same, below}
-use Rattle.format.specs.Lists.{All, done, more}
+use Rattle.format.specs.Lists.{All, done, more, Any, here, there}
 use Rattle.format.specs.Refusals.{Answer, accepted}
 use Rattle.format.specs.Layouts.{tableEntryLength, encode}
 use Rattle.format.specs.Opening.{Opened}
 use Rattle.format.specs.Reading.{notWritten, pointerAt, itemBytes}
 use Rattle.format.specs.Committing.{pieces, given, firstWith, holdsSector, onDisc, amongStored, Step, itemOf, stepFor, storeOne, Stored, storeAll, oldPointer, newPointer, newPointers, itemOrZero, largestItem, shiftFrom, tableEntryBytes}
-use Rattle.format.proofs.Tests.{below-on, below-iff, and-on, choose-true, choose-false, choose-cases}
+use Rattle.format.proofs.Tests.{never, below-on, below-iff, and-on, choose-true, choose-false, choose-cases}
 use Rattle.format.proofs.Lists.{Sized, all-append, all-take, all-drop, all-head, all-tail, all-image, length-flatten}
 
 -- ---- the smallest shift
@@ -79,6 +79,29 @@ unfolding amongStored
 amongStored-found stored sector j e =
     let r = firstWith-found (λ j. equal (getD stored j []) sector) (length stored) 0 j e in
     (omega (arith, r .2), equal-true _ _ (r .0))
+
+-- d is one of these
+abbrev pub Among : List (List ℕ) → List ℕ → Type 0
+Among l d = Any (λ (s : List ℕ). s ≡ d) l
+
+among-at : (l : List (List ℕ)) (d : List ℕ) (j : ℕ) → j < length l → getD l j [] ≡ d → Among l d
+among-at [] d j h e = absurd (not-suc-le-zero h)
+among-at (s ∷ l) d zero h e = here e
+among-at (s ∷ l) d (suc j) h e = there (among-at l d j (le-of-suc-le-suc h) e)
+
+not-among : (l : List (List ℕ)) (d : List ℕ) → ((j : ℕ) → j < length l → getD l j [] ≢ d) → ¬ Among l d
+not-among _ d h (here e) = h 0 (omega arith) e
+not-among _ d h (there {l = l} k) = not-among l d (λ j b. h (suc j) (omega arith)) k
+
+-- what the search among them says of it
+pub among-some : (l : List (List ℕ)) (d : List ℕ) (j : ℕ) → amongStored l d ≡ some j → Among l d
+among-some l d j e = let r = amongStored-found l d j e in among-at l d j (r .0) (r .1)
+
+pub among-none : (l : List (List ℕ)) (d : List ℕ) → amongStored l d ≡ none → ¬ Among l d
+unfolding amongStored
+among-none l d e =
+    not-among l d (λ j h q.
+    never (ap (λ (x : List ℕ). equal x d) q ∙ equal-refl d) (firstWith-none (λ i. equal (getD l i []) d) (length l) 0 j e (omega arith) (omega arith)))
 
 -- ---- the handed-in sectors
 pieces-sized : (k size : ℕ) (l : List ℕ) → length l ≡ k * size → All (Sized size) (pieces k size l)

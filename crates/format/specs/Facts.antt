@@ -154,7 +154,7 @@ pub record BufferOk (buffer : List ℕ) (used : ℕ) : Type 0 where
 pub data Rising : List ℤ → Type 0 where
   empty : Rising []
   single : {a : ℤ} → Rising (a ∷ [])
-  rises : {a b : ℤ} {l : List ℤ} → a <ℤ b → Rising (b ∷ l) → Rising (a ∷ b ∷ l)
+  next : {a b : ℤ} {l : List ℤ} → a <ℤ b → Rising (b ∷ l) → Rising (a ∷ b ∷ l)
 
 -- a commit's arguments: checks 31, 32, 30, 33 and 34
 pub record ArgumentsOk (buffer : List ℕ) (used : ℕ) (addresses : List ℤ) (size : ℕ) (sectors : List ℕ) : Type 0 where

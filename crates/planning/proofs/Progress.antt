@@ -9,11 +9,11 @@ use lib.ListN.{length, length-append}
 use Rattle.format.specs.Opening.{Opened}
 use Rattle.format.specs.Committing.{onDisc, amongStored, pieces, Step, stepFor, storeOne, newPointers, itemOrZero, largestItem, oldPointer}
 use Rattle.format.proofs.Tests.{choose-cases}
-use Rattle.format.proofs.Storing.{amongStored-found}
+use Rattle.format.proofs.Storing.{amongStored-found, among-some, among-none}
 use Rattle.planning.specs.declared.Looked.{Looked}
 use Rattle.planning.specs.Plans.{isNext, Commits, sectorOf, storedBy, planFor, lookedFor, looked, lookedAt}
 use Rattle.planning.proofs.Cursor.{left, Walks, walk-starts, left-starts, walk-old, left-old, walk-new, left-new, walk-done, left-done}
-use Rattle.planning.proofs.Seen.{Same, same-starts, same-more, found-has, missing-lacks}
+use Rattle.planning.proofs.Seen.{Same, same-starts, same-more}
 
 module _ (img : List ℕ) (t : Opened) (addresses : List ℕ) (size : ℕ) (sectors : List ℕ) where
   abbrev whole : ℕ
@@ -89,8 +89,8 @@ module _ (img : List ℕ) (t : Opened) (addresses : List ℕ) (size : ℕ) (sect
         go none e (some j) f (some i) g =
             let r = amongStored-found (p .items) x j f in
             record { used = refl; count = p .count; few = omega (arith, p .few); low = omega (arith, p .low); top = omega (arith, r .0, p .count, p .low) }
-        go none e (some j) f none g = absurd (missing-lacks _ x g (p .seen x e .0 (found-has _ x j f)))
-        go none e none f (some i) g = absurd (missing-lacks _ x f (p .seen x e .1 (found-has _ x i g)))
+        go none e (some j) f none g = absurd (among-none _ x g (p .seen x e .0 (among-some _ x j f)))
+        go none e none f (some i) g = absurd (among-none _ x f (p .seen x e .1 (among-some _ x i g)))
         go none e none f none g =
             record {
               used = refl;
