@@ -1,34 +1,46 @@
 -- Each call is accepted exactly if its facts hold.
 use mathlib.Core.Bool.{true}
-use mathlib.Core.List.{List}
-use mathlib.Core.Logic.{_⊎_, ⊎-map, _↔_, Iff·trans, Iff·and}
-use mathlib.Core.Path.{_≡_, sym, ap, _∙_, subst}
-use Prim.Native.Nat.{ℕ, _+_, _*_, _≤_}
-use lib.ListN.{length, take}
+use mathlib.Core.List.{List, [], _∷_, _++_}
+use mathlib.Core.Logic.{_⊎_, inl, inr, ⊎-map, _↔_, Iff·trans, Iff·and}
+use mathlib.Core.Path.{_≡_, refl, sym, ap, _∙_, subst}
+use Prim.Native.Nat.{ℕ, zero, suc, _+_, _*_, _/_, _%_, _≤_, _<_}
+use native.Mathlib.Nat.{pos-of-ne-zero, mul-mod-left, mul-le-mul-right}
+use native.Mathlib.Omega.{arith}
+use lib.ListN.{length, take, length-append}
 use lib.Seq.{length-take-le}
 use lib.IntN.{ℤ, pos, negℤ, _+ℤ_, _-ℤ_, +ℤ-idl, +ℤ-invl, +ℤ-negℤ-cancel}
 use Rattle.fields.specs.Bytes.{field}
 use Rattle.format.specs.declared.AddressRange.{AddressRange}
 use Rattle.format.specs.declared.Placed.{Placed}
+use Rattle.format.specs.declared.Pointer.{Pointer}
 use Rattle.format.specs.declared.TableKind.the-variants.{First}
-use Rattle.format.specs.Refusals.{accepted}
-use Rattle.format.specs.Layouts.{indexOffset, entries, tableNegative}
+use Rattle.format.specs.Lists.{Any}
+use Rattle.format.specs.Refusals.{refusal, accepted}
+use Rattle.format.specs.Layouts.{DDT*, indexOffset, entries, userDataEntry, sectorSize, tableCount, tableNegative}
 use Rattle.format.specs.Opening.{tableAt, kindAt, Opened, openedAs, opened, rangeOf, sectorCount}
-use Rattle.format.specs.Reading.{tableEntry, unwritten, notWritten}
-use Rattle.format.specs.Writing.{placed}
-use Rattle.format.specs.Creating.{createdIndexAt, createdUsed, create}
-use Rattle.format.specs.Committing.{append, commit}
+use Rattle.format.specs.Reading.{tableEntry, unwritten, notWritten, placeOf}
+use Rattle.format.specs.Writing.{Outcome, placed}
+use Rattle.format.specs.Creating.{createdIndexAt, createdUsed, createdEntries, create}
+use Rattle.format.specs.Committing.{entryNumbers, pieces, Appended, appended, indexStart, usedAfter, append, commit}
 use Rattle.format.specs.RollingBack.{rollback}
-use Rattle.format.specs.Facts.{Opens, OpensWith, EntryNames, DiscOk}
-use Rattle.format.specs.Demands.{HasSectors, newEntries, CommitOk, Demand1Accepted}
-use Rattle.format.proofs.Tests.{same-on, same-true}
-use Rattle.format.proofs.Lists.{all-map}
-use Rattle.format.proofs.Refusals.{answer-passes, answer-accepted}
+use Rattle.format.specs.Exporting.{sizeAt, flatFile, export}
+use Rattle.format.specs.Importing.{import}
+use Rattle.format.specs.Facts.{Opens, OpensWith, EntryNames, DiscOk, Stores, all, again, new, Reindexed, replaced, end, blockLengthFor, blockEntry}
+use Rattle.format.specs.Demands.{HasSectors, Held, Additions, newEntries, CommitOk, ExportOk, ImportOk, Demand1Accepted}
+use Rattle.format.proofs.Tests.{same-on, same-true, below-iff}
+use Rattle.format.proofs.Lists.{all-map, length-ofEach}
+use Rattle.format.proofs.Refusals.{row-iff, then-iff, answer-passes, answer-accepted}
 use Rattle.format.proofs.Checks.{open-ok, SectorOk, created-index, created-used, create-ok, WritableOk, Sound, DiscSound, commit-ok, rollback-ok}
 use Rattle.format.proofs.Opens.{opens-forth, opens-back, opened-as, opens-with}
 use Rattle.format.proofs.Addresses.{inside-each, each-inside}
 use Rattle.format.proofs.Buffers.{outcome-accepts}
-use Rattle.format.proofs.Reading.{entry-forth, entry-back, inside-entry, entry-inside, locating}
+use Rattle.format.proofs.Reading.{entry-forth, pointer-is, entry-back, inside-entry, entry-inside, locating}
+use Rattle.format.proofs.Exporting.{exportable, file-length}
+use Rattle.format.proofs.Importing.{Importable, importable, file-whole, file-some, file-few, file-count, addressesOf, made, made-offset, made-sound, made-opened, made-entries, made-empty, made-numbers, added, importedUsed, importedIndex, import-is, import-accepted}
+use Rattle.format.proofs.Created.{length-new}
+use Rattle.format.proofs.Storing.{length-pieces}
+use Rattle.format.proofs.Bytes.{tag-bytes}
+use Rattle.format.proofs.KeptEntries.{reindexed-back}
 use Rattle.format.proofs.Ends.{additions, index-is, end-is, ends-at}
 
 -- ---- counting
@@ -131,6 +143,202 @@ module _ (buffer : List ℕ) (used : ℕ) (addresses : List ℤ) (size : ℕ) (s
       outcome-accepts _ _ _ _ p .1
       (commit-ok buffer used addresses size sectors _ .1 (record { arguments = c .arguments; disc = d; room = rw (← ap (λ (q : Placed). q .used) e) at (c .room) }), e)
 
+-- ---- exporting
+module _ (img out : List ℕ) (n : ℕ) where
+  abbrev at : ℕ
+  at = indexOffset img
+
+  export-forth : export img out .result ≡ accepted n → ExportOk img out n
+  unfolding export opened openedAs sizeAt placeOf
+  export-forth e =
+      let r = outcome-accepts _ _ _ _ n .0 e in
+      let k = exportable img at out .0 (r .0) in
+      record {
+        kind = kindAt img (tableAt img at);
+        table = tableAt img at;
+        opens = opens-forth img at (k .opens);
+        names = λ i h. entry-forth img at (kindAt img (tableAt img at)) (tableAt img at) i (k .sectors i h);
+        size = sizeAt img (opened img at) 0;
+        sized = λ i h. sym (ap (λ (q : Pointer). sectorSize img (q .block .0)) (pointer-is img at _ _ i (entry-forth img at _ _ i (k .sectors i h)))) ∙ k .sizes i h;
+        whole = sym (r .1) ∙ file-length img at _ (k .sectors) (k .sizes);
+        room = rw (r .1) at (k .room);
+      }
+
+  export-back : ExportOk img out n → export img out .result ≡ accepted n
+  unfolding export openedAs sizeAt placeOf
+  export-back e =
+      let t : Opened = openedAs img (e .kind) (e .table) in
+      let is : opened img at ≡ t = opened-as img at (e .kind) (e .table) (e .opens) in
+      let sized : (i : ℕ) → i < t .count → sizeAt img t i ≡ e .size =
+      λ i h. ap (λ (q : Pointer). sectorSize img (q .block .0)) (pointer-is img at (e .kind) (e .table) i (e .names i h)) ∙ e .sized i h in
+      let sectors : (i : ℕ) → i < opened img at .count → SectorOk img (entries img at) (opened img at) i = rw is (λ i h. entry-back img at (e .kind) (e .table) i (e .names i h)) in
+      let sizes : (i : ℕ) → i < opened img at .count → sizeAt img (opened img at) i ≡ e .size = rw is sized in
+      let l : length (flatFile img (opened img at)) ≡ n = file-length img at (e .size) sectors sizes ∙ ap (λ (u : Opened). u .count * e .size) is ∙ sym (e .whole) in
+      outcome-accepts _ _ _ _ n .1 (
+        exportable img at out .1
+            (record {
+              opens = open-ok img at .0 (open-ok img at .1 (opens-back img at (e .kind) (e .table) (e .opens)));
+              sectors = sectors;
+              sizes = λ i h. sizes i h ∙ sym (sizes 0 (omega arith));
+              room = rw l (e .room);
+            }),
+        l,
+      )
+
+-- ---- importing
+stores-map : {H K : List ℕ → Type 0} → ((d : List ℕ) → H d ↔ K d) → (stored ds last : List (List ℕ)) → Stores H stored ds last → Stores K stored ds last
+stores-map f stored _ _ all = all
+stores-map f stored _ last (again {ds = ds} {d = d} k r) = again (⊎-map (f d .0) (λ q. q) k) (stores-map f stored ds last r)
+stores-map f stored _ last (new {ds = ds} {d = d} k r) = new (λ q. k (⊎-map (f d .1) (λ a. a) q)) (stores-map f (stored ++ (d ∷ [])) ds last r)
+
+stores-grow : {H : List ℕ → Type 0} (stored ds last : List (List ℕ)) → Stores H stored ds last → length stored ≤ length last
+stores-grow stored _ _ all = omega arith
+stores-grow stored _ last (again {ds = ds} k r) = stores-grow stored ds last r
+stores-grow stored _ last (new {ds = ds} {d = d} k r) = omega (arith, stores-grow (stored ++ (d ∷ [])) ds last r, length-append stored (d ∷ []))
+
+any-none : {A : Type 0} {P : A → Type 0} → ¬ Any P []
+any-none = elim [ ]
+
+-- the first sector, where there is none before it
+stores-some : (ds last : List (List ℕ)) → 0 < length ds → Stores (λ (d : List ℕ). ⊥) [] ds last → 0 < length last
+stores-some _ _ h all = absurd (omega arith)
+stores-some _ _ h (again (inl k) r) = absurd k
+stores-some _ _ h (again (inr k) r) = absurd (any-none k)
+stores-some _ last h (new {ds = ds} {d = d} k r) = stores-grow (d ∷ []) ds last r
+
+-- on a new disc: none of its sectors is held, one at least is stored, and the index has two entries
+module _ (buffer file : List ℕ) (size : ℕ) (application : List ℕ) (major minor mediaType creationTime lastWrittenTime : ℕ) (k : Importable buffer file size application) where
+  abbrev total : ℕ
+  total = length file / size
+
+  abbrev disc : List ℕ
+  disc = made buffer file size application major minor mediaType creationTime lastWrittenTime
+
+  offset-is : indexOffset disc ≡ createdIndexAt total
+  offset-is = made-offset buffer file size application major minor mediaType creationTime lastWrittenTime k
+
+  s : Sound disc (indexOffset disc)
+  s = rw offset-is (made-sound buffer file size application major minor mediaType creationTime lastWrittenTime k)
+
+  held-none : (d : List ℕ) → Held disc d ↔ ⊥
+  held-none d = (made-empty buffer file size application major minor mediaType creationTime lastWrittenTime k d, absurd)
+
+  abbrev used₀ : ℕ
+  used₀ = createdUsed total
+
+  abbrev handed : List (List ℕ)
+  handed = pieces (length (addressesOf total)) size file
+
+  many : length (addressesOf total) ≡ total
+  many = length-ofEach pos total 0
+
+  long : length disc ≡ used₀
+  long = length-new total application major minor mediaType creationTime lastWrittenTime (k .sized)
+
+  whole : length file ≡ length (addressesOf total) * size
+  whole = file-whole k ∙ ap (λ n. n * size) (sym many)
+
+  opens : OpensWith disc (indexOffset disc) First
+  opens = writable-with disc (indexOffset disc) .0 (record { opens = s .opens; first = s .first })
+
+  table-count : tableCount disc First (opens .table) ≡ total
+  unfolding openedAs
+  table-count =
+      sym (ap (λ (u : Opened). u .count) (opened-as disc (indexOffset disc) First (opens .table) (opens .opens)))
+      ∙ ap (λ (u : Opened). u .count) (ap (opened disc) offset-is ∙ made-opened buffer file size application major minor mediaType creationTime lastWrittenTime k)
+
+  some-stored : (stored : List (List ℕ)) → Stores (λ (d : List ℕ). ⊥) [] handed stored → 0 < length stored
+  some-stored stored r =
+      stores-some handed stored (rw (length-pieces (length (addressesOf total)) size file, many) (pos-of-ne-zero (file-some k))) r
+
+  -- the lengths of what is appended
+  block-some : (n : ℕ) → 0 < n → blockLengthFor n size ≡ 36 + n * size
+  unfolding blockLengthFor
+  block-some zero h = absurd (omega arith)
+  block-some (suc n) h = refl
+
+  entry-some : (n : ℕ) → 0 < n → length (blockEntry used₀ n) ≡ 1
+  unfolding blockEntry
+  entry-some zero h = absurd (omega arith)
+  entry-some (suc n) h = refl
+
+  entries-are : entries disc (indexOffset disc) ≡ createdEntries
+  entries-are = ap (entries disc) offset-is ∙ made-entries buffer file size application major minor mediaType creationTime lastWrittenTime k
+
+  kept-one : (table : ℕ) → Reindexed table (entries disc (indexOffset disc)) (userDataEntry DDT* table ∷ [])
+  kept-one table = rw entries-are (replaced (record { type = tag-bytes DDT* tt; userData = refl }) end)
+
+  two-entries : (a : Additions disc used₀ size handed) → 0 < length (a .stored) → length (newEntries a) ≡ 2
+  two-entries a h =
+      let t : ℕ = used₀ + blockLengthFor (length (a .stored)) size in
+      let one : a .kept ≡ userDataEntry DDT* t ∷ [] = sym (reindexed-back t _ (a .kept) (a .keeps)) ∙ reindexed-back t _ _ (kept-one t) in
+      length-append (a .kept) _ ∙ (λ j. length (one j) + entry-some (length (a .stored)) h j)
+
+  added-is : appended disc (indexOffset disc) (entryNumbers (opened disc (indexOffset disc)) (addressesOf total)) size file ≡ added buffer file size application major minor mediaType creationTime lastWrittenTime
+  added-is = rw (offset-is, made-numbers buffer file size application major minor mediaType creationTime lastWrittenTime k) refl
+
+  -- where it ends, by the sectors that are stored
+  import-ends : (a : Additions disc used₀ size handed) → 0 < length (a .stored) → (p : Placed)
+      → p .index .0 ≡ 189 + 8 * total + (36 + length (a .stored) * size) + (49 + 8 * total) → p .used ≡ p .index .0 + (20 + 16 * 2)
+      → placed (importedUsed buffer file size application major minor mediaType creationTime lastWrittenTime) (importedIndex buffer file size application major minor mediaType creationTime lastWrittenTime) ≡ p
+  import-ends a h p e f =
+      ap (λ (x : Appended). placed (usedAfter used₀ x) (indexStart used₀ x)) (sym added-is)
+      ∙ ends-at disc s used₀ long (addressesOf total) size file whole (opens .table) (opens .opens) a p
+      (e ∙ (rw (table-count, block-some (length (a .stored)) h, created-used total) refl)) (f ∙ ap (λ n. p .index .0 + (20 + 16 * n)) (sym (two-entries a h)))
+
+module _ (buffer file : List ℕ) (size : ℕ) (application : List ℕ) (major minor mediaType creationTime lastWrittenTime : ℕ) (p : Placed) where
+  import-forth : import buffer file size application major minor mediaType creationTime lastWrittenTime .result ≡ accepted p → ImportOk buffer file size application p
+  import-forth e =
+      let i = import-accepted buffer file size application major minor mediaType creationTime lastWrittenTime p e in
+      let k = i .checked in
+      let n : ℕ = length file / size in
+      let a = additions (disc buffer file size application major minor mediaType creationTime lastWrittenTime k) (s buffer file size application major minor mediaType creationTime lastWrittenTime k)
+      (createdUsed n) (long buffer file size application major minor mediaType creationTime lastWrittenTime k) (addressesOf n) size file (whole buffer file size application major minor mediaType creationTime lastWrittenTime k) in
+      let r = stores-map (held-none buffer file size application major minor mediaType creationTime lastWrittenTime k) [] _ _ (a .stores) in
+      let at : ℕ = 189 + 8 * n + (36 + length (a .stored) * size) + (49 + 8 * n) in
+      let q : p ≡ placed (at + (20 + 16 * 2)) at =
+      sym (i .answer) ∙ import-ends buffer file size application major minor mediaType creationTime lastWrittenTime k a (some-stored buffer file size application major minor mediaType creationTime lastWrittenTime k _ r) _ refl refl in
+      record {
+        long = k .long;
+        some = k .some;
+        small = k .small;
+        count = n;
+        counted = (pos-of-ne-zero (file-some k), file-few k);
+        whole = file-whole k;
+        sized = k .sized;
+        stored = a .stored;
+        stores = rw (length-ofEach pos n 0) at r;
+        index = ap (λ (x : Placed). x .index .0) q;
+        end = ap (λ (x : Placed). x .used) q ∙ ap (λ (x : Placed). x .index .0 + (20 + 16 * 2)) (sym q);
+        room = subst (λ (x : Placed). x .used ≤ length buffer) (i .answer) (i .room);
+      }
+
+  import-back : ImportOk buffer file size application p → import buffer file size application major minor mediaType creationTime lastWrittenTime .result ≡ accepted p
+  import-back c =
+      let n : ℕ = length file / size in
+      let is : c .count ≡ n = file-count file size (c .count) (c .some) (c .whole) in
+      let k : Importable buffer file size application =
+      record {
+        long = c .long;
+        some = c .some;
+        small = c .small;
+        any = λ z. c .some (omega (arith, c .whole, mul-le-mul-right size (c .counted .0)));
+        few = rw (c .whole) (mul-le-mul-right size (c .counted .1));
+        whole = ap (λ m. m % size) (c .whole) ∙ mul-mod-left (c .count) size;
+        sized = c .sized;
+      } in
+      let r : Stores (λ (d : List ℕ). ⊥) [] (pieces (length (addressesOf n)) size file) (c .stored) = rw (length-ofEach pos n 0, ← is) (c .stores) in
+      let e = import-ends buffer file size application major minor mediaType creationTime lastWrittenTime k
+      (record {
+        stored = c .stored;
+        stores = stores-map (λ d. let h = held-none buffer file size application major minor mediaType creationTime lastWrittenTime k d in (h .1, h .0)) [] _ _ r;
+        kept = _;
+        keeps = kept-one buffer file size application major minor mediaType creationTime lastWrittenTime k _;
+      }) (some-stored buffer file size application major minor mediaType creationTime lastWrittenTime k _ r) p (rw (← is) (c .index)) (c .end) in
+      ap (λ (w : Outcome Placed). w .result) (import-is buffer file size application major minor mediaType creationTime lastWrittenTime)
+      ∙ outcome-accepts _ _ _ _ p .1
+      (then-iff (importable buffer file size application) (row-iff (refusal 35 0) below-iff) .1 (k, rw (ap (λ (x : Placed). x .used) e) (c .room)), e)
+
 pub demand-1-accepted : Demand1Accepted
 unfolding create rollback
 demand-1-accepted = record {
@@ -146,4 +354,7 @@ demand-1-accepted = record {
       (Iff·trans (rollback-ok buffer used offset)
       ((λ k. record { bufferOk = k .bufferOk; opens = writable-with _ offset .0 (k .writable) }), λ k. record { bufferOk = k .bufferOk; writable = writable-with _ offset .1 (k .opens) }))
       (sym, sym));
+  exporting = λ img out n. (export-forth img out n, export-back img out n);
+  importing = λ buffer file size application major minor mediaType creationTime lastWrittenTime p.
+      (import-forth buffer file size application major minor mediaType creationTime lastWrittenTime p, import-back buffer file size application major minor mediaType creationTime lastWrittenTime p);
 }

@@ -11,7 +11,6 @@ use Rattle.fields.specs.Bytes.{toLe, overwrite}
 use Rattle.fields.proofs.Numbers.{length-toLe}
 use Rattle.fields.proofs.Overwrite.{length-overwrite, getD-off, getD-in}
 use Rattle.fields.proofs.Holds.{Holds, holds-take, holds-overwrite, holds-all, holds-number}
-use Rattle.format.specs.declared.Placed.{Placed}
 use Rattle.format.specs.declared.Refusal.{Refusal}
 use Rattle.format.specs.declared.Verdict.{Verdict}
 use Rattle.format.specs.declared.Verdict.the-variants.{Passes, Refuses}
@@ -24,35 +23,35 @@ use Rattle.format.proofs.Agree.{KeptAt, Agree}
 use Rattle.format.proofs.Bytes.{bytes-overwrite, bytes-toLe}
 
 -- ---- outcomes
-pub record Accepts (v : Verdict) (p q : Placed) (new after : List ℕ) : Type 0 where
+pub record Accepts {A : Type 0} (v : Verdict) (p q : A) (new after : List ℕ) : Type 0 where
   pub passes : v ≡ Passes
   pub answer : p ≡ q
   pub buffer : after ≡ new
 
-pub outcome-accepted : (buffer : List ℕ) (v : Verdict) (p : Placed) (new : List ℕ) (q : Placed) → outcome buffer v p new .result ≡ accepted q
+pub outcome-accepted : {A : Type 0} (buffer : List ℕ) (v : Verdict) (p : A) (new : List ℕ) (q : A) → outcome buffer v p new .result ≡ accepted q
     → Accepts v p q new (outcome buffer v p new .buffer)
 unfolding outcome
 outcome-accepted buffer Passes p new q e = record { passes = refl; answer = cc; buffer = refl }
 outcome-accepted buffer (Refuses r) p new q e = let z : _≡_ {A = ℕ} 0 1 = cc in absurd (omega arith)
 
-pub outcome-passes : (buffer : List ℕ) (v : Verdict) (p : Placed) (new : List ℕ) → v ≡ Passes → outcome buffer v p new ≡ record { result = accepted p; buffer = new }
+pub outcome-passes : {A : Type 0} (buffer : List ℕ) (v : Verdict) (p : A) (new : List ℕ) → v ≡ Passes → outcome buffer v p new ≡ record { result = accepted p; buffer = new }
 unfolding outcome
 outcome-passes buffer v p new e = rw e
 
-pub outcome-accepts : (buffer : List ℕ) (v : Verdict) (p : Placed) (new : List ℕ) (q : Placed) → (outcome buffer v p new .result ≡ accepted q) ↔ ((v ≡ Passes) × (p ≡ q))
+pub outcome-accepts : {A : Type 0} (buffer : List ℕ) (v : Verdict) (p : A) (new : List ℕ) (q : A) → (outcome buffer v p new .result ≡ accepted q) ↔ ((v ≡ Passes) × (p ≡ q))
 unfolding outcome
 outcome-accepts buffer v p new q = (
   (λ e. let k = outcome-accepted buffer v p new q e in (k .passes, k .answer)),
   λ (e, f). rw (e, f),
 )
 
-pub outcome-refused : (buffer : List ℕ) (v : Verdict) (p : Placed) (new : List ℕ) (r : Refusal) → outcome buffer v p new .result ≡ refused r
+pub outcome-refused : {A : Type 0} (buffer : List ℕ) (v : Verdict) (p : A) (new : List ℕ) (r : Refusal) → outcome buffer v p new .result ≡ refused r
     → (v ≡ Refuses r) × (outcome buffer v p new .buffer ≡ buffer)
 unfolding outcome
 outcome-refused buffer Passes p new r e = let z : _≡_ {A = ℕ} 0 1 = cc in absurd (omega arith)
 outcome-refused buffer (Refuses s) p new r e = (cc, refl)
 
-pub outcome-refuses : (buffer : List ℕ) (v : Verdict) (p : Placed) (new : List ℕ) (r : Refusal) → (outcome buffer v p new .result ≡ refused r) ↔ (v ≡ Refuses r)
+pub outcome-refuses : {A : Type 0} (buffer : List ℕ) (v : Verdict) (p : A) (new : List ℕ) (r : Refusal) → (outcome buffer v p new .result ≡ refused r) ↔ (v ≡ Refuses r)
 unfolding outcome
 outcome-refuses buffer v p new r = ((λ e. outcome-refused buffer v p new r e .0), λ e. rw e)
 

@@ -31,10 +31,11 @@ use Rattle.format.specs.RollingBack.{rollbackVerdict}
 use Rattle.format.specs.Facts.{HeaderOk, IndexOk, EntryOk, OfKind, ExtentOk, TableOk, BlockOk, ItemOk, Identified, CreateOk, BufferOk, Rising, empty, single, next, ArgumentsOk}
 use Rattle.format.proofs.Lists.{all-head, all-tail}
 use Rattle.format.proofs.Tests.{on-or-off, on-iff, not-iff, below-iff, atLeast-iff, same-on, same-true, same-iff, differs-iff, or-iff, and-iff, and-on, and-true, choose-true, choose-false}
+use Rattle.format.proofs.Numbers.{Numbered, number-inside, number-is}
 use Rattle.format.proofs.Refusals.{answer-passes, answer-refuses, not-passes, row-iff, then-iff, then-rest, row-refuses, then-refuses, firstRefusal-iff, Says, row-says, then-says, Gives, says-not}
 
 -- the facts of a chain of checks, put into a record or a list
-facts : {A B C : Type 0} → A ↔ B → (B → C) → (C → B) → A ↔ C
+pub facts : {A B C : Type 0} → A ↔ B → (B → C) → (C → B) → A ↔ C
 facts h f g = Iff·trans h (f, g)
 
 -- ---- opening
@@ -282,6 +283,10 @@ module _ (img : List ℕ) (o : ℕ) (k : OpenOk img o) (a : ℤ) where
       ap (λ (v : Verdict). answer v (itemBytes img (pointerAt img (opened img o) (entryNumber (opened img o) a))))
       (verdict-opened ∙ then-rest _ _ (row-iff (refusal 20 0) Iff·rfl .1 h))
 
+  -- by the number of its table entry
+  pub read-numbered : (n : ℕ) → Numbered (opened img o) a n → readAt img o a ≡ entryRead img o n
+  read-numbered n m = read-inside (number-inside (opened img o) a n m) ∙ ap (entryRead img o) (number-is (opened img o) a n m)
+
 -- ---- what table entries of the first kind are: none has another status, and the lowest address is 0
 pub first-known : (img : List ℕ) (t : Opened) (n : ℕ) → t .kind ≡ First → unknownStatus img t n ≡ false
 unfolding unknownStatus unknown
@@ -315,7 +320,7 @@ buffer-ok buffer used =
     facts (then-iff (row-iff _ below-iff) (row-iff _ below-iff)) (λ (a, b). record { long = a; inside = b }) (λ k. (k .long, k .inside))
 
 -- ---- committing
-less-iff : (a b : ℤ) → (lessThan a b ≡ true) ↔ (a <ℤ b)
+pub less-iff : (a b : ℤ) → (lessThan a b ≡ true) ↔ (a <ℤ b)
 unfolding lessThan
 less-iff a b = facts (on-iff (ltZ a b)) ltZ-yes (λ h. h .lt)
 

@@ -41,6 +41,7 @@ pub record Committed (buffer : List ℕ) (used : ℕ) (addresses : List ℤ) (si
   pub past : used ≤ p .index .0
   pub offset : indexOffset (take (p .used) after) ≡ p .index .0
   pub sound : Sound (take (p .used) after) (p .index .0)
+  pub count : opened (take (p .used) after) (p .index .0) .count ≡ opened (take used buffer) (indexOffset (take used buffer)) .count
   pub reads : ReadsCommitted (read (take used buffer)) (readAt (take (p .used) after) (p .index .0)) addresses size sectors
   pub additions : Additions (take used buffer) used size (pieces (length addresses) size sectors)
   pub index : entries (take (p .used) after) (p .index .0) ≡ newEntries additions
@@ -173,6 +174,7 @@ module _ (buffer : List ℕ) (isBytes : IsBytes buffer) (used : ℕ) (addresses 
         past = omega arith;
         offset = indexOffset-set (overwrite buffer used run) (usedAfter used new) (indexStart used new) time (omega (arith, low)) (omega arith) (omega (arith, k .bufferOk .long));
         sound = rw y-is (disc .sound);
+        count = rw y-is (disc .count);
         reads = rw y-is reads-y;
         additions = additions x s used length-x addresses size sectors (k .whole);
         index = rw y-is (disc .index ∙ entries-are x s used length-x addresses size sectors (k .whole));

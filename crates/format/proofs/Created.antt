@@ -15,7 +15,7 @@ use Rattle.fields.proofs.Records.{holds-num, holds-raw}
 use Rattle.format.specs.declared.Placed.{Placed}
 use Rattle.format.specs.Lists.{All, done, more, IsBytes}
 use Rattle.format.specs.Refusals.{accepted}
-use Rattle.format.specs.Layouts.{AARUFRMT, DDT*, tag, headerLength, applicationLength, imageMajorAt, indexOffsetAt, indexOffset, headerBytes, indexBytes, tableBytes, tableHeaderLength, tableEntryLength}
+use Rattle.format.specs.Layouts.{AARUFRMT, DDT*, tag, headerLength, applicationLength, imageMajorAt, indexOffsetAt, indexOffset, entries, headerBytes, indexBytes, tableBytes, tableHeaderLength, tableEntryLength}
 use Rattle.format.specs.Opening.{offsetsWith, isTable, Opened, opened, rangeOf, sectorCount}
 use Rattle.format.specs.Reading.{displaced, outside, entryNumber, tableEntry, unwritten, notWritten, read}
 use Rattle.format.specs.Writing.{mostSectors, longestBuffer}
@@ -25,8 +25,8 @@ use Rattle.format.specs.Demands.{FreshDisc, Demand2Creating}
 use Rattle.format.proofs.Tests.{on-or-off, same-true}
 use Rattle.format.proofs.Lists.{all-take, all-drop, all-replicate}
 use Rattle.format.proofs.Refusals.{answer-passes}
-use Rattle.format.proofs.Numbers.{Numbered, inside-number, number-inside, number-is, inside-flat}
-use Rattle.format.proofs.Checks.{OpenOk, open-ok, entry-21, read-20, read-inside, Sound, created-used, create-ok}
+use Rattle.format.proofs.Numbers.{Numbered, inside-number, inside-flat}
+use Rattle.format.proofs.Checks.{OpenOk, open-ok, entry-21, read-20, read-numbered, Sound, created-used, create-ok}
 use Rattle.format.proofs.Named.{identified-number, table-iff, offsets-yes}
 use Rattle.format.proofs.Written.{EntryFits, length-headerBytes, length-tableBytes, table-identified, table-entries, length-indexBytes, openedFirst, Opens, opens-written}
 use Rattle.format.proofs.Bytes.{bytes-overwrite, bytes-created, tag-bytes}
@@ -95,7 +95,7 @@ module _ (count : ℕ) (application : List ℕ) (major minor mediaType creationT
           major = subst (λ n. field y n 1 ≡ 2) e (holds-num y 0 _ _ h 2 1 2 (lit< tt) refl (lit< tt));
         }
 
-    created-offset : indexOffset y ≡ o
+    pub created-offset : indexOffset y ≡ o
     unfolding indexOffset createdBytes headerBytes createdIndexAt
     created-offset =
         let e : 0 + (8 + (length application + (1 + (1 + (1 + (1 + (4 + 0))))))) ≡ indexOffsetAt = omega arith in
@@ -116,7 +116,7 @@ module _ (count : ℕ) (application : List ℕ) (major minor mediaType creationT
     unfolding offsetsWith
     only = offsets-yes isTable _ [] (table-iff _ .1 (inl (record { type = tag-bytes DDT* tt; userData = refl })))
 
-    abbrev newOpened : Opened
+    abbrev pub newOpened : Opened
     newOpened = openedFirst headerLength count 0
 
     opens : Opens y o createdEntries newOpened
@@ -125,7 +125,7 @@ module _ (count : ℕ) (application : List ℕ) (major minor mediaType creationT
         opens-written y o createdEntries h-index (lit< tt) fit headerLength 0 count zeros h-table zero-le length-zeros (omega (arith, length-zeros)) only
         header-new (omega arith) named
 
-    nothing-written : (a : ℕ) → a < count → notWritten y newOpened a ≡ true
+    pub nothing-written : (a : ℕ) → a < count → notWritten y newOpened a ≡ true
     unfolding notWritten unwritten tableEntry field part
     nothing-written a k =
         let hp : Holds y (headerLength + tableHeaderLength) zeros = table-entries y headerLength 0 count zeros h-table in
@@ -133,12 +133,18 @@ module _ (count : ℕ) (application : List ℕ) (major minor mediaType creationT
         same-true _ _
         (ap fromLe e ∙ fromLe-zeros _ (all-take _ (all-drop _ (all-replicate (tableEntryLength * count) 0 refl) (tableEntryLength * a)) 8))
 
-    created-sound : Sound y o
+    pub created-opened : opened y o ≡ newOpened
+    created-opened = opens .found
+
+    pub created-entries : entries y o ≡ createdEntries
+    created-entries = opens .named
+
+    pub created-sound : Sound y o
     created-sound = record { opens = opens .ok; first = rw (opens .found) refl; sectors = rw (opens .found) (λ a k. inl (nothing-written a k)) }
 
     -- ---- it reads as a new disc
     opened-new : opened y (indexOffset y) ≡ newOpened
-    opened-new = ap (opened y) created-offset ∙ opens .found
+    opened-new = ap (opened y) created-offset ∙ created-opened
 
     open-new : OpenOk y (indexOffset y)
     open-new = rw created-offset (opens .ok)
@@ -155,13 +161,12 @@ module _ (count : ℕ) (application : List ℕ) (major minor mediaType creationT
           sectors = answer-passes _ _ (open-ok y _ .1 open-new) ∙ ap (λ (t : Opened). accepted (rangeOf t)) opened-new;
           inside = λ n k.
               let m : Numbered newOpened (pos n) n = record { is = +ℤ-idr (pos n); inside = k } in
-              read-inside y _ open-new (pos n) (rw opened-new (number-inside newOpened (pos n) n m))
-              ∙ entry-21 y _ _ (rw (opened-new, number-is newOpened (pos n) n m) (nothing-written n k));
+              read-numbered y _ open-new (pos n) n (rw opened-new m) ∙ entry-21 y _ n (rw opened-new (nothing-written n k));
           outside = λ a h. read-20 y _ open-new a (rw opened-new (outside-new a h));
         }
 
--- ---- an accepted creation that answered p and left `after`
-pub record Created (p : Placed) (after : List ℕ) : Type 0 where
+-- ---- an accepted creation, or an accepted import (Importing), that answered p and left `after`
+pub record Started (p : Placed) (after : List ℕ) : Type 0 where
   pub long : length after ≤ longestBuffer
   pub inside : p .used ≤ length after
   pub offset : indexOffset (take (p .used) after) ≡ p .index .0
@@ -188,7 +193,7 @@ module _ (buffer : List ℕ) (count : ℕ) (application : List ℕ) (major minor
 pub create-accepted : (buffer : List ℕ) → IsBytes buffer → (count : ℕ) (application : List ℕ) → IsBytes application
     → (major minor mediaType creationTime lastWrittenTime : ℕ) (p : Placed)
     → create buffer count application major minor mediaType creationTime lastWrittenTime .result ≡ accepted p
-    → Created p (create buffer count application major minor mediaType creationTime lastWrittenTime .buffer)
+    → Started p (create buffer count application major minor mediaType creationTime lastWrittenTime .buffer)
 unfolding create
 create-accepted buffer b count application ba major minor mediaType creationTime lastWrittenTime p e =
     let r = outcome-accepted _ _ _ _ p e in

@@ -26,8 +26,8 @@ use Rattle.format.specs.Demands.{Held, Additions, newEntries}
 use Rattle.format.proofs.Tests.{never, and-true}
 use Rattle.format.proofs.Lists.{Sized, length-flatten}
 use Rattle.format.proofs.Refusals.{answer-accepted}
-use Rattle.format.proofs.Numbers.{Numbered, inside-number, number-inside, number-is, address-displaced}
-use Rattle.format.proofs.Checks.{Sound, SectorOk, read-ok, read-inside, entry-bytes}
+use Rattle.format.proofs.Numbers.{Numbered, inside-number, address-displaced}
+use Rattle.format.proofs.Checks.{Sound, SectorOk, read-ok, read-numbered, entry-bytes}
 use Rattle.format.proofs.Opens.{opened-as}
 use Rattle.format.proofs.Addresses.{length-numbers}
 use Rattle.format.proofs.KeptEntries.{reindexed-forth, reindexed-back}
@@ -48,13 +48,12 @@ module _ (img : List ℕ) (s : Sound img (indexOffset img)) where
   disc-some d n e =
       let f = onDisc-found img t d n e in
       let a : ℤ = negℤ (pos (t .negative)) +ℤ pos n in
-      let m : Numbered t a n = record { is = address-displaced t a n refl; inside = f .inside } in
+      let m : Numbered t a n = record { is = address-displaced t a (pos n) refl; inside = f .inside } in
       let good : SectorOk img (entries img (indexOffset img)) t n = ⊎-elim (λ w. absurd (never w (f .written))) (λ q. q) (s .sectors n (f .inside)) in
       record {
         address = a;
         reads =
-            read-inside img (indexOffset img) (s .opens) a (number-inside t a n m) ∙ rw (number-is t a n m) (entry-bytes img (indexOffset img) n good)
-            ∙ ap accepted (f .bytes);
+            read-numbered img (indexOffset img) (s .opens) a n m ∙ entry-bytes img (indexOffset img) n good ∙ ap accepted (f .bytes);
       }
 
   disc-none : (d : List ℕ) → onDisc img t d ≡ none → ¬ Held img d

@@ -17,14 +17,15 @@ use Rattle.format.specs.Reading.{readAt, read}
 use Rattle.format.specs.Writing.{longestBuffer, Outcome, placed, setHeader}
 use Rattle.format.specs.Committing.{append, commit}
 use Rattle.format.specs.RollingBack.{rollback}
-use Rattle.format.specs.Histories.{Call, commits, rollsBack, Point, Moment, reads, ReadTheSame, pointNow, started, outcomeOf, pointsAfter, momentAfter, after, atEnd, Throughout, end, made, Permitted}
+use Rattle.format.specs.Histories.{Start, creates, imports, startOn, OfBytes, Call, commits, rollsBack, Point, Moment, reads, ReadTheSame, pointNow, started, outcomeOf, pointsAfter, momentAfter, after, atEnd, Throughout, end, made, Permitted}
 use Rattle.format.specs.Demands.{ReturnsTo, Unchanged, Effect, Promised, Distinct, nothing, fresh, Kept, Demand3}
 use Rattle.format.proofs.Lists.{all-map}
 use Rattle.format.proofs.Checks.{Sound, rollback-ok}
 use Rattle.format.proofs.Agree.{Agree, agree-refl, agree-trans, sound-agree, reads-agree}
 use Rattle.format.proofs.Buffers.{outcome-accepted, outcome-passes, outcome-refused, length-setHeader, bytes-setHeader, indexOffset-set, agree-set}
 use Rattle.format.proofs.Committed.{Committed, commit-accepted, demand-2-committing}
-use Rattle.format.proofs.Created.{Created, create-accepted}
+use Rattle.format.proofs.Created.{Started, create-accepted}
+use Rattle.format.proofs.Importing.{import-started}
 
 -- ---- the invariant
 -- the point's image is still there in x
@@ -77,9 +78,9 @@ module _ (m : Moment) (i : Inv m) where
       let y : List ℕ = take (m .used) new in
       let g : Agree (k .image) y = agree-trans (k .image) x y (k .agree) (agree-set (m .buffer) (m .used) (p .offset) time (i .inside)) in
       record {
-        accepts = ap (λ (w : Outcome). w .result) e;
+        accepts = ap (λ (w : Outcome Placed). w .result) e;
         same = λ a.
-            ap (λ (w : Outcome). reads (momentAfter m (rollsBack (p .offset) time) (w .result) (w .buffer)) a) e
+            ap (λ (w : Outcome Placed). reads (momentAfter m (rollsBack (p .offset) time) (w .result) (w .buffer)) a) e
             ∙ ap (λ n. readAt y n a) (indexOffset-set (m .buffer) (m .used) (p .offset) time low (i .inside) small)
             ∙ sym (reads-agree (k .image) y g (p .offset) (k .sound) a) ∙ k .disc a;
       }
@@ -175,7 +176,7 @@ kept m _ i (made {c = c} {cs = cs} h hs) =
     let r = kept (after m c) cs (inv-after m i c h) hs in
     record { promises = made (promised m i c) (r .promises); distinct = r .distinct }
 
-inv-started : (buffer : List ℕ) (p : Placed) → Created p buffer → Inv (started buffer p)
+inv-started : (buffer : List ℕ) (p : Placed) → Started p buffer → Inv (started buffer p)
 unfolding started
 inv-started buffer p c =
     record {
@@ -186,6 +187,12 @@ inv-started buffer p c =
       distinct = fresh done nothing;
     }
 
+start-accepted : (buffer : List ℕ) → IsBytes buffer → (s : Start) → OfBytes s → (p : Placed) → startOn buffer s .result ≡ accepted p → Started p (startOn buffer s .buffer)
+unfolding startOn OfBytes
+start-accepted buffer b (creates count application major minor mediaType creationTime lastWrittenTime) ba p e =
+    create-accepted buffer b count application ba major minor mediaType creationTime lastWrittenTime p e
+start-accepted buffer b (imports file size application major minor mediaType creationTime lastWrittenTime) h p e =
+    import-started buffer b file size application (h .1) major minor mediaType creationTime lastWrittenTime p e (h .0)
+
 pub demand-3 : Demand3
-demand-3 buffer b count application ba major minor mediaType creationTime lastWrittenTime p e calls h =
-    kept _ calls (inv-started _ p (create-accepted buffer b count application ba major minor mediaType creationTime lastWrittenTime p e)) h
+demand-3 buffer b s h p e calls permitted = kept _ calls (inv-started _ p (start-accepted buffer b s h p e)) permitted

@@ -22,6 +22,9 @@ pub mod Created
 pub mod Reading
 pub mod Ends
 pub mod Accepting
+pub mod Exporting
+pub mod Importing
+pub mod RoundTrip
 pub mod Leaving
 pub mod History
 mod Examples

@@ -1,11 +1,11 @@
 -- Laws of the lists that the definitions speak of.
 use mathlib.Core.List.{List, [], _∷_, _++_, map, flatten}
-use mathlib.Core.Path.{_≡_, refl, sym, _∙_}
-use Prim.Native.Nat.{ℕ, zero, suc, _*_, _<_}
-use native.Mathlib.Nat.{zero-mul, suc-mul, not-suc-le-zero, le-of-suc-le-suc}
+use mathlib.Core.Path.{_≡_, refl, sym, ap, _∙_}
+use Prim.Native.Nat.{ℕ, zero, suc, _+_, _*_, _≤_, _<_}
+use native.Mathlib.Nat.{add-zero, zero-mul, suc-mul, not-suc-le-zero, le-of-suc-le-suc}
 use native.Mathlib.Omega.{arith}
 use lib.ListN.{length, take, drop, getD, replicate, length-append}
-use Rattle.format.specs.Lists.{All, done, more}
+use Rattle.format.specs.Lists.{All, done, more, ofEach}
 
 -- ---- every member
 pub all-append : {A : Type 0} {P : A → Type 0} {a b : List A} → All P a → All P b → All P (a ++ b)
@@ -70,3 +70,33 @@ pub all-flatten : {P : ℕ → Type 0} {ls : List (List ℕ)} → All (All P) ls
 unfolding flatten
 all-flatten done = done
 all-flatten (more h hs) = all-append h (all-flatten hs)
+
+-- ---- made of each number
+module _ {A : Type 0} (f : ℕ → A) where
+  pub length-ofEach : (k i : ℕ) → length (ofEach f k i) ≡ k
+  unfolding ofEach
+  length-ofEach zero i = refl
+  length-ofEach (suc k) i = ap suc (length-ofEach k (suc i))
+
+  pub getD-ofEach : (d : A) (k i j : ℕ) → j < k → getD (ofEach f k i) j d ≡ f (i + j)
+  unfolding ofEach
+  getD-ofEach d zero i j h = absurd (not-suc-le-zero h)
+  getD-ofEach d (suc k) i zero h = ap f (sym (add-zero i))
+  getD-ofEach d (suc k) i (suc j) h =
+      let e : suc i + j ≡ i + suc j = omega arith in
+      getD-ofEach d k (suc i) j (le-of-suc-le-suc h) ∙ ap f e
+
+  pub all-ofEach : {P : A → Type 0} (k i : ℕ) → ((a : ℕ) → i ≤ a → a < i + k → P (f a)) → All P (ofEach f k i)
+  unfolding ofEach
+  all-ofEach zero i h = done
+  all-ofEach (suc k) i h = more (h i (omega arith) (omega arith)) (all-ofEach k (suc i) (λ a l b. h a (omega arith) (omega arith)))
+
+  -- a list by its members
+  pub ofEach-is : (d : A) (l : List A) (i : ℕ) → ((j : ℕ) → j < length l → f (i + j) ≡ getD l j d) → ofEach f (length l) i ≡ l
+  unfolding ofEach
+  ofEach-is d [] i h = refl
+  ofEach-is d (x ∷ l) i h =
+      let e : f i ≡ x = ap f (sym (add-zero i)) ∙ h 0 (omega arith) in
+      let es : ofEach f (length l) (suc i) ≡ l =
+      ofEach-is d l (suc i) (λ j k. let q : suc i + j ≡ i + suc j = omega arith in ap f q ∙ h (suc j) (omega arith)) in
+      λ j. e j ∷ es j

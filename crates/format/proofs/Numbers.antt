@@ -50,6 +50,10 @@ module _ (t : Opened) (a : ℤ) where
   unfolding outside lessThan _or_
   past-outside n e h = rw (e, le-ltb n 0 (omega arith), le-ltb n (t .count) h)
 
+  pub below-outside : (n : ℕ) → displaced t a ≡ negsuc n → outside t a ≡ true
+  unfolding outside lessThan _or_
+  below-outside n e = rw e
+
 -- ---- the sum by the sign of the address, which is so far from 0
 module _ (m : ℕ) where
   sum-up : (a : ℤ) → ltZ a (pos 0) ≡ false → a +ℤ pos m ≡ pos (natAbs a + m)
@@ -77,12 +81,12 @@ module _ (t : Opened) (a : ℤ) {n : ℕ} (far : n ≡ natAbs a) where
   unfolding outside displaced lessThan _or_
   displaced-below s h = rw (sum-below (t .negative) a s (omega arith))
 
--- ---- the address of table entry n, n above the lowest, and no other
+-- ---- an address that is d from the lowest, and no other: that of table entry n is n above it
 module _ (t : Opened) where
-  pub address-displaced : (a : ℤ) (n : ℕ) → a ≡ negℤ (pos (t .negative)) +ℤ pos n → displaced t a ≡ pos n
+  pub address-displaced : (a d : ℤ) → a ≡ negℤ (pos (t .negative)) +ℤ d → displaced t a ≡ d
   unfolding displaced
-  address-displaced a n e =
-      ap (λ (z : ℤ). z +ℤ pos (t .negative)) (e ∙ +ℤ-comm (negℤ (pos (t .negative))) (pos n)) ∙ -ℤ-+ℤ-cancel (pos n) (pos (t .negative))
+  address-displaced a d e =
+      ap (λ (z : ℤ). z +ℤ pos (t .negative)) (e ∙ +ℤ-comm (negℤ (pos (t .negative))) d) ∙ -ℤ-+ℤ-cancel d (pos (t .negative))
 
   pub displaced-same : (a b : ℤ) → displaced t a ≡ displaced t b → a ≡ b
   unfolding displaced

@@ -16,19 +16,22 @@ use Rattle.format.specs.declared.Verdict.{Verdict}
 use Rattle.format.specs.declared.Verdict.the-variants.{Passes, Refuses}
 use Rattle.format.specs.Refusals.{refusal, row, _then_}
 use Rattle.format.specs.Layouts.{indexOffset, indexHeaderLength, entryCount, entryLength, entries}
-use Rattle.format.specs.Opening.{headerVerdict, indexVerdict, entryVerdict, entriesVerdict, oneOf, oneVerdict, tableAt, extentVerdict, payloadVerdict, tableVerdict, openVerdict, opened, sectorCount}
+use Rattle.format.specs.Opening.{headerVerdict, indexVerdict, entryVerdict, entriesVerdict, oneOf, oneVerdict, tableAt, extentVerdict, payloadVerdict, tableVerdict, openVerdict, Opened, opened, sectorCount}
 use Rattle.format.specs.Reading.{entryNumber, unknownStatus, pointerVerdict, sectorVerdict, addressVerdict, readVerdict, locate}
 use Rattle.format.specs.Writing.{bufferVerdict, isSecond, writableVerdict}
 use Rattle.format.specs.Creating.{createVerdict, create}
 use Rattle.format.specs.Committing.{Appended, argumentsVerdict, anyOutside, otherThan21, sectorsVerdict, discVerdict, commitVerdict, append, commit}
 use Rattle.format.specs.RollingBack.{rollbackVerdict, rollback}
-use Rattle.format.specs.Demands.{FromTo, openingNumber, readingNumber, creatingNumber, committingNumber, rollingBackNumber, PlaceFor, atHeader, atIndex, atEntry, atTable, atTableEntry, atBlock, atNone, NoSector, Demand1Refusals, SecondRefused}
+use Rattle.format.specs.Exporting.{sizeVerdict, flatVerdict, exportVerdict, export}
+use Rattle.format.specs.Importing.{importVerdict}
+use Rattle.format.specs.Demands.{FromTo, openingNumber, readingNumber, creatingNumber, committingNumber, rollingBackNumber, exportingNumber, importingNumber, PlaceFor, atHeader, atIndex, atEntry, atTable, atTableEntry, atBlock, atNone, NoSector, Demand1Refusals, SecondRefused}
 use Rattle.format.specs.Facts.{OpensWith}
 use Rattle.format.proofs.Tests.{same-iff, choose-cases}
 use Rattle.format.proofs.Refusals.{Says, row-says, off-says, then-says, after-says, first-says, says-refused, says-also, Gives, says-not, row-gives, then-gives, gives-then, answer-refused}
 use Rattle.format.proofs.Checks.{first-second, item-says, buffer-ok, arguments-ok, writable-ok, first-known}
 use Rattle.format.proofs.Buffers.{outcome-refused, outcome-refuses}
 use Rattle.format.proofs.Opens.{opens-with}
+use Rattle.format.proofs.Importing.{import-refused}
 
 -- a number of these, at its place
 abbrev Listed : List ℕ → ℕ → (ℕ → Type 0) → (ℕ → Type 0) → ℕ → ℕ → Type 0
@@ -76,7 +79,7 @@ module _ (img : List ℕ) (o : ℕ) (LookedAt : ℕ → Type 0) where
   extent-says Second t = then-says Low _ _ (says _ 70 (omega arith)) (then-says Low _ _ (says _ 71 (omega arith)) (says _ 72 (omega arith)))
     where
       says : (b : Bool) (n : ℕ) → FromTo 70 72 n → Says Low (row b (refusal n 0))
-      says b n f = row-says Low b (refusal n 0) (inr f, atNone (inr (inr (omega arith))))
+      says b n f = row-says Low b (refusal n 0) (inr f, atNone (inr (inr (inr (omega arith)))))
 
   table-says : (k : TableKind) → Says Low (tableVerdict img k (tableAt img o))
   unfolding tableVerdict payloadVerdict
@@ -137,7 +140,7 @@ read-says img o a =
     then-says _ _ _ (open-also img o _ _)
     (then-says _ _ _ (row-says _ _ (refusal 20 0) (inr (inl (omega arith)), atNone (inl (omega arith))))
     (sector-says img o _ readingNumber (λ n f. inr (inl (omega arith))) _ refl
-    (row-says _ _ (refusal 73 0) (inr (inr refl), atNone (inr (inr (omega arith)))))))
+    (row-says _ _ (refusal 73 0) (inr (inr refl), atNone (inr (inr (inr (omega arith))))))))
 
 create-says : (buffer : List ℕ) (count : ℕ) (application : List ℕ) → Says (λ n p. creatingNumber n × (p ≡ 0)) (createVerdict buffer count application)
 unfolding createVerdict
@@ -149,7 +152,7 @@ create-says buffer count application =
 -- 74, of a call that gives it
 writable-says : (img : List ℕ) (o : ℕ) (LookedAt : ℕ → Type 0) (N : ℕ → Type 0) → Says (Listed img o LookedAt (λ n. openingNumber n ⊎ ((n ≡ 74) ⊎ N n))) (writableVerdict img o)
 unfolding writableVerdict
-writable-says img o LookedAt N = then-says _ _ _ (open-also img o LookedAt _) (row-says _ _ (refusal 74 0) (inr (inl refl), atNone (inr (inr (omega arith)))))
+writable-says img o LookedAt N = then-says _ _ _ (open-also img o LookedAt _) (row-says _ _ (refusal 74 0) (inr (inl refl), atNone (inr (inr (inr (omega arith))))))
 
 -- 22 to 27
 not-21 : (n : ℕ) → FromTo 21 27 n → n ≢ 21 → FromTo 22 27 n
@@ -190,14 +193,41 @@ unfolding rollbackVerdict
 rollback-says buffer used offset =
     then-says _ _ _ (buffer-says _ _ _ _ (inr (inr (omega arith))) (inr (inr (omega arith))) buffer used) (writable-says _ offset _ _)
 
+-- every sector of the disc, 21 too; 40 and 41
+export-says : (img : List ℕ) (o : ℕ) (out : List ℕ) → Says (Listed img o (OnDisc img o) exportingNumber) (exportVerdict img o out)
+unfolding exportVerdict flatVerdict sizeVerdict
+export-says img o out =
+    let t : Opened = opened img o in
+    let Exporting : ℕ → ℕ → Type 0 = Listed img o (OnDisc img o) exportingNumber in
+    then-says Exporting _ _ (open-also img o (OnDisc img o) _)
+    (then-says Exporting _ _
+    (first-says Exporting _ (t .count) _ 0 (omega arith) (λ i h.
+    sector-says img o (OnDisc img o) exportingNumber (λ n f. inr (inl f)) i h (row-says Exporting _ (refusal 73 0) (inr (inr (inl refl)), atNone (inr (inr (inr (omega arith))))))))
+    (then-says Exporting _ _
+    (first-says Exporting _ (t .count) _ 0 (omega arith) (λ i h. row-says Exporting _ (refusal 40 0) (inr (inr (inr (omega arith))), atNone (inr (inr (inl (omega arith)))))))
+    (row-says Exporting _ (refusal 41 0) (inr (inr (inr (omega arith))), atNone (inr (inr (inl (omega arith))))))))
+
+import-says : (buffer file : List ℕ) (size : ℕ) (application : List ℕ) (full : Bool)
+    → Says (λ n p. importingNumber n × (p ≡ 0)) (importVerdict buffer file size application then row full (refusal 35 0))
+unfolding importVerdict
+import-says buffer file size application full =
+    then-says _ _ _
+    (then-says _ _ _ (row-says _ _ (refusal 31 0) (inl (omega arith), refl))
+    (then-says _ _ _ (row-says _ _ (refusal 30 0) (inl (omega arith), refl))
+    (then-says _ _ _ (row-says _ _ (refusal 42 0) (inr (inl refl), refl)) (row-says _ _ (refusal 33 0) (inr (inr (inl refl)), refl)))))
+    (row-says _ _ (refusal 35 0) (inr (inr (inr refl)), refl))
+
 pub demand-1-refusals : Demand1Refusals
-unfolding sectorCount locate create commit append rollback
+unfolding sectorCount locate create commit append rollback export
 demand-1-refusals = record {
   counting = λ img r e. says-refused _ _ r (open-says img _ NoSector) (answer-refused _ _ r e);
   locating = λ img a r e. says-refused _ _ r (read-says img _ a) (answer-refused _ _ r e);
   creating = λ buffer count application major minor mediaType creationTime lastWrittenTime r e. says-refused _ _ r (create-says buffer count application) (outcome-refused _ _ _ _ r e .0);
   committing = λ buffer used addresses size sectors time r e. says-refused _ _ r (commit-says buffer used addresses size sectors _) (outcome-refused _ _ _ _ r e .0);
   rollingBack = λ buffer used offset time r e. says-refused _ _ r (rollback-says buffer used offset) (outcome-refused _ _ _ _ r e .0);
+  exporting = λ img out r e. says-refused _ _ r (export-says img _ out) (outcome-refused _ _ _ _ r e .0);
+  importing = λ buffer file size application major minor mediaType creationTime lastWrittenTime r e.
+      says-refused _ _ r (import-says buffer file size application _) (import-refused buffer file size application major minor mediaType creationTime lastWrittenTime r e .0);
 }
 
 -- ---- 74: no check before it gives it, and none behind it
@@ -231,7 +261,7 @@ module _ (img : List ℕ) (o : ℕ) where
       (first-says Not-74 _ (opened img o .count) _ 0 (omega arith) (λ i h.
       other-says Not-74 _
       (says-also _ (λ n p s d. s .0)
-      (sector-says img o (λ n. Unit {0}) (λ n. n ≢ 74) (λ n f e. omega arith) i tt (row-says _ _ (refusal 73 0) ((λ e. omega arith), atNone (inr (inr (omega arith))))))))))
+      (sector-says img o (λ n. Unit {0}) (λ n. n ≢ 74) (λ n f e. omega arith) i tt (row-says _ _ (refusal 73 0) ((λ e. omega arith), atNone (inr (inr (inr (omega arith)))))))))))
 
   disc-74 : (addresses : List ℤ) → (discVerdict img o addresses ≡ Refuses (refusal 74 0)) ↔ OpensWith img o Second
   unfolding discVerdict

@@ -9,7 +9,7 @@ use native.Mathlib.Nat.{eq-or-lt-of-le, add-zero, zero-mul, suc-mul, lt-of-not-l
 use native.Mathlib.Omega.{arith}
 use lib.ListN.{length, take, drop, getD, length-append, length-take, length-drop, length-map, List·getD-append}
 use lib.Pow.{pow-mono}
-use lib.Seq.{drop-drop, getD-append-seam}
+use lib.Seq.{take-add, take-at, drop-at, drop-drop, getD-append-seam}
 use borrow.Author.Tests.{not-true}
 use Rattle.fields.specs.Bytes.{part, equal}
 use Rattle.fields.proofs.Equal.{equal-true, equal-refl}
@@ -129,6 +129,21 @@ pub length-pieces : (k size : ℕ) (l : List ℕ) → length (pieces k size l) �
 unfolding pieces
 length-pieces zero size l = refl
 length-pieces (suc k) size l = ap suc (length-pieces k size (drop size l))
+
+-- one after another they are the list again, and those of lists of one size, one after another, are these lists
+pub flatten-pieces : (n size : ℕ) (l : List ℕ) → flatten (pieces n size l) ≡ take (n * size) l
+unfolding pieces flatten
+flatten-pieces zero size l = rw zero-mul
+flatten-pieces (suc n) size l =
+    let e : size + n * size ≡ suc n * size = omega (arith, suc-mul n size) in
+    ap (λ (r : List ℕ). take size l ++ r) (flatten-pieces n size (drop size l)) ∙ sym (take-add size (n * size) l) ∙ ap (λ (m : ℕ). take m l) e
+
+pub pieces-flatten : (size : ℕ) (ls : List (List ℕ)) (rest : List ℕ) → All (Sized size) ls → pieces (length ls) size (flatten ls ++ rest) ≡ ls
+unfolding pieces flatten
+pieces-flatten size _ rest done = refl
+pieces-flatten size _ rest (more {a = l} {l = ls} h hs) =
+    let e : (l ++ flatten ls) ++ rest ≡ l ++ (flatten ls ++ rest) = append-assoc l (flatten ls) rest in
+    rw (e, take-at l (flatten ls ++ rest) size h, drop-at l (flatten ls ++ rest) size h, pieces-flatten size ls rest hs)
 
 -- ---- where a handed-in sector's bytes are, once `items` are stored in a block at `block`
 pub data Source (img : List ℕ) (t : Opened) (block : ℕ) (items : List (List ℕ)) (sector : List ℕ) : Pointer → Type 0 where

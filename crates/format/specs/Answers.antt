@@ -5,6 +5,8 @@ use Prim.Native.Nat.{ℕ}
 use Rattle.format.specs.declared.AddressRange.{AddressRange}
 use Rattle.format.specs.declared.Counted.{Counted}
 use Rattle.format.specs.declared.Counted.the-variants as count
+use Rattle.format.specs.declared.Exported.{Exported}
+use Rattle.format.specs.declared.Exported.the-variants as export
 use Rattle.format.specs.declared.Located.{Located}
 use Rattle.format.specs.declared.Located.the-variants as locate
 use Rattle.format.specs.declared.Place.{Place}
@@ -32,6 +34,13 @@ unfoldable pub updated : Updated → Answer Placed
 updated (update.To p) = accepted p
 updated (update.Refused r) = refused r
 
+unfoldable pub exported : Exported → Answer ℕ
+exported (export.Length n) = accepted n
+exported (export.Refused r) = refused r
+
 -- a call that writes: its answer, and every byte of the buffer afterwards
-unfoldable pub answered : Updated → List ℕ → Outcome
+unfoldable pub answered : Updated → List ℕ → Outcome Placed
 answered u buffer = record { result = updated u; buffer = buffer }
+
+unfoldable pub answeredLength : Exported → List ℕ → Outcome ℕ
+answeredLength e out = record { result = exported e; buffer = out }

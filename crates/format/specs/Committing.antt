@@ -8,6 +8,7 @@ use lib.ListN.{length, take, drop, getD}
 use lib.IntN.{ℤ}
 use Rattle.fields.specs.Bytes.{overwrite, toLe, equal}
 use Rattle.format.specs.declared.Entry.{Entry}
+use Rattle.format.specs.declared.Placed.{Placed}
 use Rattle.format.specs.declared.Pointer.{Pointer}
 use Rattle.format.specs.declared.Verdict.{Verdict}
 use Rattle.format.specs.declared.Verdict.the-variants.{Passes, Refuses}
@@ -224,7 +225,7 @@ appendedBytes new = new .block ++ (new .table ++ new .index)
 
 -- "Then indexOffset and lastWrittenTime are set. No other byte changes below the old `used` or from the new one on. The result is the
 -- new `used` and the new index's offset"
-unfoldable pub append : List ℕ → ℕ → Verdict → Appended → ℕ → Outcome
+unfoldable pub append : List ℕ → ℕ → Verdict → Appended → ℕ → Outcome Placed
 append buffer used verdict new time =
     outcome buffer verdict (placed (usedAfter used new) (indexStart used new))
     (setHeader (overwrite buffer used (appendedBytes new)) (indexStart used new) time)
@@ -236,7 +237,7 @@ commitVerdict buffer used addresses size sectors new =
     then discVerdict (take used buffer) (indexOffset (take used buffer)) addresses
     then row (below (length buffer) (usedAfter used new)) (refusal 35 0)
 
-unfoldable pub commit : List ℕ → ℕ → List ℤ → ℕ → List ℕ → ℕ → Outcome
+unfoldable pub commit : List ℕ → ℕ → List ℤ → ℕ → List ℕ → ℕ → Outcome Placed
 commit buffer used addresses size sectors time =
     let img = take used buffer in
     let o = indexOffset img in

@@ -5,6 +5,7 @@ use Prim.Native.Nat.{ℕ, _+_, _*_}
 use lib.ListN.{length, replicate}
 use Rattle.fields.specs.Bytes.{overwrite}
 use Rattle.format.specs.declared.Entry.{Entry}
+use Rattle.format.specs.declared.Placed.{Placed}
 use Rattle.format.specs.declared.Verdict.{Verdict}
 use Rattle.format.specs.Tests.{same, differs, below, _or_}
 use Rattle.format.specs.Refusals.{refusal, row, _then_}
@@ -35,7 +36,7 @@ createVerdict buffer count application =
     then row (below (length buffer) (createdUsed count)) (refusal 35 0)
 
 -- "Later bytes of the buffer don't change."
-unfoldable pub create : List ℕ → ℕ → List ℕ → ℕ → ℕ → ℕ → ℕ → ℕ → Outcome
+unfoldable pub create : List ℕ → ℕ → List ℕ → ℕ → ℕ → ℕ → ℕ → ℕ → Outcome Placed
 create buffer count application major minor mediaType creationTime lastWrittenTime =
     outcome buffer (createVerdict buffer count application) (placed (createdUsed count) (createdIndexAt count))
     (overwrite buffer 0 (createdBytes count application major minor mediaType creationTime lastWrittenTime))

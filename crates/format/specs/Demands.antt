@@ -6,7 +6,7 @@ use mathlib.Core.Path.{_≡_}
 use Prim.Native.Nat.{ℕ, _+_, _*_, _≤_, _<_}
 use lib.ListN.{length, take, getD}
 use lib.IntN.{ℤ, pos, _+ℤ_}
-use Rattle.fields.specs.Bytes.{part, toLe}
+use Rattle.fields.specs.Bytes.{part, toLe, overwrite}
 use Rattle.format.specs.declared.AddressRange.{AddressRange}
 use Rattle.format.specs.declared.Entry.{Entry}
 use Rattle.format.specs.declared.Place.{Place}
@@ -20,11 +20,13 @@ use Rattle.format.specs.Layouts.{indexOffset, indexHeaderLength, entryCo
 use Rattle.format.specs.Opening.{lacks, isType, tableAt, opened, sectorCount}
 use Rattle.format.specs.Reading.{entryNumber, tableEntryAt, pointerAt, read, locate}
 use Rattle.format.specs.Answers.{bytesRead}
-use Rattle.format.specs.Writing.{placed}
+use Rattle.format.specs.Writing.{Outcome, placed}
 use Rattle.format.specs.Creating.{create}
 use Rattle.format.specs.Committing.{pieces, commit}
 use Rattle.format.specs.RollingBack.{rollback}
-use Rattle.format.specs.Histories.{Call, commits, rollsBack, Point, Moment, reads, ReadTheSame, started, outcomeOf, after, atEnd, Throughout, Permitted}
+use Rattle.format.specs.Exporting.{export}
+use Rattle.format.specs.Importing.{import}
+use Rattle.format.specs.Histories.{Start, startOn, OfBytes, Call, commits, rollsBack, Point, Moment, reads, ReadTheSame, started, outcomeOf, after, atEnd, Throughout, Permitted}
 use Rattle.format.specs.Facts.{Opens, OpensWith, HasEntry, EntryNames, CreateOk, BufferOk, ArgumentsOk, DiscOk, Stores, Reindexed, blockLengthFor, blockEntry}
 
 -- ---- Demand 1: every call refuses by 01's numbers, and says where: "number and place". (That they are given in 01's order, and exactly when their
@@ -47,6 +49,12 @@ committingNumber n = openingNumber n ⊎ (n ≡ 74) ⊎ (n ≡ 20) ⊎ FromTo 22
 abbrev pub rollingBackNumber : ℕ → Type 0
 rollingBackNumber n = openingNumber n ⊎ (n ≡ 74) ⊎ FromTo 31 32 n
 
+abbrev pub exportingNumber : ℕ → Type 0
+exportingNumber n = openingNumber n ⊎ FromTo 21 27 n ⊎ (n ≡ 73) ⊎ FromTo 40 41 n
+
+abbrev pub importingNumber : ℕ → Type 0
+importingNumber n = FromTo 30 31 n ⊎ (n ≡ 42) ⊎ (n ≡ 33) ⊎ (n ≡ 35)
+
 -- 1/13's list: the place of each number, of a call that opens the image at o and looks at such table entries
 pub data PlaceFor (img : List ℕ) (o : ℕ) (LookedAt : ℕ → Type 0) : ℕ → ℕ → Type 0 where
   -- "0 for 1, 2 and 3"
@@ -62,7 +70,7 @@ pub data PlaceFor (img : List ℕ) (o : ℕ) (LookedAt : ℕ → Type 0) : ℕ �
   -- "the block's offset for 23 to 27"
   atBlock : {n : ℕ} (i : ℕ) → FromTo 23 27 n → LookedAt i → PlaceFor img o LookedAt n (pointerAt img (opened img o) i .block .0)
   -- "0 for all others"
-  atNone : {n : ℕ} → FromTo 20 21 n ⊎ FromTo 30 35 n ⊎ FromTo 70 74 n → PlaceFor img o LookedAt n 0
+  atNone : {n : ℕ} → FromTo 20 21 n ⊎ FromTo 30 35 n ⊎ FromTo 40 42 n ⊎ FromTo 70 74 n → PlaceFor img o LookedAt n 0
 
 -- where the answer is a refusal, its number and its place are such
 abbrev pub RefusesBy : {A : Type 0} → (ℕ → Type 0) → (ℕ → ℕ → Type 0) → Answer A → Type 0
@@ -83,6 +91,10 @@ pub record Demand1Refusals : Type 0 where
       RefusesBy committingNumber (PlaceFor img (indexOffset img) (λ a. a < opened img (indexOffset img) .count)) (commit buffer used addresses size sectors time .result)
   pub rollingBack : (buffer : List ℕ) (used offset time : ℕ)
       → RefusesBy rollingBackNumber (PlaceFor (take used buffer) offset NoSector) (rollback buffer used offset time .result)
+  pub exporting : (img out : List ℕ)
+      → RefusesBy exportingNumber (PlaceFor img (indexOffset img) (λ n. n < opened img (indexOffset img) .count)) (export img out .result)
+  pub importing : (buffer file : List ℕ) (size : ℕ) (application : List ℕ) (major minor mediaType creationTime lastWrittenTime : ℕ)
+      → RefusesBy importingNumber (λ n p. p ≡ 0) (import buffer file size application major minor mediaType creationTime lastWrittenTime .result)
 
 -- "Each refusal .. writes nothing": every byte of the buffer is as it was
 pub record Demand1Unchanged : Type 0 where
@@ -93,6 +105,10 @@ pub record Demand1Unchanged : Type 0 where
       → commit buffer used addresses size sectors time .result ≡ refused r → commit buffer used addresses size sectors time .buffer ≡ buffer
   pub rollingBack : (buffer : List ℕ) (used offset time : ℕ) (r : Refusal)
       → rollback buffer used offset time .result ≡ refused r → rollback buffer used offset time .buffer ≡ buffer
+  pub exporting : (img out : List ℕ) (r : Refusal) → export img out .result ≡ refused r → export img out .buffer ≡ out
+  pub importing : (buffer file : List ℕ) (size : ℕ) (application : List ℕ) (major minor mediaType creationTime lastWrittenTime : ℕ) (r : Refusal)
+      → import buffer file size application major minor mediaType creationTime lastWrittenTime .result ≡ refused r
+      → import buffer file size application major minor mediaType creationTime lastWrittenTime .buffer ≡ buffer
 
 -- ---- "a call to which none applies is accepted": each call is accepted, and with which value, exactly if these facts hold. No check is mentioned
 -- in them: only places, fields, checksums, index entries and lengths (and, of a sector that a disc holds, that some address reads as it).
@@ -145,6 +161,33 @@ pub record RollbackOk (buffer : List ℕ) (used offset : ℕ) : Type 0 where
   pub bufferOk : BufferOk buffer used
   pub opens : OpensWith (take used buffer) offset First
 
+-- exporting: each table entry names an item, all are of one size, and n is the length of all
+pub record ExportOk (img out : List ℕ) (n : ℕ) : Type 0 where
+  pub kind : TableKind
+  pub table : ℕ
+  pub opens : Opens img (indexOffset img) kind table
+  pub names : (i : ℕ) → i < tableCount img kind table → EntryNames img (indexOffset img) kind table i
+  pub size : ℕ
+  pub sized : (i : ℕ) (h : i < tableCount img kind table) → sectorSize img (names i h .block) ≡ size
+  pub whole : n ≡ tableCount img kind table * size
+  pub room : n ≤ length out
+
+-- importing: 1 to 65,536 whole sectors, and the image has room: a new one, then a block of the sectors that are stored, of which none is on the new disc,
+-- a table, and an index of two entries
+pub record ImportOk (buffer file : List ℕ) (size : ℕ) (application : List ℕ) (p : Placed) : Type 0 where
+  pub long : length buffer ≤ 4294967296
+  pub some : size ≢ 0
+  pub small : size ≤ 65536
+  pub count : ℕ
+  pub counted : FromTo 1 65536 count
+  pub whole : length file ≡ count * size
+  pub sized : length application ≡ 64
+  pub stored : List (List ℕ)
+  pub stores : Stores (λ (d : List ℕ). ⊥) [] (pieces count size file) stored
+  pub index : p .index .0 ≡ 189 + 8 * count + (36 + length stored * size) + (49 + 8 * count)
+  pub end : p .used ≡ p .index .0 + (20 + 16 * 2)
+  pub room : p .used ≤ length buffer
+
 pub record Demand1Accepted : Type 0 where
   pub counting : (img : List ℕ) (range : AddressRange) → (sectorCount img ≡ accepted range) ↔ HasSectors img range
   pub locating : (img : List ℕ) (a : ℤ) (p : Place) → (locate img a ≡ accepted p) ↔ NamesItem img a p
@@ -155,6 +198,9 @@ pub record Demand1Accepted : Type 0 where
       → (commit buffer used addresses size sectors time .result ≡ accepted p) ↔ CommitOk buffer used addresses size sectors p
   pub rollingBack : (buffer : List ℕ) (used offset time : ℕ) (p : Placed)
       → (rollback buffer used offset time .result ≡ accepted p) ↔ (RollbackOk buffer used offset × (p ≡ placed used offset))
+  pub exporting : (img out : List ℕ) (n : ℕ) → (export img out .result ≡ accepted n) ↔ ExportOk img out n
+  pub importing : (buffer file : List ℕ) (size : ℕ) (application : List ℕ) (major minor mediaType creationTime lastWrittenTime : ℕ) (p : Placed)
+      → (import buffer file size application major minor mediaType creationTime lastWrittenTime .result ≡ accepted p) ↔ ImportOk buffer file size application p
 
 -- ---- what an accepted call leaves as it was: all of these bytes
 pub record Leaves (before after : List ℕ) (Untouched : ℕ → Type 0) : Type 0 where
@@ -184,6 +230,11 @@ pub record WritesOnly : Type 0 where
       → rollback buffer used offset time .result ≡ accepted p
       → let after = rollback buffer used offset time .buffer in
       Leaves buffer after Elsewhere × HeaderSet after offset time
+  pub exporting : (img out : List ℕ) (n : ℕ) → export img out .result ≡ accepted n → Leaves out (export img out .buffer) (λ i. n ≤ i)
+  pub importing : (buffer file : List ℕ) (size : ℕ) (application : List ℕ) (major minor mediaType creationTime lastWrittenTime : ℕ) (p : Placed)
+      → import buffer file size application major minor mediaType creationTime lastWrittenTime .result ≡ accepted p
+      → let after = import buffer file size application major minor mediaType creationTime lastWrittenTime .buffer in
+      Leaves buffer after (λ i. p .used ≤ i) × HeaderSet after (p .index .0) lastWrittenTime
 
 -- ---- 11/13: "Commit, rollback, .. are refused" on a table of the second kind, with 74, "(rollback: at its offset), after opening's": exactly if the image
 -- opens with such a table and no check before it applies
@@ -265,6 +316,61 @@ Demand2Committing =
     → commit buffer used addresses size sectors time .result ≡ accepted p
     → CommitKept buffer used addresses size sectors p (commit buffer used addresses size sectors time .buffer)
 
+-- ---- 4/13, flat sector files. `file` is the flat file of an image, whose sectors have this size: "all sectors by rising address"
+pub record FlatFile (img file : List ℕ) (size : ℕ) : Type 0 where
+  pub range : AddressRange
+  pub sectors : sectorCount img ≡ accepted range
+  pub whole : length file ≡ range .count * size
+  pub each : (i : ℕ) → i < range .count → read img (range .lowest .0 +ℤ pos i) ≡ accepted (part file (i * size) size)
+
+-- an accepted export that answered n: the first n bytes are the flat file
+pub record ExportedFile (img : List ℕ) (n : ℕ) (after : List ℕ) : Type 0 where
+  pub size : ℕ
+  pub file : FlatFile img (take n after) size
+
+abbrev pub FlatExporting : Type 0
+FlatExporting = (img out : List ℕ) (n : ℕ) → export img out .result ≡ accepted n → ExportedFile img n (export img out .buffer)
+
+-- an accepted import of a flat file: the image is one whose flat file it is, from address 0 on
+pub record ImportedDisc (file : List ℕ) (size : ℕ) (img : List ℕ) : Type 0 where
+  pub flat : FlatFile img file size
+  pub lowest : flat .range .lowest .0 ≡ pos 0
+
+abbrev pub FlatImporting : Type 0
+FlatImporting =
+    (buffer : List ℕ) → IsBytes buffer → (file : List ℕ) (size : ℕ) (application : List ℕ) → IsBytes application
+    → (major minor mediaType creationTime lastWrittenTime : ℕ) (p : Placed)
+    → let imported = import buffer file size application major minor mediaType creationTime lastWrittenTime in
+    imported .result ≡ accepted p → ImportedDisc file size (take (p .used) (imported .buffer))
+
+-- "Given room, an accepted import, exported, gives the same bytes"
+abbrev pub ImportedExported : Type 0
+ImportedExported =
+    (buffer : List ℕ) → IsBytes buffer → (file : List ℕ) (size : ℕ) (application : List ℕ) → IsBytes application
+    → (major minor mediaType creationTime lastWrittenTime : ℕ) (p : Placed)
+    → let imported = import buffer file size application major minor mediaType creationTime lastWrittenTime in
+    imported .result ≡ accepted p → (out : List ℕ) → length file ≤ length out
+    → export (take (p .used) (imported .buffer)) out ≡ record { result = accepted (length file); buffer = overwrite out 0 file }
+
+-- an import is accepted, and every address reads as in img, the lowest as 0: 11/13, "such a disc comes back with its lowest address as 0 and the others
+-- following"
+pub record ImportedBack (img : List ℕ) (lowest : ℤ) (imported : Outcome Placed) : Type 0 where
+  pub answer : Placed
+  pub accepts : imported .result ≡ accepted answer
+  pub same : (a : ℤ) → read (take (answer .used) (imported .buffer)) a ≡ read img (lowest +ℤ a)
+
+-- "an accepted export of 1 to 65,536 sectors of at most 65,536 bytes, imported at their size, gives a disc with the same sectors", where the buffer has room,
+-- that is, where the import is not refused with 35
+abbrev pub ExportedImported : Type 0
+ExportedImported =
+    (img out : List ℕ) (n : ℕ) → export img out .result ≡ accepted n
+    → let file = take n (export img out .buffer) in
+    (size : ℕ) (f : FlatFile img file size) → FromTo 1 65536 (f .range .count) → size ≤ 65536
+    → (buffer : List ℕ) → IsBytes buffer → length buffer ≤ 4294967296 → (application : List ℕ) → IsBytes application → length application ≡ 64
+    → (major minor mediaType creationTime lastWrittenTime : ℕ)
+    → let imported = import buffer file size application major minor mediaType creationTime lastWrittenTime in
+    imported .result ≢ refused (refusal 35 0) → ImportedBack img (f .range .lowest .0) imported
+
 -- ---- Demand 3: one claim over the whole list.
 -- (a) A rollback, made at m, to the offset of a point: it is accepted, it answers `used` and the offset, and right after it every address
 -- reads the same bytes, or the same refusal, number and place, as at the point
@@ -299,12 +405,9 @@ pub record Kept (start : Moment) (calls : List Call) : Type 0 where
   pub promises : Throughout Promised start calls
   pub distinct : Distinct (atEnd start calls .points)
 
--- buffer and application are bytes, as all that is lent is
+-- what is lent is bytes
 abbrev pub Demand3 : Type 0
 Demand3 =
-    (buffer : List ℕ) → IsBytes buffer → (count : ℕ) (application : List ℕ) → IsBytes application
-    → (major minor mediaType creationTime lastWrittenTime : ℕ) (p : Placed)
-    → create buffer count application major minor mediaType creationTime lastWrittenTime .result ≡ accepted p
-    → (calls : List Call)
-    → Throughout Permitted (started (create buffer count application major minor mediaType creationTime lastWrittenTime .buffer) p) calls
-    → Kept (started (create buffer count application major minor mediaType creationTime lastWrittenTime .buffer) p) calls
+    (buffer : List ℕ) → IsBytes buffer → (start : Start) → OfBytes start → (p : Placed) → startOn buffer start .result ≡ accepted p
+    → (calls : List Call) → Throughout Permitted (started (startOn buffer start .buffer) p) calls
+    → Kept (started (startOn buffer start .buffer) p) calls

@@ -1,5 +1,6 @@
 -- Demand 3's history (01's own term): "a list of calls on one buffer, of any length, also empty. It starts with the buffer and the `used`
--- that an accepted creation left and returned. Each call is a commit or a rollback whose other arguments are free."
+-- that an accepted creation left and returned. Each call is a commit or a rollback whose other arguments are free." 4/13: it "may start with an import, whose
+-- one returned offset counts": the offset that the creation in it returned is no point.
 use mathlib.Core.List.{List, [], _∷_}
 use mathlib.Core.Path.{_≡_}
 use Prim.Native.Nat.{ℕ}
@@ -10,14 +11,32 @@ use Rattle.format.specs.Lists.{Any, IsBytes}
 use Rattle.format.specs.Refusals.{Answer, refused, accepted}
 use Rattle.format.specs.Reading.{read}
 use Rattle.format.specs.Writing.{Outcome}
+use Rattle.format.specs.Creating.{create}
 use Rattle.format.specs.Committing.{commit}
 use Rattle.format.specs.RollingBack.{rollback}
+use Rattle.format.specs.Importing.{import}
+
+-- how a history starts
+pub data Start : Type 0 where
+  creates : (count : ℕ) (application : List ℕ) (major minor mediaType creationTime lastWrittenTime : ℕ) → Start
+  imports : (file : List ℕ) (size : ℕ) (application : List ℕ) (major minor mediaType creationTime lastWrittenTime : ℕ) → Start
+
+unfoldable pub startOn : List ℕ → Start → Outcome Placed
+startOn buffer (creates count application major minor mediaType creationTime lastWrittenTime) =
+    create buffer count application major minor mediaType creationTime lastWrittenTime
+startOn buffer (imports file size application major minor mediaType creationTime lastWrittenTime) =
+    import buffer file size application major minor mediaType creationTime lastWrittenTime
+
+-- it is handed bytes
+unfoldable pub OfBytes : Start → Type 0
+OfBytes (creates count application major minor mediaType creationTime lastWrittenTime) = IsBytes application
+OfBytes (imports file size application major minor mediaType creationTime lastWrittenTime) = IsBytes file × IsBytes application
 
 pub data Call : Type 0 where
   commits : (addresses : List ℤ) (size : ℕ) (sectors : List ℕ) (time : ℕ) → Call
   rollsBack : (offset time : ℕ) → Call
 
--- a point (01's own term): "the disc as it reads right after the creation or an accepted commit", with the offset that was returned
+-- a point (01's own term): "the disc as it reads right after the creation", or the import, "or an accepted commit", with the offset that was returned
 pub record Point : Type 0 where
   pub offset : ℕ
   pub disc : ℤ → Answer (List ℕ)
@@ -37,16 +56,16 @@ reads m = read (take (m .used) (m .buffer))
 unfoldable pub ReadTheSame : (ℤ → Answer (List ℕ)) → (ℤ → Answer (List ℕ)) → Type 0
 ReadTheSame one other = (a : ℤ) → one a ≡ other a
 
--- the point that a creation or a commit makes, which answered p and left this buffer
+-- the point that a creation, an import or a commit makes, which answered p and left this buffer
 unfoldable pub pointNow : List ℕ → Placed → Point
 pointNow buffer p = record { offset = p .index .0; disc = read (take (p .used) buffer) }
 
--- the moment after an accepted creation
+-- the moment after an accepted start
 unfoldable pub started : List ℕ → Placed → Moment
 started buffer p = record { buffer = buffer; used = p .used; points = pointNow buffer p ∷ [] }
 
 -- a call at a moment
-unfoldable pub outcomeOf : Moment → Call → Outcome
+unfoldable pub outcomeOf : Moment → Call → Outcome Placed
 outcomeOf m (commits addresses size sectors time) = commit (m .buffer) (m .used) addresses size sectors time
 outcomeOf m (rollsBack offset time) = rollback (m .buffer) (m .used) offset time
 

@@ -9,6 +9,8 @@ pub mod Writing
 pub mod Creating
 pub mod Committing
 pub mod RollingBack
+pub mod Exporting
+pub mod Importing
 pub mod Answers
 pub mod Histories
 pub mod Examples

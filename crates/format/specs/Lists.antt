@@ -1,6 +1,6 @@
 -- Lists, as the definitions speak of them.
 use mathlib.Core.List.{List, [], _∷_}
-use Prim.Native.Nat.{ℕ, _<_}
+use Prim.Native.Nat.{ℕ, zero, suc, _<_}
 
 -- every member of a list is so
 pub data All {A : Type 0} (P : A → Type 0) : List A → Type 0 where
@@ -16,6 +16,11 @@ pub data Any {A : Type 0} (P : A → Type 0) : List A → Type 0 where
 pub data Only {A : Type 0} (P : A → Type 0) (a : A) : List A → Type 0 where
   found : {l : List A} → P a → All (λ (b : A). ¬ P b) l → Only P a (a ∷ l)
   later : {b : A} {l : List A} → ¬ P b → Only P a l → Only P a (b ∷ l)
+
+-- what is made of each of the k numbers from i on, in order
+unfoldable pub ofEach : {A : Type 0} → (ℕ → A) → ℕ → ℕ → List A
+ofEach f zero i = []
+ofEach f (suc k) i = f i ∷ ofEach f k (suc i)
 
 -- what a lent slice of bytes holds
 abbrev pub IsBytes : List ℕ → Type 0

@@ -3,6 +3,7 @@
 use mathlib.Core.List.{List}
 use Prim.Native.Nat.{ℕ}
 use lib.ListN.{take}
+use Rattle.format.specs.declared.Placed.{Placed}
 use Rattle.format.specs.declared.Verdict.{Verdict}
 use Rattle.format.specs.Refusals.{_then_}
 use Rattle.format.specs.Writing.{bufferVerdict, writableVerdict, Outcome, outcome, placed, setHeader}
@@ -10,6 +11,6 @@ use Rattle.format.specs.Writing.{bufferVerdict, writableVerdict, Outcome
 unfoldable pub rollbackVerdict : List ℕ → ℕ → ℕ → Verdict
 rollbackVerdict buffer used offset = bufferVerdict buffer used then writableVerdict (take used buffer) offset
 
-unfoldable pub rollback : List ℕ → ℕ → ℕ → ℕ → Outcome
+unfoldable pub rollback : List ℕ → ℕ → ℕ → ℕ → Outcome Placed
 rollback buffer used offset time =
     outcome buffer (rollbackVerdict buffer used offset) (placed used offset) (setHeader buffer offset time)

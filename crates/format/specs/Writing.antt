@@ -1,4 +1,4 @@
--- Creating, committing, rolling back: what the three have in common.
+-- Creating, committing, rolling back: what the three have in common, and with the calls that came later.
 use mathlib.Core.Bool.{Bool, true, false}
 use mathlib.Core.List.{List}
 use Prim.Native.Nat.{ℕ}
@@ -47,17 +47,17 @@ unfoldable pub writableVerdict : List ℕ → ℕ → Verdict
 writableVerdict img o = openVerdict img o then row (isSecond (opened img o .kind)) (refusal 74 0)
 
 -- what a call that writes answers, and every byte of the buffer afterwards
-pub record Outcome : Type 0 where
-  pub result : Answer Placed
+pub record Outcome (A : Type 0) : Type 0 where
+  pub result : Answer A
   pub buffer : List ℕ
 
 abbrev pub placed : ℕ → ℕ → Placed
 placed used index = record { used = used; index = record { 0 = index } }
 
 -- the outcome of a call on `buffer` by its verdict. 01, as 1/13 has it: "Each refusal, 1 to 35, returns its number and place and writes nothing."
-unfoldable pub outcome : List ℕ → Verdict → Placed → List ℕ → Outcome
-outcome buffer Passes p new = record { result = accepted p; buffer = new }
-outcome buffer (Refuses r) p new = record { result = refused r; buffer = buffer }
+unfoldable pub outcome : {A : Type 0} → List ℕ → Verdict → A → List ℕ → Outcome A
+outcome buffer Passes a new = record { result = accepted a; buffer = new }
+outcome buffer (Refuses r) a new = record { result = refused r; buffer = buffer }
 
 -- "indexOffset and lastWrittenTime are set"
 unfoldable pub setHeader : List ℕ → ℕ → ℕ → List ℕ

@@ -74,9 +74,15 @@ pub struct Placed {
     pub index: ByteOffset,
 }
 
-// What creating, committing and rolling back answer.
+// What creating, committing, rolling back and importing answer.
 pub enum Updated {
     To(Placed),
+    Refused(Refusal),
+}
+
+// What exporting answers: how many bytes it wrote.
+pub enum Exported {
+    Length(u64),
     Refused(Refusal),
 }
 

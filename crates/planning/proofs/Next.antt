@@ -40,11 +40,11 @@ module _ (t : Opened) (l : List ℤ) (k n : ℕ) where
     number-x = inside-number t x (all-get (pos 0) (inside-each t l inside) k h) .is
 
     same-address : entryNumber t x ≡ n → x ≡ y
-    same-address e = displaced-same t x y (number-x ∙ ap pos e ∙ sym (address-displaced t y n is))
+    same-address e = displaced-same t x y (number-x ∙ ap pos e ∙ sym (address-displaced t y (pos n) is))
 
     same-number : x ≡ y → entryNumber t x ≡ n
     unfolding entryNumber
-    same-number e = ap natAbs (ap (displaced t) e ∙ address-displaced t y n is)
+    same-number e = ap natAbs (ap (displaced t) e ∙ address-displaced t y (pos n) is)
 
     pub next-at : mag x < 2 ^ 63 → SFits w64 y → eqb (ofZ w64 x) (ofZ w64 y) ≡ isNext (entryNumbers t l) k n
     unfolding isNext heads same

@@ -12,30 +12,17 @@ use Rattle.fields.proofs.Overwrite.{length-overwrite, overwrite-then, overwrite
 use Rattle.format.specs.Lists.{All, done, more}
 use Rattle.format.specs.Committing.{pieces}
 use Rattle.format.proofs.Lists.{Sized, length-flatten}
+use Rattle.format.proofs.Storing.{flatten-pieces, pieces-flatten}
 
 -- sectors of some size are no more than their bytes
 pub most-items : (n size : ℕ) → size ≢ 0 → n ≤ n * size
 most-items n zero h = absurd (h refl)
 most-items n (suc size) h = omega (arith, mul-suc n size)
 
-flatten-pieces : (n size : ℕ) (l : List ℕ) → flatten (pieces n size l) ≡ take (n * size) l
-unfolding pieces flatten
-flatten-pieces zero size l = rw zero-mul
-flatten-pieces (suc n) size l =
-    let e : size + n * size ≡ suc n * size = omega (arith, suc-mul n size) in
-    ap (λ (r : List ℕ). take size l ++ r) (flatten-pieces n size (drop size l)) ∙ sym (take-add size (n * size) l) ∙ ap (λ (m : ℕ). take m l) e
-
 -- those that stand there, written over by themselves
 pub pieces-stand : (s : List ℕ) (at n size : ℕ) → at + n * size ≤ length s → overwrite s at (flatten (pieces n size (drop at s))) ≡ s
 unfolding part
 pieces-stand s at n size h = ap (overwrite s at) (flatten-pieces n size (drop at s)) ∙ overwrite-self s at (n * size) h
-
-pieces-flatten : (size : ℕ) (ls : List (List ℕ)) (rest : List ℕ) → All (Sized size) ls → pieces (length ls) size (flatten ls ++ rest) ≡ ls
-unfolding pieces flatten
-pieces-flatten size _ rest done = refl
-pieces-flatten size _ rest (more {a = l} {l = ls} h hs) =
-    let e : (l ++ flatten ls) ++ rest ≡ l ++ (flatten ls ++ rest) = append-assoc l (flatten ls) rest in
-    rw (e, take-at l (flatten ls ++ rest) size h, drop-at l (flatten ls ++ rest) size h, pieces-flatten size ls rest hs)
 
 -- those that were written are read back
 pub pieces-written : (s : List ℕ) (at size : ℕ) (ls : List (List ℕ)) → All (Sized size) ls → at + length ls * size ≤ length s
