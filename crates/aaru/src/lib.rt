@@ -6,7 +6,7 @@ ghost use Rattle.format.specs.Reading.{locate, read};
 ghost use Rattle.format.specs.Creating.{create};
 ghost use Rattle.format.specs.Committing.{commit};
 ghost use Rattle.format.specs.RollingBack.{rollback};
-ghost use Rattle.format.specs.Answers.{counted, located, bytesRead, answered};
+ghost use Rattle.format.specs.Answers.{counted, located, bytesRead, updated, answered};
 pub use format::AddressRange;
 pub use format::ByteOffset;
 use format::CREATED_ENTRIES;
@@ -67,7 +67,7 @@ pub fn create(
     created: u64,
     written: u64,
 ) -> Updated
-    ensures { λ r. ⌜ answered r (now (buffer .exit)) ≡ create (now (buffer .entry)) count (now (application .entry)) major minor mediaType created written ⌝ }
+    ensures { λ r. ⌜ answered (updated r) (now (buffer .exit)) ≡ create (now (buffer .entry)) count (now (application .entry)) major minor mediaType created written ⌝ }
 {
     let v = arguments::create_verdict(buffer, count, application);
     if let Verdict::Refuses(r) = v {
@@ -105,7 +105,7 @@ pub fn commit(
     sectors: &[u8],
     time: u64,
 ) -> Updated
-    ensures { λ r. ⌜ answered r (now (buffer .exit)) ≡ commit (now (buffer .entry)) used (now (addresses .entry)) size (now (sectors .entry)) time ⌝ }
+    ensures { λ r. ⌜ answered (updated r) (now (buffer .exit)) ≡ commit (now (buffer .entry)) used (now (addresses .entry)) size (now (sectors .entry)) time ⌝ }
 {
     let v = arguments::commit_verdict(buffer, used, addresses, size, sectors);
     if let Verdict::Refuses(r) = v {
@@ -122,7 +122,7 @@ pub fn commit(
 // says why it can't: 31, 32, 1 to 3, then opening's other numbers with this offset in place of the header's, 74. It sets the header's
 // indexOffset and lastWrittenTime alone. The answer is `used` and the offset. Linear in the index's and the table's bytes.
 pub fn rollback(buffer: &mut [u8], used: u64, offset: ByteOffset, time: u64) -> Updated
-    ensures { λ r. ⌜ answered r (now (buffer .exit)) ≡ rollback (now (buffer .entry)) used (offset .0) time ⌝ }
+    ensures { λ r. ⌜ answered (updated r) (now (buffer .exit)) ≡ rollback (now (buffer .entry)) used (offset .0) time ⌝ }
 {
     let v = arguments::buffer_verdict(buffer, used);
     if let Verdict::Refuses(r) = v {

@@ -5,7 +5,6 @@ use Prim.Native.Nat.{ℕ}
 use lib.IntN.{ℤ}
 use Rattle.format.specs.declared.AddressRange.{AddressRange}
 use Rattle.format.specs.declared.Place.{Place}
-use Rattle.format.specs.declared.Placed.{Placed}
 use Rattle.format.specs.Refusals.{Answer, refused, accepted}
 use Rattle.format.specs.Writing.{Outcome}
 
@@ -25,14 +24,14 @@ returned (refused r) values place = record { number = r .number; values = values
 abbrev pub countAndLowest : ℕ → ℤ → AddressRange
 countAndLowest count lowest = record { count = count; lowest = record { 0 = lowest } }
 
--- the values of aaru_locate; those of a call that writes are `placed` of format/specs/Writing
+-- the values of aaru_locate; aaru_export has one, and those of the other calls that write are `placed` of format/specs/Writing
 abbrev pub startAndSize : ℕ → ℕ → Place
 startAndSize start size = record { start = record { 0 = start }; size = size }
 
 -- of a call that writes also every byte of the buffer
-pub record Left : Type 0 where
-  pub answer : Returned Placed
+pub record Left (A : Type 0) : Type 0 where
+  pub answer : Returned A
   pub buffer : List ℕ
 
-unfoldable pub left : Outcome → Placed → ℕ → Left
+unfoldable pub left : {A : Type 0} → Outcome A → A → ℕ → Left A
 left o values place = record { answer = returned (o .result) values place; buffer = o .buffer }

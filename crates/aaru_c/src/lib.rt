@@ -1,4 +1,4 @@
-// The C interface: the public calls of `aaru`, as bindings/c/aaru.h declares them. A slice is a pointer and a length, a call returns 0 or the
+// The C interface: the public calls of `aaru` and `flat`, as bindings/c/aaru.h declares them. A slice is a pointer and a length, a call returns 0 or the
 // number of its refusal, and values come back behind pointers, which a refused call leaves as they are; it sets `place` alone, which an
 // accepted one leaves. As in `aaru`, no call asks anything of its caller; what the language itself takes for granted of pointers that
 // come from outside is said in the header.
@@ -8,6 +8,8 @@ ghost use Rattle.format.specs.Reading.{locate};
 ghost use Rattle.format.specs.Creating.{create};
 ghost use Rattle.format.specs.Committing.{commit};
 ghost use Rattle.format.specs.RollingBack.{rollback};
+ghost use Rattle.format.specs.Exporting.{export};
+ghost use Rattle.format.specs.Importing.{import};
 ghost use Rattle.format.specs.Writing.{placed};
 ghost use Rattle.format.specs.Answers.{updated};
 ghost use Rattle.aaru_c.specs.Returned.{returned, countAndLowest, startAndSize, left};
@@ -17,6 +19,7 @@ use aaru::Located;
 use aaru::Refusal;
 use aaru::SectorAddress;
 use aaru::Updated;
+use flat::Exported;
 
 // What a refused call returns, and sets.
 fn refused(r: Refusal, place: &mut u64) -> u32
@@ -149,4 +152,56 @@ pub extern "C" fn aaru_rollback(
 {
     let answer = aaru::rollback(buffer, used, ByteOffset(offset), time);
     numbers(answer, newUsed, index, place)
+}
+
+// Fills the front of `out` with all sectors of the image by rising address.
+#[no_mangle]
+pub extern "C" fn aaru_export(
+    image: &[u8],
+    out: &mut [u8],
+    written: &mut u64,
+    place: &mut u64,
+) -> u32
+    ensures { λ r. ⌜ record { answer = record { number = r; values = now (written .exit); place = now (place .exit) }; buffer = now (out .exit) } ≡ left (export (now (image .entry)) (now (out .entry))) (now (written .entry)) (now (place .entry)) ⌝ }
+{
+    let answer = flat::export(image, out);
+    match answer {
+        Exported::Length(n) => {
+            *written = n;
+            0
+        }
+        Exported::Refused(r) => refused(r, place),
+    }
+}
+
+// Makes an image of a flat file at the start of the buffer.
+#[no_mangle]
+pub extern "C" fn aaru_import(
+    buffer: &mut [u8],
+    file: &[u8],
+    sectorSize: u64,
+    application: &[u8],
+    major: u8,
+    minor: u8,
+    mediaType: u32,
+    created: u64,
+    written: u64,
+    used: &mut u64,
+    index: &mut u64,
+    place: &mut u64,
+) -> u32
+    ensures { λ r. ⌜ record { answer = record { number = r; values = placed (now (used .exit)) (now (index .exit)); place = now (place .exit) }; buffer = now (buffer .exit) } ≡ left (import (now (buffer .entry)) (now (file .entry)) sectorSize (now (application .entry)) major minor mediaType created written) (placed (now (used .entry)) (now (index .entry))) (now (place .entry)) ⌝ }
+{
+    let answer = flat::import(
+        buffer,
+        file,
+        sectorSize,
+        application,
+        major,
+        minor,
+        mediaType,
+        created,
+        written,
+    );
+    numbers(answer, used, index, place)
 }

@@ -22,7 +22,7 @@ use Rattle.format.specs.Refusals.{refusal}
 use Rattle.format.specs.Opening.{Opened, opened}
 use Rattle.format.specs.Writing.{mostAddresses, longestBuffer, placed, setHeader}
 use Rattle.format.specs.Committing.{anyOutside, entryNumbers, sectorsVerdict, pieces, Stored, storedFor, pointersFor, largestItem, shiftFor, newBlock, newBlockEntry, newTable, keptEntries, Appended, tableStart, indexStart, usedAfter, appendedFor, appended, appendedBytes, append, commitVerdict, commit}
-use Rattle.format.specs.Answers.{answered}
+use Rattle.format.specs.Answers.{updated, answered}
 use Rattle.format.proofs.Tests.{below-true, below-iff, or-iff}
 use Rattle.format.proofs.Chains.{stop-last, on-last, goes}
 use Rattle.format.proofs.Answers.{outcome-stops, outcome-done}
@@ -278,8 +278,8 @@ module _ (buf : List ℕ) (used : ℕ) (t : Opened) (addresses : List ℤ) (size
       e₃ ∙ ap (λ l. setHeader l (at .index .0) time) f₂ ∙ ap (λ n. setHeader (overwrite buf used (added .block ++ (added .table ++ added .index))) n time) (sym index-start)
 
   -- ---- what the commit answers
-  no-room : (time : ℕ) → length buf < at .end → answered (update.Refused (refusal 35 0)) buf ≡ commit buf used addresses size sectors time
-  unfolding commit append commitVerdict
+  no-room : (time : ℕ) → length buf < at .end → answered (updated (update.Refused (refusal 35 0))) buf ≡ commit buf used addresses size sectors time
+  unfolding commit append commitVerdict updated
   no-room time h =
       rw opened-as
       (outcome-stops buf _ _
@@ -287,8 +287,8 @@ module _ (buf : List ℕ) (used : ℕ) (t : Opened) (addresses : List ℤ) (size
 
   accepted-commit : (time : ℕ) {p : Placed} {after : List ℕ} → at .end ≤ length buf → p ≡ placed (at .end) (at .index .0)
       → after ≡ setHeader (overwrite buf used (appendedBytes added)) (indexStart used added) time
-      → answered (update.To p) after ≡ commit buf used addresses size sectors time
-  unfolding commit append commitVerdict
+      → answered (updated (update.To p)) after ≡ commit buf used addresses size sectors time
+  unfolding commit append commitVerdict updated
   accepted-commit time h e f =
       rw opened-as
       (outcome-done buf (goes (sym (passed .arguments)) (goes (sym (passed .disc)) (on-last _ (below-iff .1 (omega (arith, used-after))))))
@@ -305,7 +305,7 @@ module _ {buf : List ℕ} {used : ℕ} {t : Opened} {addresses : List ℤ} {size
   planned-few = rw stored-planned (items-few buf used t addresses size sectors passed)
 
   pub refused-35 : {place : Layout} (time : ℕ) → place ≡ layoutFor (take used buf) t size (plan .stored) → length buf < place .end
-      → answered (update.Refused (refusal 35 0)) buf ≡ commit buf used addresses size sectors time
+      → answered (updated (update.Refused (refusal 35 0))) buf ≡ commit buf used addresses size sectors time
   refused-35 time e h =
       no-room buf used t addresses size sectors passed time (rw (ap (λ (l : Layout). l .end) (e ∙ ap (layoutFor (take used buf) t size) stored-planned)) at h)
 
@@ -356,6 +356,6 @@ module _ {buf : List ℕ} {used : ℕ} {t : Opened} {addresses : List ℤ} {size
   pub fits-answers : (time : ℕ) {after : List ℕ}
       → after ≡ setHeader (overwrite buf used (appendedBytes (appended (take used buf) (indexOffset (take used buf)) (entryNumbers t addresses) size sectors)))
       (indexStart used (appended (take used buf) (indexOffset (take used buf)) (entryNumbers t addresses) size sectors)) time
-      → answered (update.To (placed (place .end) (place .index .0))) after ≡ commit buf used addresses size sectors time
+      → answered (updated (update.To (placed (place .end) (place .index .0)))) after ≡ commit buf used addresses size sectors time
   fits-answers time e =
       accepted-commit buf used t addresses size sectors (f .passed) time room (ap (λ (l : Layout). placed (l .end) (l .index .0)) place-is) e

@@ -16,7 +16,7 @@ ghost use Rattle.format.specs.Layouts.{indexOffset, blockHeaderLength};
 ghost use Rattle.format.specs.Opening.{opening};
 ghost use Rattle.format.specs.Writing.{largestSize, mostAddresses, longestBuffer, setHeader};
 ghost use Rattle.format.specs.Committing.{argumentsVerdict, anyOutside, entryNumbers, newBlock, newTable, indexStart, appended, appendedBytes, commit};
-ghost use Rattle.format.specs.Answers.{answered};
+ghost use Rattle.format.specs.Answers.{updated, answered};
 ghost use Rattle.opening.specs.Answers.{contents};
 ghost use Rattle.planning.specs.Plans.{storedBy, pointersBy};
 ghost use Rattle.format.specs.Facts.{blockLengthFor, blockEntry};
@@ -156,7 +156,7 @@ fn append(
     time: u64,
 ) -> Updated
     requires { ⌜ Passed (now buf) used (contents t) (now addresses) size (now sectors) ⌝ }
-    ensures { λ r. ⌜ answered r (now (buf .exit)) ≡ commit (now (buf .entry)) used (now (addresses .entry)) size (now (sectors .entry)) time ⌝ }
+    ensures { λ r. ⌜ answered (updated r) (now (buf .exit)) ≡ commit (now (buf .entry)) used (now (addresses .entry)) size (now (sectors .entry)) time ⌝ }
 {
     let plan = planning::plan(part(buf, 0, used), t, addresses, size, sectors);
     let stored = plan.stored;
@@ -183,7 +183,7 @@ pub fn commit(
     time: u64,
 ) -> Updated
     requires { ⌜ (argumentsVerdict (now buf) used (now addresses) size (now sectors) ≡ Passes) × (opening (take used (now buf)) ≡ accepted (contents t)) ⌝ }
-    ensures { λ r. ⌜ answered r (now (buf .exit)) ≡ commit (now (buf .entry)) used (now (addresses .entry)) size (now (sectors .entry)) time ⌝ }
+    ensures { λ r. ⌜ answered (updated r) (now (buf .exit)) ≡ commit (now (buf .entry)) used (now (addresses .entry)) size (now (sectors .entry)) time ⌝ }
 {
     let v = checking::disc_verdict_of(part(buf, 0, used), t, addresses);
     if let Verdict::Refuses(r) = v {

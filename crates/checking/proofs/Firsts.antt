@@ -1,4 +1,4 @@
--- The first address that a check refuses.
+-- The first number that a check refuses.
 use mathlib.Core.Logic.{⊎-elim}
 use mathlib.Core.Path.{_≡_, refl, sym, ap, _∙_}
 use Prim.Native.Nat.{ℕ, zero, suc, _+_, _≤_, _<_}
@@ -46,3 +46,10 @@ module _ (f : ℕ → Verdict) (n : ℕ) (r : First) (p : IsFirst f n r) where
 
   pub first-refusal : firstRefusal f n 0 ≡ r .verdict
   first-refusal = from n 0 (omega arith) (omega arith)
+
+-- by the checks before it
+pub refused-at : (f : ℕ → Verdict) (n a : ℕ) (r : Refusal) → a < n → ((i : ℕ) → i < a → f i ≡ Passes) → f a ≡ Refuses r → firstRefusal f n 0 ≡ Refuses r
+refused-at f n a r l b e = first-refusal f n _ (first-at f n a r l b e)
+
+pub refused-none : (f : ℕ → Verdict) (n : ℕ) → ((i : ℕ) → i < n → f i ≡ Passes) → firstRefusal f n 0 ≡ Passes
+refused-none f n b = first-refusal f n _ (first-none f n n refl b)

@@ -1,5 +1,5 @@
 mod Outside
-mod Firsts
+pub mod Firsts
 mod Forms
 mod Looked
 mod Whole

@@ -1,26 +1,28 @@
--- Once all blocks are looked at, the first address that is refused is that of the definition.
-use mathlib.Core.Bool.{Bool, true, not}
+-- Once all blocks are looked at, the first address that is refused is that of the definition; and the first with 21 too.
+use mathlib.Core.Bool.{Bool, true, false, not}
 use mathlib.Core.List.{List, []}
-use mathlib.Core.Logic.{⊎-elim, Iff·rfl}
+use mathlib.Core.Logic.{_≢_, ⊎-elim, Iff·rfl}
 use mathlib.Core.Path.{_≡_, refl, sym, ap, _∙_, subst}
 use Prim.Native.Nat.{ℕ, _≤_, _<_}
+use native.Mathlib.Omega.{arith}
+use Rattle.format.specs.declared.Entry.{Entry}
 use Rattle.format.specs.declared.Pointer.{Pointer}
 use Rattle.format.specs.declared.Refusal.{Refusal}
 use Rattle.format.specs.declared.Verdict.{Verdict}
 use Rattle.format.specs.declared.Verdict.the-variants.{Passes, Refuses}
 use Rattle.format.specs.Tests.{same, _and_, choose}
-use Rattle.format.specs.Refusals.{refusal, row, _then_}
+use Rattle.format.specs.Refusals.{refusal, row, _then_, firstRefusal}
 use Rattle.format.specs.Layouts.{DBLK, indexOffset, entries}
 use Rattle.format.specs.Opening.{isUserData, Opened}
 use Rattle.format.specs.Reading.{tableEntryAt, notWritten, unknownStatus, pointerAt, has, blockVerdict, itemVerdict, pointerVerdict, sectorVerdict}
 use Rattle.format.specs.Committing.{otherThan21, sectorsVerdict}
-use Rattle.format.proofs.Tests.{on-or-off, never}
+use Rattle.format.proofs.Tests.{on-or-off, never, choose-true, choose-false}
 use Rattle.format.proofs.Refusals.{row-iff, then-rest, then-assoc}
-use Rattle.format.proofs.Checks.{keeps-others, sector-21, gives-21}
+use Rattle.format.proofs.Checks.{keeps-others, sector-ok, sector-21, gives-21, address-ok}
 use Rattle.index.proofs.Entries.{offsets-done}
 use Rattle.checking.specs.declared.First.{First}
-use Rattle.checking.specs.Checked.{indexed, formVerdict, entryForm, onlyAfter, damaged, mark, lookedVerdict, FirstLeft, FirstFrom, FirstRefused}
-use Rattle.checking.proofs.Firsts.{first-same, first-refusal}
+use Rattle.checking.specs.Checked.{indexed, formVerdict, entryForm, onlyAfter, damaged, mark, lookedVerdict, FirstLeft, FirstFrom, FirstRefused, FirstOfAll}
+use Rattle.checking.proofs.Firsts.{first-at, first-same, first-refusal}
 use Rattle.checking.proofs.Forms.{written, not-written}
 
 only-after : (v w : Verdict) (d : Bool) (r : Refusal) → (v then (w then row (true and onlyAfter v d) r)) ≡ (v then (w then row d r))
@@ -51,3 +53,37 @@ module _ (img : List ℕ) (t : Opened) where
   pub first-verdict : {first : First} → FirstRefused img t first → first .verdict ≡ sectorsVerdict img (entries img (indexOffset img)) t
   unfolding sectorsVerdict
   first-verdict f = sym (first-refusal _ _ _ f)
+
+-- ---- 21 too: the first entry below it that is not written, or itself
+-- a verdict that is not left out is itself
+kept : (v : Verdict) → otherThan21 v ≢ Passes → v ≡ otherThan21 v
+unfolding otherThan21
+kept Passes h = absurd (h refl)
+kept (Refuses r) h = ⊎-elim (λ e. absurd (h (choose-true _ _ _ e))) (λ e. sym (choose-false _ _ _ e)) (on-or-off (same (r .number) 21))
+
+module _ (img : List ℕ) (t : Opened) {first : First} (p : FirstRefused img t first) where
+  abbrev check : ℕ → Verdict
+  check = sectorVerdict img (entries img (indexOffset img)) t
+
+  passes : (n : ℕ) → n < first .number .0 → notWritten img t n ≡ false → check n ≡ Passes
+  passes n l w =
+      let es : List Entry = entries img (indexOffset img) in
+      ⊎-elim (λ e. absurd (never e w)) (λ k. sector-ok img es t n .1 k) (address-ok img es t n .0 (p .before n l))
+
+  pub gap-first : (n : ℕ) → n < first .number .0 → ((i : ℕ) → i < n → notWritten img t i ≡ false) → notWritten img t n ≡ true
+      → FirstOfAll img t (record { number = record { 0 = n }; verdict = Refuses (refusal 21 0) })
+  gap-first n l b e =
+      first-at check (t .count) n (refusal 21 0) (omega (arith, p .within)) (λ i k. passes i (omega arith) (b i k)) (sector-21 img (entries img (indexOffset img)) t n e)
+
+  pub no-gap : ((i : ℕ) → i < first .number .0 → notWritten img t i ≡ false) → FirstOfAll img t first
+  no-gap b =
+      record {
+        within = p .within;
+        before = λ n l. passes n l (b n l);
+        here = λ l. let (e, ne) = p .here l in (kept (check (first .number .0)) (λ z. ne (sym e ∙ z)) ∙ e, ne);
+        none = p .none;
+      }
+
+pub every-first : (img : List ℕ) (t : Opened) {first : First} → FirstOfAll img t first
+    → first .verdict ≡ firstRefusal (sectorVerdict img (entries img (indexOffset img)) t) (t .count) 0
+every-first img t f = sym (first-refusal _ _ _ f)

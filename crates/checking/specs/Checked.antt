@@ -75,6 +75,10 @@ FirstLeft img t left first = IsFirst (lookedVerdict img t left) (t .count) first
 abbrev pub FirstFrom : List ℕ → Opened → ℕ → ℕ → First → Type 0
 FirstFrom img t left p first = FirstLeft img t (offsetsOf DBLK (entriesFrom img left p)) first
 
--- the first table entry that is refused other than with 21
+-- the first table entry that is refused, 21 too
+abbrev pub FirstOfAll : List ℕ → Opened → First → Type 0
+FirstOfAll img t first = IsFirst (sectorVerdict img (entries img (indexOffset img)) t) (t .count) first
+
+-- the first that is refused other than with 21
 abbrev pub FirstRefused : List ℕ → Opened → First → Type 0
 FirstRefused img t first = IsFirst (λ (a : ℕ). otherThan21 (sectorVerdict img (entries img (indexOffset img)) t a)) (t .count) first

@@ -1,5 +1,5 @@
-// Internal: the checks that a commit makes of an opened disc: 74 of its table (11/13), 20 of its addresses, then all sectors by rising address, of which the
-// first that is refused other than with 21 gives its refusal.
+// Internal: the checks of all sectors of an opened disc by rising address. A commit makes 74 of its table (11/13) and 20 of its addresses before them, and
+// leaves out 21; an export (4/13) gives 21 too.
 //
 // Cost, with E table entries and I index entries: each data block that the index names is summed once at most, however often it is named. To
 // look blocks up takes at most E times I comparisons of numbers, and E plus I for each run of neighbours where neighbouring entries share
@@ -9,13 +9,13 @@ ghost use mathlib.Core.List.{List, _∷_};
 ghost use mathlib.Core.Path.{_≡_};
 ghost use Prim.Native.Nat.{ℕ, _+_, _-_, _*_, _≤_, _<_};
 ghost use lib.ListN.{length};
-ghost use Rattle.format.specs.Refusals.{accepted};
+ghost use Rattle.format.specs.Refusals.{accepted, firstRefusal};
 ghost use Rattle.format.specs.Layouts.{indexOffset, entryLength, entries};
 ghost use Rattle.format.specs.Opening.{opening};
-ghost use Rattle.format.specs.Reading.{tableEntry, has, pointerAt};
+ghost use Rattle.format.specs.Reading.{tableEntry, has, pointerAt, sectorVerdict};
 ghost use Rattle.format.specs.Committing.{anyOutside, sectorsVerdict, discVerdict};
 ghost use Rattle.opening.specs.Answers.{contents, held};
-ghost use Rattle.checking.specs.Checked.{indexed, formVerdict, entryForm, Formed, damaged, FirstLeft, FirstFrom, FirstRefused};
+ghost use Rattle.checking.specs.Checked.{indexed, formVerdict, entryForm, Formed, damaged, FirstLeft, FirstFrom, FirstRefused, FirstOfAll};
 use fields::get;
 use fields::part;
 use format::ByteOffset;
@@ -201,6 +201,37 @@ fn sectors_verdict(s: &[u8], t: Opened) -> Verdict
     ensures { λ r. ⌜ r ≡ sectorsVerdict (now (s .entry)) (entries (now (s .entry)) (indexOffset (now (s .entry)))) (contents t) ⌝ }
 {
     let first = first_refused(s, t);
+    first.verdict
+}
+
+// The first table entry that is refused, 21 too: one below `first`, the first that is refused other than with 21, that is not written, or `first`.
+fn first_unwritten(s: &[u8], t: Opened, first: First) -> First
+    requires { ⌜ (opening (now s) ≡ accepted (contents t)) × FirstRefused (now s) (contents t) first ⌝ }
+    ensures { λ r. ⌜ FirstOfAll (now (s .entry)) (contents t) r ⌝ }
+{
+    let limit = first.number;
+    let mut n: u64 = 0;
+    // an iteration for each entry below, up to the first that is not written
+    while n < limit.0 {
+        let here = EntryNumber(n);
+        n += 1;
+        if opening::is_unwritten(t, opening::table_entry(s, t, here)) {
+            let place = ByteOffset(0);
+            return First {
+                number: here,
+                verdict: Verdict::Refuses(Refusal { number: 21, place }),
+            };
+        }
+    }
+    first
+}
+
+// All sectors by rising address, 21 too: the first refusal.
+pub fn every_verdict(s: &[u8], t: Opened) -> Verdict
+    requires { ⌜ opening (now s) ≡ accepted (contents t) ⌝ }
+    ensures { λ r. ⌜ r ≡ firstRefusal (sectorVerdict (now (s .entry)) (entries (now (s .entry)) (indexOffset (now (s .entry)))) (contents t)) (contents t .count) 0 ⌝ }
+{
+    let first = first_unwritten(s, t, first_refused(s, t));
     first.verdict
 }
 

@@ -8,7 +8,7 @@ use native.Mathlib.Nat.{add-assoc, add-zero}
 use native.Mathlib.Numerals.{add-one}
 use native.Mathlib.Omega.{arith}
 use lib.ListN.{length, take, drop, getD, set, length-take, length-drop, length-set}
-use lib.Seq.{sets, length-sets, set-out, set-comm, sets-eq, take-set-le, drop-set-lt, getD-set-other, set-getD, getD-take, getD-drop, ext-getD, take-at, drop-at, length-take-le, take-length, drop-cons}
+use lib.Seq.{sets, length-sets, set-append-left, set-out, set-comm, sets-eq, take-set-le, drop-set-lt, getD-set-other, set-getD, getD-take, getD-drop, ext-getD, take-at, drop-at, length-take-le, take-length, drop-cons}
 use Rattle.fields.specs.Bytes.{part, overwrite}
 
 -- ---- length, past the end, one after the other, nothing, one byte, the three pieces
@@ -149,3 +149,18 @@ overwrite-cover s at xs p ys h k room =
     overwrite-split (overwrite s p ys) at xs (rw length-overwrite room)
     ∙ ap (λ (l : List ℕ). l ++ xs ++ drop (at + length xs) (overwrite s p ys)) (take-overwrite s p ys at h)
     ∙ ap (λ (l : List ℕ). take at s ++ xs ++ l) (drop-overwrite s p ys (at + length xs) k) ∙ sym (overwrite-split s at xs room)
+
+-- ---- a run within the run that stands at the front
+
+overwrite-left : (xs rest : List ℕ) (p : ℕ) (ys : List ℕ) → p + length ys ≤ length xs → overwrite (xs ++ rest) p ys ≡ overwrite xs p ys ++ rest
+unfolding overwrite
+overwrite-left xs rest p [] h = refl
+overwrite-left xs rest p (y ∷ ys) h =
+    ap (λ (l : List ℕ). sets l (suc p) ys) (set-append-left xs rest p y (omega arith)) ∙ overwrite-left (set xs p y) rest (suc p) ys (rw length-set (omega arith))
+
+pub overwrite-inside : (s xs : List ℕ) (p : ℕ) (ys : List ℕ) → p + length ys ≤ length xs → length xs ≤ length s
+    → overwrite (overwrite s 0 xs) p ys ≡ overwrite s 0 (overwrite xs p ys)
+overwrite-inside s xs p ys h k =
+    let n : length (overwrite xs p ys) ≡ length xs = length-overwrite xs p ys in
+    ap (λ (l : List ℕ). overwrite l p ys) (overwrite-split s 0 xs (omega arith)) ∙ overwrite-left xs (drop (0 + length xs) s) p ys h
+    ∙ ap (λ m. overwrite xs p ys ++ drop (0 + m) s) (sym n) ∙ sym (overwrite-split s 0 (overwrite xs p ys) (omega arith))

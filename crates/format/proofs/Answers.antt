@@ -43,13 +43,13 @@ updated-distinct (update.Refused r) (update.To p) e = let z : _≡_ {A = ℕ} 0 
 updated-distinct (update.Refused r) (update.Refused q) e = cc
 
 -- ---- what a call that writes leaves, by its verdict
-module _ (buffer : List ℕ) {v : Verdict} where
-  pub outcome-stops : (p : Placed) (new : List ℕ) {r : Refusal} → Refuses r ≡ v → answered (update.Refused r) buffer ≡ outcome buffer v p new
-  unfolding answered updated outcome
+module _ {A : Type 0} (buffer : List ℕ) {v : Verdict} where
+  pub outcome-stops : (p : A) (new : List ℕ) {r : Refusal} → Refuses r ≡ v → answered (refused r) buffer ≡ outcome buffer v p new
+  unfolding answered outcome
   outcome-stops p new e = rw (← e)
 
-  pub outcome-done : {p q : Placed} {new after : List ℕ} → Passes ≡ v → q ≡ p → after ≡ new → answered (update.To q) after ≡ outcome buffer v p new
-  unfolding answered updated outcome
+  pub outcome-done : {p q : A} {new after : List ℕ} → Passes ≡ v → q ≡ p → after ≡ new → answered (accepted q) after ≡ outcome buffer v p new
+  unfolding answered outcome
   outcome-done e f g = rw (← e, f, g)
 
 -- ---- by what opening answers

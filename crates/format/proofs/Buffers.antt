@@ -1,7 +1,7 @@
 -- A writing call on a buffer: its outcome by its verdict, and the image afterwards against the image before.
 use mathlib.Core.List.{List}
 use mathlib.Core.Logic.{inl, inr, ⊎-elim, ⊎-map, _↔_}
-use mathlib.Core.Path.{_≡_, refl, sym, _∙_}
+use mathlib.Core.Path.{_≡_, refl, sym, ap, _∙_}
 use Prim.Native.Nat.{ℕ, _+_, _^_, _≤_, _<_}
 use native.Mathlib.Nat.{le-refl}
 use native.Mathlib.Omega.{arith}
@@ -9,7 +9,7 @@ use lib.ListN.{length, take, getD, length-take}
 use lib.Seq.{getD-take, length-take-le}
 use Rattle.fields.specs.Bytes.{toLe, overwrite}
 use Rattle.fields.proofs.Numbers.{length-toLe}
-use Rattle.fields.proofs.Overwrite.{length-overwrite, getD-off, getD-in}
+use Rattle.fields.proofs.Overwrite.{length-overwrite, getD-off, getD-in, overwrite-inside}
 use Rattle.fields.proofs.Holds.{Holds, holds-take, holds-overwrite, holds-all, holds-number}
 use Rattle.format.specs.declared.Refusal.{Refusal}
 use Rattle.format.specs.declared.Verdict.{Verdict}
@@ -101,6 +101,16 @@ module _ (l : List ℕ) (o time : ℕ) where
   bytes-setHeader long h =
       bytes-overwrite once lastWrittenAt (toLe 8 time) (omega (arith, length-overwrite l indexOffsetAt (toLe 8 o), length-toLe 8 time))
       (bytes-overwrite l indexOffsetAt (toLe 8 o) (omega (arith, length-toLe 8 o)) h (bytes-toLe 8 o)) (bytes-toLe 8 time)
+
+-- of an image that stands at the front of a buffer
+pub setHeader-inside : (buffer image : List ℕ) (o time : ℕ) → headerLength ≤ length image → length image ≤ length buffer
+    → setHeader (overwrite buffer 0 image) o time ≡ overwrite buffer 0 (setHeader image o time)
+unfolding setHeader
+setHeader-inside buffer image o time h k =
+    let once : List ℕ = overwrite image indexOffsetAt (toLe 8 o) in
+    let l : length once ≡ length image = length-overwrite image indexOffsetAt (toLe 8 o) in
+    ap (λ (b : List ℕ). overwrite b lastWrittenAt (toLe 8 time)) (overwrite-inside buffer image indexOffsetAt (toLe 8 o) (omega (arith, length-toLe 8 o)) k)
+    ∙ overwrite-inside buffer once lastWrittenAt (toLe 8 time) (omega (arith, length-toLe 8 time)) (omega arith)
 
 -- ---- the first n bytes of a buffer whose header was set
 pub indexOffset-set : (l : List ℕ) (n o time : ℕ) → headerLength ≤ n → n ≤ length l → o < 256 ^ 8 → indexOffset (take n (setHeader l o time)) ≡ o

@@ -1,17 +1,17 @@
 -- Importing: an accepted import is an accepted creation and an accepted commit. In one piece: its checks, 35 as the last of them, and what it leaves; the disc
 -- afterwards.
 use mathlib.Core.Bool.{Bool, true, false}
-use mathlib.Core.List.{List, [], _∷_}
+use mathlib.Core.List.{List, [], _∷_, _++_}
 use mathlib.Core.Logic.{_≢_, _⊎_, ⊎-elim, ⊎-map, _↔_, Iff·rfl}
 use mathlib.Core.Path.{_≡_, refl, sym, ap, _∙_, subst}
 use Prim.Native.Nat.{ℕ, zero, suc, _+_, _*_, _/_, _%_, _≤_, _<_}
 use native.Mathlib.Nat.{zero-add, zero-mul, pos-of-ne-zero, mul-div-cancel, div-add-mod', div-le-of-le-mul, mul-comm}
 use native.Mathlib.Omega.{arith}
-use lib.ListN.{length, take, getD}
+use lib.ListN.{length, take, getD, length-append}
 use lib.IntN.{ℤ, pos, negℤ, _+ℤ_, +ℤ-idl, +ℤ-idr}
 use borrow.Author.Tests.{lt-ltb}
 use Rattle.fields.specs.Bytes.{part, overwrite}
-use Rattle.fields.proofs.Overwrite.{length-overwrite, part-same}
+use Rattle.fields.proofs.Overwrite.{length-overwrite, overwrite-then, part-same}
 use Rattle.fields.proofs.Holds.{Holds}
 use Rattle.format.specs.declared.Placed.{Placed}
 use Rattle.format.specs.declared.Refusal.{Refusal}
@@ -34,8 +34,9 @@ use Rattle.format.proofs.Refusals.{row-iff, row-refuses, row-passes, th
 use Rattle.format.proofs.Lists.{length-ofEach, getD-ofEach}
 use Rattle.format.proofs.Numbers.{Numbered, inside-number, number-inside, number-is}
 use Rattle.format.proofs.Checks.{facts, open-ok, read-ok, first-flat, less-iff, create-ok, created-used, arguments-ok, disc-ok, Sound, DiscSound}
-use Rattle.format.proofs.Buffers.{outcome-accepted, outcome-passes, outcome-accepts, outcome-refused, outcome-refuses}
+use Rattle.format.proofs.Buffers.{outcome-accepted, outcome-passes, outcome-accepts, outcome-refused, outcome-refuses, length-setHeader, setHeader-inside}
 use Rattle.format.proofs.Bytes.{bytes-overwrite, bytes-created}
+use Rattle.format.proofs.Appended.{appended-total}
 use Rattle.format.proofs.Committed.{Committed, commit-accepted}
 use Rattle.format.proofs.Written.{openedFirst}
 use Rattle.format.proofs.Created.{Started, length-new, created-offset, created-opened, nothing-written, created-entries, created-sound}
@@ -142,6 +143,10 @@ module _ (buffer file : List ℕ) (size : ℕ) (application : List ℕ) (major m
   abbrev pub importedBuffer : List ℕ
   importedBuffer = setHeader (overwrite (overwrite buffer 0 made) (createdUsed count) (appendedBytes added)) importedIndex lastWrittenTime
 
+  -- the image, whatever the buffer held
+  abbrev pub importedImage : List ℕ
+  importedImage = setHeader (made ++ appendedBytes added) importedIndex lastWrittenTime
+
   -- 35 of the two calls together
   abbrev pub roomVerdict : Verdict
   roomVerdict = row (below (length buffer) importedUsed) (refusal 35 0)
@@ -159,6 +164,26 @@ module _ (buffer file : List ℕ) (size : ℕ) (application : List ℕ) (major m
   module _ (k : Importable buffer file size application) where
     created-length : length made ≡ createdUsed count
     created-length = length-new count application major minor mediaType creationTime lastWrittenTime (k .sized)
+
+    both-length : length (made ++ appendedBytes added) ≡ importedUsed
+    both-length = length-append made (appendedBytes added) ∙ ap (λ n. n + length (appendedBytes added)) created-length ∙ appended-total (createdUsed count) added
+
+    pub image-length : length importedImage ≡ importedUsed
+    image-length = length-setHeader (made ++ appendedBytes added) importedIndex lastWrittenTime ∙ both-length
+
+    -- it stands at the front
+    pub buffer-front : importedUsed ≤ length buffer → importedBuffer ≡ overwrite buffer 0 importedImage
+    unfolding createdUsed createdIndexAt
+    buffer-front room =
+        let e : createdUsed count ≡ 0 + length made = omega (arith, created-length) in
+        ap (λ (b : List ℕ). setHeader b importedIndex lastWrittenTime)
+        (ap (λ n. overwrite (overwrite buffer 0 made) n (appendedBytes added)) e ∙ overwrite-then buffer 0 made (appendedBytes added))
+        ∙ setHeader-inside buffer (made ++ appendedBytes added) importedIndex lastWrittenTime (omega (arith, both-length, past)) (omega (arith, both-length))
+
+    -- a header stands there before the fields of it are set
+    pub made-long : importedUsed ≤ length buffer → headerLength ≤ length (overwrite (overwrite buffer 0 made) (createdUsed count) (appendedBytes added))
+    unfolding createdUsed createdIndexAt
+    made-long room = omega (arith, past, length-overwrite (overwrite buffer 0 made) (createdUsed count) (appendedBytes added), length-overwrite buffer 0 made)
 
     h : Holds made 0 made
     h = record { fits = omega arith; there = λ i l. ap (λ n. getD made n 0) (zero-add i) }

@@ -2,7 +2,7 @@
 use mathlib.Core.List.{List}
 use mathlib.Core.Logic.{inl, inr, ⊎-elim}
 use mathlib.Core.Path.{_≡_, ap, _∙_}
-use Prim.Native.Nat.{ℕ, _+_, _/_, _≤_}
+use Prim.Native.Nat.{ℕ, _+_, _≤_}
 use native.Mathlib.Omega.{arith}
 use lib.ListN.{length, take}
 use lib.Seq.{length-take-le}
@@ -11,16 +11,16 @@ use Rattle.fields.proofs.Overwrite.{length-overwrite, getD-off}
 use Rattle.format.specs.declared.Placed.{Placed}
 use Rattle.format.specs.Layouts.{headerLength, indexOffset}
 use Rattle.format.specs.Opening.{opened}
-use Rattle.format.specs.Creating.{createdIndexAt, createdUsed, createdBytes, create}
-use Rattle.format.specs.Committing.{entryNumbers, Appended, appended, tableStart, indexStart, usedAfter, appendedBytes, append, commit}
+use Rattle.format.specs.Creating.{createdUsed, createdBytes, create}
+use Rattle.format.specs.Committing.{entryNumbers, Appended, appended, indexStart, usedAfter, appendedBytes, append, commit}
 use Rattle.format.specs.RollingBack.{rollback}
 use Rattle.format.specs.Exporting.{flatFile, export}
-use Rattle.format.specs.Demands.{Demand1Unchanged, Leaves, HeaderSet, WritesOnly}
+use Rattle.format.specs.Demands.{Demand1Unchanged, WritesOnly}
 use Rattle.format.proofs.Checks.{create-ok, commit-ok, rollback-ok}
 use Rattle.format.proofs.Buffers.{outcome-accepted, outcome-refused, length-setHeader, setHeader-elsewhere, header-set}
 use Rattle.format.proofs.Appended.{appended-total}
 use Rattle.format.proofs.Created.{length-new}
-use Rattle.format.proofs.Importing.{Importable, count, made, added, importedUsed, importedIndex, importedBuffer, import-accepted, import-refused}
+use Rattle.format.proofs.Importing.{importedImage, image-length, buffer-front, made-long, import-accepted, import-refused}
 
 pub demand-1-unchanged : Demand1Unchanged
 unfolding create commit append rollback export
@@ -32,31 +32,6 @@ demand-1-unchanged = record {
   importing = λ buffer file size application major minor mediaType creationTime lastWrittenTime r e.
       import-refused buffer file size application major minor mediaType creationTime lastWrittenTime r e .1;
 }
-
--- an accepted import
-import-leaves : (buffer file : List ℕ) (size : ℕ) (application : List ℕ) (major minor mediaType creationTime lastWrittenTime : ℕ)
-    → Importable buffer file size application → importedUsed buffer file size application major minor mediaType creationTime lastWrittenTime ≤ length buffer
-    → let after = importedBuffer buffer file size application major minor mediaType creationTime lastWrittenTime in
-    Leaves buffer after (λ i. importedUsed buffer file size application major minor mediaType creationTime lastWrittenTime ≤ i)
-    × HeaderSet after (importedIndex buffer file size application major minor mediaType creationTime lastWrittenTime) lastWrittenTime
-unfolding createdUsed createdIndexAt usedAfter indexStart tableStart
-import-leaves buffer file size application major minor mediaType creationTime lastWrittenTime k room =
-    let new : List ℕ = made buffer file size application major minor mediaType creationTime lastWrittenTime in
-    let parts : Appended = added buffer file size application major minor mediaType creationTime lastWrittenTime in
-    let used : ℕ = createdUsed (count buffer file size application major minor mediaType creationTime lastWrittenTime) in
-    let first : List ℕ = overwrite buffer 0 new in
-    let both : List ℕ = overwrite first used (appendedBytes parts) in
-    let ln : length new ≡ used = length-new (length file / size) application major minor mediaType creationTime lastWrittenTime (k .sized) in
-    let t : used + length (appendedBytes parts) ≡ usedAfter used parts = appended-total used parts in
-    let lb : length both ≡ length buffer = length-overwrite first used (appendedBytes parts) ∙ length-overwrite buffer 0 new in (
-      record {
-        sameLength = length-setHeader both (indexStart used parts) lastWrittenTime ∙ lb;
-        bytes = λ i h.
-            setHeader-elsewhere both (indexStart used parts) lastWrittenTime i (inr (inr (omega arith))) ∙ getD-off first used (appendedBytes parts) i (inr (omega arith))
-            ∙ getD-off buffer 0 new i (inr (omega arith));
-      },
-      header-set both (indexStart used parts) lastWrittenTime (omega arith),
-    )
 
 pub writes-only : WritesOnly
 unfolding create commit append rollback export
@@ -98,5 +73,12 @@ writes-only = record {
       record { sameLength = rw (r .buffer) (length-overwrite out 0 file); bytes = λ i h. rw (r .buffer) (getD-off out 0 file i (inr (omega (arith, r .answer)))) };
   importing = λ buffer file size application major minor mediaType creationTime lastWrittenTime p e.
       let i = import-accepted buffer file size application major minor mediaType creationTime lastWrittenTime p e in
-      rw (i .buffer-is, ← (i .answer)) (import-leaves buffer file size application major minor mediaType creationTime lastWrittenTime (i .checked) (i .room));
+      let image : List ℕ = importedImage buffer file size application major minor mediaType creationTime lastWrittenTime in
+      let l = image-length buffer file size application major minor mediaType creationTime lastWrittenTime (i .checked) in
+      let long = made-long buffer file size application major minor mediaType creationTime lastWrittenTime (i .checked) (i .room) in
+      rw (← (i .answer)) (
+        rw (i .buffer-is, buffer-front buffer file size application major minor mediaType creationTime lastWrittenTime (i .checked) (i .room)) (
+            record { sameLength = length-overwrite buffer 0 image; bytes = λ j h. getD-off buffer 0 image j (inr (omega arith)) }),
+        rw (i .buffer-is) (header-set _ _ lastWrittenTime long),
+      );
 }

@@ -39,8 +39,5 @@ exported (export.Length n) = accepted n
 exported (export.Refused r) = refused r
 
 -- a call that writes: its answer, and every byte of the buffer afterwards
-unfoldable pub answered : Updated → List ℕ → Outcome Placed
-answered u buffer = record { result = updated u; buffer = buffer }
-
-unfoldable pub answeredLength : Exported → List ℕ → Outcome ℕ
-answeredLength e out = record { result = exported e; buffer = out }
+unfoldable pub answered : {A : Type 0} → Answer A → List ℕ → Outcome A
+answered answer buffer = record { result = answer; buffer = buffer }

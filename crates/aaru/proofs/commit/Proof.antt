@@ -8,6 +8,7 @@ use Rattle.format.specs.declared.Verdict.the-variants.{Passes}
 use Rattle.format.specs.Opening.{opening}
 use Rattle.format.specs.Writing.{writableVerdict}
 use Rattle.format.specs.Committing.{argumentsVerdict, discVerdict, commitVerdict, append, commit}
+use Rattle.format.specs.Answers.{updated}
 use Rattle.format.proofs.Refusals.{answer-refused}
 use Rattle.format.proofs.Checks.{arguments-ok}
 use Rattle.format.proofs.Chains.{stops, goes, by}
@@ -20,7 +21,7 @@ passes : (c : tie.After-enum-told) → let a = c .before .before .before .before
 passes c = by (c .enum-told .given .1) (c .before .before .commit-verdict .ensures)
 
 returns : tie.Need-returns
-unfolding commit append commitVerdict
+unfolding commit append commitVerdict updated
 returns c = outcome-stops _ _ _ (stops _ (by (c .before .v .given .1) (c .before .before .before .commit-verdict .ensures)))
 
 part-requires : tie.Need-part-requires
@@ -34,7 +35,7 @@ commit-requires c κs = (
 )
 
 returns-2 : tie.Need-returns-2
-unfolding commit append commitVerdict discVerdict writableVerdict opening outcome part
+unfolding commit append commitVerdict discVerdict writableVerdict opening outcome part updated
 returns-2 c =
     outcome-stops _ _ _
     (goes (passes (c .before .before .before .before .before .before))

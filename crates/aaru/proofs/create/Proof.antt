@@ -4,6 +4,7 @@ use borrow.Author.Needs.{needs}
 use mathlib.Core.Path.{refl, sym}
 use denote.Ref.{now}
 use Rattle.format.specs.Creating.{createdIndexAt, createdUsed, create}
+use Rattle.format.specs.Answers.{updated}
 use Rattle.format.specs.Facts.{CreateOk}
 use Rattle.format.proofs.Checks.{created-used, create-ok}
 use Rattle.format.proofs.Chains.{by}
@@ -15,7 +16,7 @@ ok : (c : tie.After-enum-told) → let a = c .before .before .before .before .be
 ok c = create-ok _ _ _ .0 (sym (by (c .enum-told .given .1) (c .before .before .create-verdict .ensures)))
 
 returns : tie.Need-returns
-unfolding create
+unfolding create updated
 returns c = outcome-stops _ _ _ (by (c .before .v .given .1) (c .before .before .before .create-verdict .ensures))
 
 put-image-requires : tie.Need-put-image-requires
@@ -34,7 +35,7 @@ add-used-2 : tie.Need-add-used-2
 add-used-2 c = let k = ok (c .before .before .before .before) in omega arith
 
 returns-2 : tie.Need-returns-2
-unfolding create createdUsed createdIndexAt
+unfolding create createdUsed createdIndexAt updated
 returns-2 c =
     let d = c .before .before .before .before in
     outcome-done _ (by (d .enum-told .given .1) (d .before .before .create-verdict .ensures)) refl (c .before .before .put-image .ensures)

@@ -8,6 +8,7 @@ use Rattle.fields.specs.Bytes.{part}
 use Rattle.format.specs.declared.Verdict.the-variants.{Passes}
 use Rattle.format.specs.Writing.{bufferVerdict, writableVerdict}
 use Rattle.format.specs.RollingBack.{rollbackVerdict, rollback}
+use Rattle.format.specs.Answers.{updated}
 use Rattle.format.proofs.Checks.{buffer-ok, writable-ok}
 use Rattle.format.proofs.Chains.{stops, goes, by}
 use Rattle.format.proofs.Answers.{outcome-stops, outcome-done}
@@ -22,14 +23,14 @@ unfolding part
 image-passes c = rw (c .before .before .before .part .ensures) at (by (c .enum-told2 .given .1) (c .before .before .writable-verdict .ensures))
 
 returns : tie.Need-returns
-unfolding rollback rollbackVerdict
+unfolding rollback rollbackVerdict updated
 returns c = outcome-stops _ _ _ (stops _ (by (c .before .v .given .1) (c .before .before .before .buffer-verdict .ensures)))
 
 part-requires : tie.Need-part-requires
 part-requires c κs = let k = buffer-ok _ _ .0 (sym (buffer-passes (c .before))) in omega arith
 
 returns-2 : tie.Need-returns-2
-unfolding rollback rollbackVerdict part
+unfolding rollback rollbackVerdict part updated
 returns-2 c =
     outcome-stops _ _ _
     (goes (buffer-passes (c .before .before .before .before .before .before))
@@ -41,7 +42,7 @@ set-header-requires c κs =
     omega (arith, rw length-take at k)
 
 returns-3 : tie.Need-returns-3
-unfolding rollback rollbackVerdict
+unfolding rollback rollbackVerdict updated
 returns-3 c =
     let d = c .before .before .before .before in
     outcome-done _ (goes (buffer-passes (d .before .before .before .before .before)) (image-passes d)) refl (c .before .before .set-header .ensures)

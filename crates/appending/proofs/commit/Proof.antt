@@ -4,6 +4,7 @@ use borrow.Author.Needs.{needs}
 use mathlib.Core.Path.{sym}
 use Rattle.fields.specs.Bytes.{part}
 use Rattle.format.specs.Committing.{commitVerdict, append, commit}
+use Rattle.format.specs.Answers.{updated}
 use Rattle.format.proofs.Checks.{arguments-ok}
 use Rattle.format.proofs.Chains.{stops, goes, by}
 use Rattle.format.proofs.Answers.{outcome-stops}
@@ -18,7 +19,7 @@ unfolding part
 disc-verdict-of-requires c κs = rw (c .part .ensures) (c .before .before .before .before .pre .1)
 
 returns : tie.Need-returns
-unfolding commit append commitVerdict part
+unfolding commit append commitVerdict part updated
 returns c =
     let p = c .before .before .before .before .before .before .before .before .pre in
     outcome-stops _ _ _

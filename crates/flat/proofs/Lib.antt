@@ -1,0 +1,2 @@
+mod Sectors
+mod Whole
