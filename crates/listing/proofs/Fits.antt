@@ -3,33 +3,26 @@
 -- Assumes nothing.
 use mathlib.Core.Bool.{Bool, true, false}
 use mathlib.Core.List.{List}
-use mathlib.Core.Path.{_≡_, refl, sym, ap, _∙_}
+use mathlib.Core.Path.{_≡_, refl, sym}
 use Prim.Native.Nat.{ℕ, zero, suc, _+_, _*_, _≤_, _<_}
 use native.Mathlib.Omega.{arith}
 use lib.Dec.{ltb}
 use lib.IntN.{ℤ, pos, negsuc, negℤ, natAbs, _+ℤ_, +ℤ-idr}
-use lib.ListN.{length, take, length-append}
-use lib.Seq.{length-take-le}
-use Rattle.fields.proofs.Overwrite.{length-overwrite}
+use lib.ListN.{length, length-append}
 use Rattle.format.specs.declared.Place.{Place}
 use Rattle.format.specs.declared.Refusal.{Refusal}
 use Rattle.format.specs.Refusals.{Answer, refused, accepted}
 use Rattle.format.specs.Opening.{Opened, rangeOf, sectorCount}
 use Rattle.format.specs.Reading.{locate}
 use Rattle.format.proofs.Reading.{located-inside}
-use Rattle.listing.specs.Buffer.{Writes, Prints}
-use Rattle.listing.specs.Listing.{decimal, signed, head, line, linesFrom, lines, imageText, longestInput}
-use Rattle.listing.proofs.Decimal.{length-decimal}
+use Rattle.text.specs.Text.{decimal, longestInput}
+use Rattle.text.proofs.Decimal.{length-decimal, length-signed, length-refused}
+use Rattle.listing.specs.Listing.{head, line, linesFrom, lines, imageText}
 use Rattle.listing.proofs.Pieces.{address-next}
 use Rattle.listing.proofs.Short.{count-refusal, locate-refusal, count-short}
 
 abbrev pub longestText : ℕ
 longestText = 311296
-
-length-signed : (a : ℤ) → natAbs a < 100000 → length (signed a) ≤ 6
-unfolding signed
-length-signed (pos n) h = let u = length-decimal 4 n h in omega arith
-length-signed (negsuc n) h = let u = length-decimal 4 (suc n) h in simp length-append (omega arith)
 
 -- the address that follows the lowest one by n
 low : (m n : ℕ) → m < 65536 → n < 16384 → natAbs (negℤ (pos m) +ℤ pos n) < 100000
@@ -45,12 +38,12 @@ module _ (img : List ℕ) (short : length img ≤ longestInput) where
   unfolding line
   line-fits a b (accepted p) e =
       let i = located-inside img a p e in
-      let u = length-signed a b in
+      let u = length-signed 4 a b in
       let v = length-decimal 4 (p .start .0) (omega arith) in
       let w = length-decimal 4 (p .size) (omega arith) in
       simp length-append (omega arith)
   line-fits a b (refused r) e =
-      let u = length-signed a b in
+      let u = length-signed 4 a b in
       let v = length-decimal 1 (r .number) (locate-refusal img a r e) in
       simp length-append (omega arith)
 
@@ -75,18 +68,5 @@ module _ (img : List ℕ) (short : length img ≤ longestInput) where
   pub refused-fits : (r : Refusal) → refused r ≡ sectorCount img → length (imageText img) ≤ longestText
   unfolding imageText head lines
   refused-fits r e =
-      let u = length-decimal 1 (r .number) (count-refusal img r (sym e)) in
+      let u = length-refused 1 (r .number) (count-refusal img r (sym e)) in
       rw (← e) (simp length-append (omega arith))
-
--- so it is written whole
-pub writes-prints : {s text t : List ℕ} {n : ℕ} → length text ≤ length s → Writes s 0 text t n → Prints s text t n
-writes-prints f w = let e = w .place in record { bytes = w .bytes; whole = omega arith; room = f }
-
--- what a caller needs to hand the text on
-pub prints-count : {s text t : List ℕ} {n : ℕ} → Prints s text t n → (n ≤ length t) × (n ≡ length (take n t))
-prints-count {s} {text} {t} {n} w =
-    let f = w .room in
-    let e = w .whole in
-    let k : length t ≡ length s = ap length (w .bytes) ∙ length-overwrite s 0 text in
-    let h : n ≤ length t = omega arith in
-    (h, sym (length-take-le n t h))

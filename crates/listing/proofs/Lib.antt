@@ -1,5 +1,3 @@
-mod Decimal
-mod Writes
 mod Pieces
 mod Short
-pub mod Fits
+mod Fits

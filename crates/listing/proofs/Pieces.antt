@@ -1,16 +1,13 @@
 -- How the text is made of the pieces that the code writes: a line of its words and numbers, the lines of an image one after the other, and
 -- the whole.
 -- Assumes nothing.
-use mathlib.Core.Bool.{true, false, true≢false}
 use mathlib.Core.List.{List, _++_, append-assoc, append-nil}
-use mathlib.Core.Path.{_≡_, sym, ap, _∙_}
+use mathlib.Core.Path.{_≡_, ap, _∙_}
 use Prim.Native.Nat.{ℕ, zero, suc, _+_, _≤_, _<_}
 use native.Mathlib.Numerals.{add-one}
 use native.Mathlib.Omega.{arith}
 use lib.ListN.{length}
-use lib.IntN.{ℤ, pos, negsuc, natAbs, _+ℤ_, +ℤ-assoc, +ℤ-idr}
-use lib.Signed.{ltZ}
-use borrow.Author.Tests.{ltb-true}
+use lib.IntN.{ℤ, pos, _+ℤ_, +ℤ-assoc, +ℤ-idr}
 use Rattle.format.specs.declared.AddressRange.{AddressRange}
 use Rattle.format.specs.declared.Counted.{Counted}
 use Rattle.format.specs.declared.Counted.the-variants as count
@@ -23,9 +20,10 @@ use Rattle.format.specs.Answers.{counted, located}
 use Rattle.format.specs.Opening.{sectorCount}
 use Rattle.format.specs.Reading.{locate}
 use Rattle.format.proofs.Tests.{below-true, below-iff, choose-true, choose-false}
-use Rattle.listing.specs.Buffer.{Writes}
-use Rattle.listing.specs.Listing.{SECTORS, REFUSED, SPACE, DASH, MINUS, NEWLINE, decimal, signed, head, line, linesFrom, lines, imageText, TOO-LONG, longestInput, listing}
-use Rattle.listing.proofs.Writes.{writes-then}
+use Rattle.text.specs.Text.{TOO-LONG, NEWLINE, decimal, signed, refusedLine, longestInput}
+use Rattle.text.specs.Buffer.{Writes}
+use Rattle.text.proofs.Writes.{writes-then}
+use Rattle.listing.specs.Listing.{SECTORS, SPACE, DASH, head, line, linesFrom, lines, imageText, listing}
 
 -- ---- the first line
 module _ {s t : List ℕ} {at p : ℕ} {c : Counted} where
@@ -33,21 +31,9 @@ module _ {s t : List ℕ} {at p : ℕ} {c : Counted} where
   unfolding head counted
   head-sectors e w = rw e w
 
-  pub head-refused : {r : Refusal} → c ≡ count.Refused r → Writes s at (REFUSED ++ decimal (r .number) ++ NEWLINE) t p → Writes s at (head (counted c)) t p
+  pub head-refused : {r : Refusal} → c ≡ count.Refused r → Writes s at (refusedLine (r .number)) t p → Writes s at (head (counted c)) t p
   unfolding head counted
   head-refused e w = rw e w
-
--- ---- an address
--- by its sign, n from 0
-pub signed-up : (x : ℤ) {n : ℕ} → n ≡ natAbs x → ltZ x (pos 0) ≡ false → signed x ≡ decimal n
-unfolding signed
-signed-up (pos m) e s = ap decimal (sym e)
-signed-up (negsuc m) e s = absurd (true≢false s)
-
-pub signed-down : (x : ℤ) {n : ℕ} → n ≡ natAbs x → ltZ x (pos 0) ≡ true → signed x ≡ MINUS ++ decimal n
-unfolding signed
-signed-down (pos m) e s = absurd (omega (arith, ltb-true m 0 s))
-signed-down (negsuc m) e s = ap (λ k. MINUS ++ decimal k) (sym e)
 
 -- ---- the line of an address
 module _ {s t u : List ℕ} {at p q : ℕ} {l : Located} (a : ℤ) (w : Writes s at (signed a) t p) where

@@ -1,6 +1,5 @@
 // What the listing program prints, as a function on slices.
-mod text; // words and numbers, written into a lent buffer
-mod lines; // the lines that they make
+mod lines; // its lines, written into a lent buffer
 
 ghost use mathlib.Core.Path.{_≡_};
 ghost use Prim.Native.Nat.{_≤_};
@@ -9,8 +8,9 @@ ghost use lib.IntN.{pos, negℤ};
 ghost use Rattle.format.specs.Refusals.{accepted};
 ghost use Rattle.format.specs.Opening.{opening};
 ghost use Rattle.opening.specs.Answers.{contents};
-ghost use Rattle.listing.specs.Buffer.{Writes, Prints};
-ghost use Rattle.listing.specs.Listing.{linesFrom, imageText, longestInput, listing};
+ghost use Rattle.text.specs.Text.{longestInput};
+ghost use Rattle.text.specs.Buffer.{Writes, Prints};
+ghost use Rattle.listing.specs.Listing.{linesFrom, imageText, listing};
 use format::ByteOffset;
 use format::Counted;
 use format::EntryNumber;

@@ -2,9 +2,8 @@
 ghost use Prim.Native.Nat.{_≤_};
 ghost use lib.ListN.{length};
 ghost use Rattle.format.specs.Answers.{counted, located};
-ghost use Rattle.listing.specs.Buffer.{Writes};
+ghost use Rattle.text.specs.Buffer.{Writes};
 ghost use Rattle.listing.specs.Listing.{head, line};
-use crate::text;
 use format::Counted;
 use format::Located;
 use format::SectorAddress;
@@ -16,7 +15,7 @@ pub fn head(out: &mut [u8], at: usize, c: Counted) -> usize
 {
     match c {
         Counted::Sectors(s) => text::write_end(out, at, b"sectors ", s.count),
-        Counted::Refused(r) => text::write_end(out, at, b"refused ", r.number as u64),
+        Counted::Refused(r) => text::refused(out, at, r.number as u64),
     }
 }
 

@@ -9,9 +9,9 @@ use lib.IntN.{pos, negℤ}
 use Rattle.opening.specs.Answers.{contents}
 use Rattle.opening.proofs.Accepted.{few}
 use Rattle.sectors.specs.Found.{Known}
-use Rattle.listing.specs.Buffer.{Writes}
+use Rattle.text.specs.Buffer.{Writes}
+use Rattle.text.proofs.Writes.{writes-none}
 use Rattle.listing.specs.Listing.{linesFrom}
-use Rattle.listing.proofs.Writes.{writes-none}
 use Rattle.listing.proofs.Pieces.{lines-next}
 use Rattle.listing.proofs.address_lines.Statement.{statement}
 use Rattle.listing.proofs.address_lines.Tie as tie

@@ -1,7 +1,7 @@
 -- `listing::list` meets its contract. Assumes nothing.
 use borrow.Author.Needs.{needs}
 use native.Mathlib.Omega.{arith}
-use Rattle.listing.proofs.Fits.{writes-prints}
+use Rattle.text.proofs.Writes.{writes-prints}
 use Rattle.listing.proofs.Pieces.{listing-long, listing-image}
 use Rattle.listing.proofs.list.Statement.{statement}
 use Rattle.listing.proofs.list.Tie as tie

@@ -1,7 +1,7 @@
 -- `listing_cases::listing_lines` is safe: the listing answers how many bytes of the array its text has. Assumes nothing.
 use borrow.Author.Needs.{needs}
 use native.Mathlib.Omega.{arith}
-use Rattle.listing.proofs.Fits.{prints-count}
+use Rattle.text.proofs.Writes.{prints-count}
 use Rattle.cases.proofs.listing_cases.listing_lines.Statement.{statement}
 use Rattle.cases.proofs.listing_cases.listing_lines.Tie as tie
 

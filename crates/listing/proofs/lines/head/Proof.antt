@@ -8,7 +8,7 @@ returns : tie.Need-returns
 returns c = head-sectors (c .before .before .before .before .before .before .c .given .1) (c .before .before .write-end .ensures)
 
 returns-2 : tie.Need-returns-2
-returns-2 c = head-refused (c .before .before .before .before .before .before .before .c2 .given .1) (c .before .before .write-end2 .ensures)
+returns-2 c = head-refused (c .before .before .before .before .before .before .c2 .given .1) (c .before .before .refused .ensures)
 
 pub head-spec : {M : Type 1} → statement M
 head-spec =
@@ -17,7 +17,6 @@ head-spec =
     (λ c. search needs)
     (λ c. search needs)
     (λ c κs. search needs)
-    (λ c. search needs)
     (λ c. search needs)
     (λ c. search needs)
     (λ c κs. search needs)

@@ -4,8 +4,8 @@ use denote.Ref.{now}
 use mir.Syntax.{w64}
 use mir.Val.{SFits}
 use mir.Facts.{toZ-ofZ}
-use Rattle.listing.specs.Buffer.{Writes}
-use Rattle.listing.specs.Listing.{signed}
+use Rattle.text.specs.Text.{signed}
+use Rattle.text.specs.Buffer.{Writes}
 use Rattle.listing.proofs.Pieces.{line-at, line-refused}
 use Rattle.listing.proofs.lines.line.Statement.{statement}
 use Rattle.listing.proofs.lines.line.Tie as tie

@@ -1,9 +1,9 @@
 -- `text::write_byte` meets its contract. Assumes nothing.
 use borrow.Author.Needs.{needs}
 use native.Mathlib.Omega.{arith}
-use Rattle.listing.proofs.Writes.{writes-byte, writes-full}
-use Rattle.listing.proofs.text.write_byte.Statement.{statement}
-use Rattle.listing.proofs.text.write_byte.Tie as tie
+use Rattle.text.proofs.Writes.{writes-byte, writes-full}
+use Rattle.text.proofs.write_byte.Statement.{statement}
+use Rattle.text.proofs.write_byte.Tie as tie
 
 returns : tie.Need-returns
 returns c = writes-full _ _ _ (omega arith)

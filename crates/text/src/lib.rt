@@ -3,8 +3,8 @@
 ghost use mathlib.Core.List.{[], _∷_, _++_};
 ghost use Prim.Native.Nat.{_≤_};
 ghost use lib.ListN.{length};
-ghost use Rattle.listing.specs.Buffer.{Writes};
-ghost use Rattle.listing.specs.Listing.{NEWLINE, decimal, signed};
+ghost use Rattle.text.specs.Buffer.{Writes};
+ghost use Rattle.text.specs.Text.{NEWLINE, decimal, signed, refusedLine};
 use fields::magnitude;
 
 // One byte.
@@ -75,4 +75,12 @@ pub fn write_end(out: &mut [u8], at: usize, word: &[u8], n: u64) -> usize
 {
     let next = write_both(out, at, word, n);
     write(out, next, b"\n")
+}
+
+// The line of a refusal, by its number.
+pub fn refused(out: &mut [u8], at: usize, number: u64) -> usize
+    requires { ⌜ at ≤ length (now out) ⌝ }
+    ensures { λ r. ⌜ Writes (now (out .entry)) at (refusedLine number) (now (out .exit)) r ⌝ }
+{
+    write_end(out, at, b"refused ", number)
 }

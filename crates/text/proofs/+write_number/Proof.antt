@@ -4,14 +4,14 @@ use Prim.Native.Nat.{ℕ, _<_}
 use native.Mathlib.Omega.{arith}
 use borrow.Fn.Kinds.{In}
 use borrow.Fn.PlainCycle.{Measures, is, falls, and}
-use Rattle.listing.proofs.Decimal.{decimal-one, decimal-more}
-use Rattle.listing.proofs.Writes.{writes-then}
-use Rattle.listing.proofs.text.write_number.Reads as write-number
-use Rattle.listing.proofs.text.write_number.Kinds as write-number-kinds
-use Rattle.listing.proofs.text.+write_number.Lts-write_number as write-number-lts
-use Rattle.listing.proofs.text.write_byte.Reads as write-byte-reads
-use Rattle.listing.proofs.text.+write_number.{statement}
-use Rattle.listing.proofs.text.+write_number.Tie.{close}
+use Rattle.text.proofs.Decimal.{decimal-one, decimal-more}
+use Rattle.text.proofs.Writes.{writes-then}
+use Rattle.text.proofs.write_number.Reads as write-number
+use Rattle.text.proofs.write_number.Kinds as write-number-kinds
+use Rattle.text.proofs.+write_number.Lts-write_number as write-number-lts
+use Rattle.text.proofs.write_byte.Reads as write-byte-reads
+use Rattle.text.proofs.+write_number.{statement}
+use Rattle.text.proofs.+write_number.Tie.{close}
 
 abbrev μ-write-number : Measures 1 write-number-kinds.ps ℕ
 μ-write-number κs a = a .1 .1 .0

@@ -4,10 +4,10 @@ use mathlib.Core.Path.{_≡_, refl}
 use Prim.Native.Nat.{_-_, _≤_}
 use native.Mathlib.Omega.{arith}
 use lib.ListN.{length, take}
-use Rattle.listing.specs.Buffer.{Writes}
-use Rattle.listing.proofs.Writes.{writes-none, writes-next, writes-end}
-use Rattle.listing.proofs.text.write.Statement.{statement}
-use Rattle.listing.proofs.text.write.Tie as tie
+use Rattle.text.specs.Buffer.{Writes}
+use Rattle.text.proofs.Writes.{writes-none, writes-next, writes-end}
+use Rattle.text.proofs.write.Statement.{statement}
+use Rattle.text.proofs.write.Tie as tie
 
 abbrev Inv-loop : tie.InvT-loop
 Inv-loop out₀ at s next₀ i₀ out next i = (i ≤ length s) × (length out ≡ length out₀) × Writes out₀ at (take i s) out next

@@ -1,8 +1,8 @@
 -- `text::write_both` meets its contract. Assumes nothing.
 use borrow.Author.Needs.{needs}
-use Rattle.listing.proofs.Writes.{writes-then}
-use Rattle.listing.proofs.text.write_both.Statement.{statement}
-use Rattle.listing.proofs.text.write_both.Tie as tie
+use Rattle.text.proofs.Writes.{writes-then}
+use Rattle.text.proofs.write_both.Statement.{statement}
+use Rattle.text.proofs.write_both.Tie as tie
 
 returns : tie.Need-returns
 returns c = writes-then (c .before .before .before .before .before .before .write .ensures) (c .before .before .write-number .ensures)

@@ -1,8 +1,8 @@
 -- `text::write_end` meets its contract. Assumes nothing.
 use borrow.Author.Needs.{needs}
-use Rattle.listing.proofs.Writes.{writes-then}
-use Rattle.listing.proofs.text.write_end.Statement.{statement}
-use Rattle.listing.proofs.text.write_end.Tie as tie
+use Rattle.text.proofs.Writes.{writes-then}
+use Rattle.text.proofs.write_end.Statement.{statement}
+use Rattle.text.proofs.write_end.Tie as tie
 
 returns : tie.Need-returns
 returns c = writes-then (c .before .before .before .before .before .before .before .write-both .ensures) (c .before .before .write .ensures)

@@ -6,9 +6,9 @@ use mir.Val.{SFits}
 use mir.Facts.{toZ-ofZ}
 use borrow.Author.Needs.{needs}
 use Rattle.fields.proofs.Signs.{sign-is}
-use Rattle.listing.proofs.Pieces.{signed-up, signed-down}
-use Rattle.listing.proofs.text.write_signed.Statement.{statement}
-use Rattle.listing.proofs.text.write_signed.Tie as tie
+use Rattle.text.proofs.Decimal.{signed-up, signed-down}
+use Rattle.text.proofs.write_signed.Statement.{statement}
+use Rattle.text.proofs.write_signed.Tie as tie
 
 number : (c : tie.After-slice-known) → SFits w64 (c .before .args .x)
 number c = search needs

@@ -1,14 +1,18 @@
--- Laws of `decimal`: its digits one by one, how many there are, and examples by computing them.
+-- Laws of `decimal` and what is made of it: its digits one by one, a number by its sign, how long the texts are, and examples by computing them.
 -- Assumes nothing.
+use mathlib.Core.Bool.{true, false, true≢false}
 use mathlib.Core.List.{List, [], _∷_, _++_}
-use mathlib.Core.Path.{_≡_, refl, ap, _∙_}
-use Prim.Native.Nat.{ℕ, zero, suc, _*_, _/_, _^_, _≤_, _<_}
+use mathlib.Core.Path.{_≡_, refl, sym, ap, _∙_}
+use Prim.Native.Nat.{ℕ, zero, suc, _+_, _*_, _/_, _^_, _≤_, _<_}
 use native.Mathlib.Nat.{pow-suc}
 use native.Mathlib.Omega.{arith}
 use lib.ListN.{length, length-append}
+use lib.IntN.{ℤ, pos, negsuc, natAbs}
+use lib.Signed.{ltZ}
+use borrow.Author.Tests.{ltb-true}
 use Rattle.format.specs.Tests.{below, choose}
 use Rattle.format.proofs.Tests.{below-true, below-iff, choose-true, choose-false, choose-cases}
-use Rattle.listing.specs.Listing.{lastDigit, digits, decimal}
+use Rattle.text.specs.Text.{MINUS, lastDigit, digits, decimal, signed, refusedLine}
 
 -- the codes of the digits of a few numbers: 0, 7, 10, 507, 65536, 2^64 - 1
 pub decimal-examples :
@@ -39,6 +43,17 @@ decimal-more n h b =
     ap (λ (l : List ℕ). l ++ (lastDigit n ∷ []))
     (choose-false _ _ _ (below-iff .1 h) ∙ digits-enough 18 (n / 10) (tenth 19 n b))
 
+-- ---- a number by its sign, n from 0
+pub signed-up : (x : ℤ) {n : ℕ} → n ≡ natAbs x → ltZ x (pos 0) ≡ false → signed x ≡ decimal n
+unfolding signed
+signed-up (pos m) e s = ap decimal (sym e)
+signed-up (negsuc m) e s = absurd (true≢false s)
+
+pub signed-down : (x : ℤ) {n : ℕ} → n ≡ natAbs x → ltZ x (pos 0) ≡ true → signed x ≡ MINUS ++ decimal n
+unfolding signed
+signed-down (pos m) e s = absurd (omega (arith, ltb-true m 0 s))
+signed-down (negsuc m) e s = ap (λ k. MINUS ++ decimal k) (sym e)
+
 -- ---- how many digits there are
 length-digits : (k j n : ℕ) → n < 10 ^ suc j → length (digits k n) ≤ suc j
 unfolding digits
@@ -52,3 +67,14 @@ length-digits (suc k) (suc j) n h =
 pub length-decimal : (j n : ℕ) → n < 10 ^ suc j → length (decimal n) ≤ suc j
 unfolding decimal
 length-decimal j n h = length-digits 20 j n h
+
+-- with a minus
+pub length-signed : (j : ℕ) (x : ℤ) → natAbs x < 10 ^ suc j → length (signed x) ≤ 2 + j
+unfolding signed
+length-signed j (pos n) h = let u = length-decimal j n h in omega arith
+length-signed j (negsuc n) h = let u = length-decimal j (suc n) h in simp length-append (omega arith)
+
+-- in the line of a refusal
+pub length-refused : (j n : ℕ) → n < 10 ^ suc j → length (refusedLine n) ≤ 10 + j
+unfolding refusedLine
+length-refused j n h = let u = length-decimal j n h in simp length-append (omega arith)

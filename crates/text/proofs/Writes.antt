@@ -1,4 +1,4 @@
--- Laws of `Writes`: how texts that are written one after the other join.
+-- Laws of `Writes` and `Prints`: how texts that are written one after the other join, and what is written whole.
 -- Assumes nothing.
 use mathlib.Core.List.{List, [], _∷_, _++_}
 use mathlib.Core.Logic.{⊎-elim}
@@ -8,10 +8,10 @@ use native.Mathlib.Nat.{eq-zero-or-pos}
 use native.Mathlib.Numerals.{add-one}
 use native.Mathlib.Omega.{arith}
 use lib.ListN.{length, take, getD, set, length-append}
-use lib.Seq.{take-suc, take-all}
+use lib.Seq.{take-suc, take-all, length-take-le}
 use Rattle.fields.specs.Bytes.{overwrite}
 use Rattle.fields.proofs.Overwrite.{length-overwrite, overwrite-out, overwrite-then}
-use Rattle.listing.specs.Buffer.{Writes}
+use Rattle.text.specs.Buffer.{Writes, Prints}
 
 -- two runs of bytes, where the first reaches the end, and the second is written there
 overwrite-end : (s : List ℕ) (at : ℕ) (x y : List ℕ) → length s ≤ at + length x → overwrite (overwrite s at x) (length s) y ≡ overwrite s at (x ++ y)
@@ -57,3 +57,17 @@ module _ {s t : List ℕ} {at p : ℕ} (x : List ℕ) (i : ℕ) (w : Writes s at
 
   pub writes-end : length x ≤ i → Writes s at x t p
   writes-end h = rw take-all at w
+
+-- ---- a text at the front of a buffer that has room for it
+-- is written whole
+pub writes-prints : {s text t : List ℕ} {n : ℕ} → length text ≤ length s → Writes s 0 text t n → Prints s text t n
+writes-prints f w = let e = w .place in record { bytes = w .bytes; whole = omega arith; room = f }
+
+-- what a caller needs to hand it on
+pub prints-count : {s text t : List ℕ} {n : ℕ} → Prints s text t n → (n ≤ length t) × (n ≡ length (take n t))
+prints-count {s} {text} {t} {n} w =
+    let f = w .room in
+    let e = w .whole in
+    let k : length t ≡ length s = ap length (w .bytes) ∙ length-overwrite s 0 text in
+    let h : n ≤ length t = omega arith in
+    (h, sym (length-take-le n t h))
