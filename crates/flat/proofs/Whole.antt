@@ -10,16 +10,16 @@ use Rattle.format.specs.declared.Verdict.the-variants.{Passes, Refuses}
 use Rattle.format.specs.Tests.{below}
 use Rattle.format.specs.Refusals.{refusal, row, _then_, firstRefusal, refused, accepted}
 use Rattle.format.specs.Layouts.{indexOffset, entries}
-use Rattle.format.specs.Opening.{Opened, opened, opening, openVerdict}
+use Rattle.format.specs.Opening.{Opened, opened, opening}
 use Rattle.format.specs.Reading.{sectorVerdict}
-use Rattle.format.specs.Writing.{Outcome, outcome}
+use Rattle.format.specs.Writing.{outcome}
 use Rattle.format.specs.Exporting.{flatFile, sizeVerdict, flatVerdict, exportVerdict, export}
 use Rattle.format.specs.Answers.{answered}
 use Rattle.format.proofs.Tests.{below-iff}
 use Rattle.format.proofs.Refusals.{row-iff, then-rest, answer-accepted, answer-refused}
 use Rattle.format.proofs.Chains.{stops, goes}
 use Rattle.format.proofs.Answers.{outcome-stops, outcome-done}
-use Rattle.flat.specs.Exports.{Whole, Uniform}
+use Rattle.flat.specs.Exports.{Uniform}
 use Rattle.flat.proofs.Sectors.{bytes-sized}
 
 -- ---- there is room for n sectors

@@ -15,7 +15,7 @@ use Rattle.format.specs.declared.Placed.{Placed}
 use Rattle.format.specs.declared.Pointer.{Pointer}
 use Rattle.format.specs.declared.TableKind.the-variants.{First}
 use Rattle.format.specs.Lists.{Any}
-use Rattle.format.specs.Refusals.{refusal, accepted}
+use Rattle.format.specs.Refusals.{accepted}
 use Rattle.format.specs.Layouts.{DDT*, indexOffset, entries, userDataEntry, sectorSize, tableCount, tableNegative}
 use Rattle.format.specs.Opening.{tableAt, kindAt, Opened, openedAs, opened, rangeOf, sectorCount}
 use Rattle.format.specs.Reading.{tableEntry, unwritten, notWritten, placeOf}
@@ -27,16 +27,16 @@ use Rattle.format.specs.Exporting.{sizeAt, flatFile, export}
 use Rattle.format.specs.Importing.{import}
 use Rattle.format.specs.Facts.{Opens, OpensWith, EntryNames, DiscOk, Stores, all, again, new, Reindexed, replaced, end, blockLengthFor, blockEntry}
 use Rattle.format.specs.Demands.{HasSectors, Held, Additions, newEntries, CommitOk, ExportOk, ImportOk, Demand1Accepted}
-use Rattle.format.proofs.Tests.{same-on, same-true, below-iff}
+use Rattle.format.proofs.Tests.{same-on, same-true}
 use Rattle.format.proofs.Lists.{all-map, length-ofEach}
-use Rattle.format.proofs.Refusals.{row-iff, then-iff, answer-passes, answer-accepted}
+use Rattle.format.proofs.Refusals.{answer-passes, answer-accepted}
 use Rattle.format.proofs.Checks.{open-ok, SectorOk, created-index, created-used, create-ok, WritableOk, Sound, DiscSound, commit-ok, rollback-ok}
 use Rattle.format.proofs.Opens.{opens-forth, opens-back, opened-as, opens-with}
 use Rattle.format.proofs.Addresses.{inside-each, each-inside}
 use Rattle.format.proofs.Buffers.{outcome-accepts}
 use Rattle.format.proofs.Reading.{entry-forth, pointer-is, entry-back, inside-entry, entry-inside, locating}
 use Rattle.format.proofs.Exporting.{exportable, file-length}
-use Rattle.format.proofs.Importing.{Importable, importable, file-whole, file-some, file-few, file-count, addressesOf, made, made-offset, made-sound, made-opened, made-entries, made-empty, made-numbers, added, importedUsed, importedIndex, import-is, import-accepted}
+use Rattle.format.proofs.Importing.{Importable, verdict-ok, file-whole, file-some, file-few, file-count, addressesOf, made, made-offset, made-sound, made-opened, made-entries, made-empty, made-numbers, added, importedUsed, importedIndex, import-is, import-accepted}
 use Rattle.format.proofs.Created.{length-new}
 use Rattle.format.proofs.Storing.{length-pieces}
 use Rattle.format.proofs.Bytes.{tag-bytes}
@@ -337,7 +337,7 @@ module _ (buffer file : List ℕ) (size : ℕ) (application : List ℕ) (major m
       }) (some-stored buffer file size application major minor mediaType creationTime lastWrittenTime k _ r) p (rw (← is) (c .index)) (c .end) in
       ap (λ (w : Outcome Placed). w .result) (import-is buffer file size application major minor mediaType creationTime lastWrittenTime)
       ∙ outcome-accepts _ _ _ _ p .1
-      (then-iff (importable buffer file size application) (row-iff (refusal 35 0) below-iff) .1 (k, rw (ap (λ (x : Placed). x .used) e) (c .room)), e)
+      (verdict-ok buffer file size application major minor mediaType creationTime lastWrittenTime .1 (k, rw (ap (λ (x : Placed). x .used) e) (c .room)), e)
 
 pub demand-1-accepted : Demand1Accepted
 unfolding create rollback

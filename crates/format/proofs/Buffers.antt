@@ -55,6 +55,12 @@ pub outcome-refuses : {A : Type 0} (buffer : List ℕ) (v : Verdict) (p : A) (ne
 unfolding outcome
 outcome-refuses buffer v p new r = ((λ e. outcome-refused buffer v p new r e .0), λ e. rw e)
 
+-- where it is refused, what it would have written makes no difference
+pub outcome-new : {A : Type 0} (buffer : List ℕ) (v : Verdict) (p : A) (one other : List ℕ) → (v ≡ Passes → one ≡ other) → outcome buffer v p one ≡ outcome buffer v p other
+unfolding outcome
+outcome-new buffer Passes p one other h = ap (λ (l : List ℕ). record { result = accepted p; buffer = l }) (h refl)
+outcome-new buffer (Refuses r) p one other h = refl
+
 -- ---- the header's two fields
 module _ (l : List ℕ) (o time : ℕ) where
   abbrev once : List ℕ

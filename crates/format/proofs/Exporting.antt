@@ -2,7 +2,7 @@
 use mathlib.Core.List.{List, [], flatten, append-nil}
 use mathlib.Core.Logic.{_≢_, ⊎-elim, _↔_}
 use mathlib.Core.Path.{_≡_, refl, sym, ap, _∙_}
-use Prim.Native.Nat.{ℕ, zero, suc, _+_, _*_, _≤_, _<_}
+use Prim.Native.Nat.{ℕ, _+_, _*_, _≤_, _<_}
 use native.Mathlib.Nat.{zero-add, mul-le-mul-right, suc-mul}
 use native.Mathlib.Omega.{arith}
 use lib.ListN.{length, take, getD}
@@ -19,7 +19,7 @@ use Rattle.format.specs.Opening.{Opened, opened, rangeOf, sectorCount}
 use Rattle.format.specs.Reading.{displaced, placeOf, itemBytes, readAt, read}
 use Rattle.format.specs.Committing.{pieces}
 use Rattle.format.specs.Exporting.{sectorAt, sizeAt, flatFile, sizeVerdict, flatVerdict, exportVerdict, export}
-use Rattle.format.specs.Demands.{FlatFile, ExportedFile, FlatExporting}
+use Rattle.format.specs.Demands.{FlatFile, FlatExporting}
 use Rattle.format.proofs.Tests.{on-or-off, below-on, below-iff, differs-iff}
 use Rattle.format.proofs.Refusals.{row-iff, then-iff, firstRefusal-iff, answer-passes, answer-accepted}
 use Rattle.format.proofs.Lists.{Sized, length-flatten, length-ofEach, getD-ofEach, all-ofEach, ofEach-is}
@@ -45,6 +45,11 @@ exportable img o out =
     (then-iff (firstRefusal-iff (t .count) _ 0 (omega arith) (λ n h. row-iff _ differs-iff)) (row-iff _ below-iff))))
     (λ (a, (b, (c, d))). record { opens = a; sectors = λ n h. b n (omega arith) h; sizes = λ n h. c n (omega arith) h; room = d })
     (λ k. (k .opens, (λ n l h. k .sectors n h, (λ n l h. k .sizes n h, k .room))))
+
+-- of the buffer they look at the length alone
+pub verdict-alike : (img : List ℕ) (o : ℕ) (one other : List ℕ) → length one ≡ length other → exportVerdict img o one ≡ exportVerdict img o other
+unfolding exportVerdict flatVerdict
+verdict-alike img o one other e = rw e refl
 
 -- ---- one sector
 module _ (img : List ℕ) (o n : ℕ) where

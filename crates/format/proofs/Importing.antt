@@ -1,7 +1,7 @@
 -- Importing: an accepted import is an accepted creation and an accepted commit. In one piece: its checks, 35 as the last of them, and what it leaves; the disc
 -- afterwards.
-use mathlib.Core.Bool.{Bool, true, false}
-use mathlib.Core.List.{List, [], _∷_, _++_}
+use mathlib.Core.Bool.{false}
+use mathlib.Core.List.{List, _∷_, _++_}
 use mathlib.Core.Logic.{_≢_, _⊎_, ⊎-elim, ⊎-map, _↔_, Iff·rfl}
 use mathlib.Core.Path.{_≡_, refl, sym, ap, _∙_, subst}
 use Prim.Native.Nat.{ℕ, zero, suc, _+_, _*_, _/_, _%_, _≤_, _<_}
@@ -19,7 +19,7 @@ use Rattle.format.specs.declared.Verdict.{Verdict}
 use Rattle.format.specs.declared.Verdict.the-variants.{Passes, Refuses}
 use Rattle.format.specs.Tests.{below, lessThan}
 use Rattle.format.specs.Lists.{IsBytes, ofEach}
-use Rattle.format.specs.Refusals.{refusal, row, _then_, Answer, refused, accepted, answer}
+use Rattle.format.specs.Refusals.{refusal, row, _then_, refused, accepted, answer}
 use Rattle.format.specs.Layouts.{headerLength, applicationLength, indexOffset, entries}
 use Rattle.format.specs.Opening.{Opened, opened, rangeOf, sectorCount}
 use Rattle.format.specs.Reading.{displaced, outside, entryNumber, readAt, read}
@@ -34,7 +34,7 @@ use Rattle.format.proofs.Refusals.{row-iff, row-refuses, row-passes, th
 use Rattle.format.proofs.Lists.{length-ofEach, getD-ofEach}
 use Rattle.format.proofs.Numbers.{Numbered, inside-number, number-inside, number-is}
 use Rattle.format.proofs.Checks.{facts, open-ok, read-ok, first-flat, less-iff, create-ok, created-used, arguments-ok, disc-ok, Sound, DiscSound}
-use Rattle.format.proofs.Buffers.{outcome-accepted, outcome-passes, outcome-accepts, outcome-refused, outcome-refuses, length-setHeader, setHeader-inside}
+use Rattle.format.proofs.Buffers.{outcome-accepted, outcome-passes, outcome-accepts, outcome-refused, outcome-refuses, outcome-new, length-setHeader, setHeader-inside}
 use Rattle.format.proofs.Bytes.{bytes-overwrite, bytes-created}
 use Rattle.format.proofs.Appended.{appended-total}
 use Rattle.format.proofs.Committed.{Committed, commit-accepted}
@@ -297,6 +297,17 @@ module _ (buffer file : List ℕ) (size : ℕ) (application : List ℕ) (major m
   unfolding import
   import-is = checked-then buffer _ _ _ _ _ _ (λ e. both-is (importable buffer file size application .0 e))
 
+  -- ---- the image stands at the front of the buffer, and of the buffer only the length is looked at
+  abbrev pub wholeVerdict : Verdict
+  wholeVerdict = importVerdict buffer file size application then roomVerdict
+
+  pub verdict-ok : (wholeVerdict ≡ Passes) ↔ (Importable buffer file size application × (importedUsed ≤ length buffer))
+  verdict-ok = then-iff (importable buffer file size application) (row-iff (refusal 35 0) below-iff)
+
+  pub import-front : import buffer file size application major minor mediaType creationTime lastWrittenTime
+      ≡ outcome buffer wholeVerdict (placed importedUsed importedIndex) (overwrite buffer 0 importedImage)
+  import-front = import-is ∙ outcome-new buffer wholeVerdict _ _ _ (λ e. let k = verdict-ok .0 e in buffer-front (k .0) (k .1))
+
   -- ---- accepted
   pub record Imports (p : Placed) (after : List ℕ) : Type 0 where
     pub checked : Importable buffer file size application
@@ -308,7 +319,7 @@ module _ (buffer file : List ℕ) (size : ℕ) (application : List ℕ) (major m
       → Imports p (import buffer file size application major minor mediaType creationTime lastWrittenTime .buffer)
   import-accepted p e =
       let r = outcome-accepted _ _ _ _ p (ap (λ (w : Outcome Placed). w .result) (sym import-is) ∙ e) in
-      let c = then-iff (importable buffer file size application) (row-iff (refusal 35 0) below-iff) .0 (r .passes) in
+      let c = verdict-ok .0 (r .passes) in
       record { checked = c .0; room = c .1; answer = r .answer; buffer-is = ap (λ (w : Outcome Placed). w .buffer) import-is ∙ r .buffer }
 
   -- where its own checks pass it is accepted, or there is no room
@@ -372,6 +383,11 @@ module _ (buffer file : List ℕ) (size : ℕ) (application : List ℕ) (major m
           };
           lowest = refl;
         }
+
+pub verdict-alike : (one other file : List ℕ) (size : ℕ) (application : List ℕ) (major minor mediaType creationTime lastWrittenTime : ℕ) → length one ≡ length other
+    → wholeVerdict one file size application major minor mediaType creationTime lastWrittenTime ≡ wholeVerdict other file size application major minor mediaType creationTime lastWrittenTime
+unfolding importVerdict
+verdict-alike one other file size application major minor mediaType creationTime lastWrittenTime e = rw e refl
 
 pub import-started : (buffer : List ℕ) → IsBytes buffer → (file : List ℕ) (size : ℕ) (application : List ℕ) → IsBytes application
     → (major minor mediaType creationTime lastWrittenTime : ℕ) (p : Placed) → import buffer file size application major minor mediaType creationTime lastWrittenTime .result ≡ accepted p

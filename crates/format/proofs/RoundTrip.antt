@@ -1,11 +1,11 @@
 -- 4/13: a flat file that is imported and exported again, and a disc that is exported and imported again.
 use mathlib.Core.List.{List}
 use mathlib.Core.Logic.{⊎-elim}
-use mathlib.Core.Path.{_≡_, sym, ap, _∙_}
+use mathlib.Core.Path.{sym, ap, _∙_}
 use Prim.Native.Nat.{ℕ, _%_}
 use native.Mathlib.Nat.{mul-mod-left, mul-le-mul-right}
 use native.Mathlib.Omega.{arith}
-use lib.ListN.{length, take}
+use lib.ListN.{take}
 use lib.IntN.{ℤ, _+ℤ_, +ℤ-idl}
 use Rattle.format.specs.Reading.{read}
 use Rattle.format.specs.Exporting.{export}

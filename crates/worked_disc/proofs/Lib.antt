@@ -1,2 +1,3 @@
 mod WorkedDisc
 mod SecondDisc
+mod FlatDisc

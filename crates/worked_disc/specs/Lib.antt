@@ -1,2 +1,3 @@
 pub mod WorkedDisc
 pub mod SecondDisc
+pub mod FlatDisc
