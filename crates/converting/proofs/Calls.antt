@@ -64,7 +64,7 @@ import-fills file size application major minor mediaType creationTime lastWritte
       is = λ b.
           importing.import-front b file size application major minor mediaType creationTime lastWrittenTime
           ∙ ap (λ (v : Verdict). outcome b v p (overwrite b 0 image))
-            (importing.verdict-alike b (replicate (length b) 0) file size application major minor mediaType creationTime lastWrittenTime (sym (blank-long (length b))));
+          (importing.verdict-alike b (replicate (length b) 0) file size application major minor mediaType creationTime lastWrittenTime (sym (blank-long (length b))));
       sized = λ n v.
           let k = importing.verdict-ok (replicate n 0) file size application major minor mediaType creationTime lastWrittenTime .0 v in
           sym (importing.image-length (replicate n 0) file size application major minor mediaType creationTime lastWrittenTime (k .0));

@@ -90,9 +90,9 @@ fn put_sectors(s: &[u8], t: Opened, out: &mut [u8], size: u64) -> u64
     let mut n: u64 = 0;
     // an iteration for each sector
     while n < count {
-        let p = place_at(s, t, EntryNumber(n));
-        let start = p.start;
-        copy(out, at, part(s, start.0, p.size));
+        let sector = place_at(s, t, EntryNumber(n));
+        let start = sector.start;
+        copy(out, at, part(s, start.0, sector.size));
         at += size;
         n += 1;
     }

@@ -6,6 +6,8 @@ use native.Mathlib.Omega.{arith}
 use lib.IntN.{ℤ}
 use Rattle.format.specs.declared.Counted.{Counted}
 use Rattle.format.specs.declared.Counted.the-variants as count
+use Rattle.format.specs.declared.Exported.{Exported}
+use Rattle.format.specs.declared.Exported.the-variants as export
 use Rattle.format.specs.declared.Located.{Located}
 use Rattle.format.specs.declared.Located.the-variants as place
 use Rattle.format.specs.declared.Refusal.{Refusal}
@@ -17,7 +19,7 @@ use Rattle.format.specs.Refusals.{refused, accepted}
 use Rattle.format.specs.Opening.{Opened, opening, rangeOf, sectorCount}
 use Rattle.format.specs.Reading.{readVerdict, locate}
 use Rattle.format.specs.Writing.{outcome}
-use Rattle.format.specs.Answers.{counted, located, updated, answered}
+use Rattle.format.specs.Answers.{counted, located, updated, exported, answered}
 use Rattle.format.proofs.Refusals.{answer-passes, answer-refuses, answer-accepted, answer-refused, then-refuses}
 
 pub counted-distinct : (x y : Counted) → counted x ≡ counted y → x ≡ y
@@ -40,6 +42,13 @@ updated-distinct (update.To p) (update.To q) e = cc
 updated-distinct (update.To p) (update.Refused r) e = let z : _≡_ {A = ℕ} 0 1 = cc in absurd (omega arith)
 updated-distinct (update.Refused r) (update.To p) e = let z : _≡_ {A = ℕ} 0 1 = cc in absurd (omega arith)
 updated-distinct (update.Refused r) (update.Refused q) e = cc
+
+pub exported-distinct : (x y : Exported) → exported x ≡ exported y → x ≡ y
+unfolding exported
+exported-distinct (export.Length n) (export.Length m) e = cc
+exported-distinct (export.Length n) (export.Refused r) e = let z : _≡_ {A = ℕ} 0 1 = cc in absurd (omega arith)
+exported-distinct (export.Refused r) (export.Length m) e = let z : _≡_ {A = ℕ} 0 1 = cc in absurd (omega arith)
+exported-distinct (export.Refused r) (export.Refused q) e = cc
 
 -- ---- what a call that writes leaves, by its verdict
 module _ {A : Type 0} (buffer : List ℕ) {v : Verdict} where
