@@ -15,9 +15,9 @@
  *     const, written. Where the length is 0 the pointer is not followed and may be null;
  *   - every other pointer points to a number of its own;
  *   - pointers to numbers, and `addresses`, are aligned as their type asks;
- *   - what a call may write, the buffer and the numbers behind its last pointers, overlaps nothing else that it is
- *     handed, and nobody else reads or writes it during the call. What it only reads may overlap, but nobody may write
- *     it during the call.
+ *   - what a call may write, the buffer, aaru_export's `out` and the numbers behind its last pointers, overlaps nothing
+ *     else that it is handed, and nobody else reads or writes it during the call. What it only reads may overlap, but
+ *     nobody may write it during the call.
  * The library has no heap and no state of its own; calls on different buffers may run at the same time. Compiled for
  * x86-64, no call takes more than 20 KiB of stack.
  *
@@ -61,9 +61,12 @@
  *   26  the item number is not below length / sector size
  *   27  either checksum of the block is wrong
  *
- * The other checks, 30 to 35, are of what the caller hands in, not of the image: their place is 0. So is that of
+ * The other checks, 30 to 35, 41 and 42, are of what the caller hands in, not of the image: their place is 0. That of
+ * 40 is 0 too, and so is that of
  *   74  the image's table, for aaru_rollback the one that the index at its offset names, is a 'DDT2': only 'DDT*' is
  *       written
+ *
+ * A flat file is the sectors of a disc by rising address, all of one size, one after another and nothing else.
  */
 #ifndef AARU_H
 #define AARU_H
@@ -130,10 +133,10 @@ uint32_t aaru_commit(uint8_t *buffer, size_t length, uint64_t used, const int64_
                      uint64_t *new_used, uint64_t *index, uint64_t *place);
 
 /*
- * Makes the index at `offset` the disc's. Where a creation or a commit answered that offset as its index, the disc then
- * reads as right after that call, as long as every call was handed the `used` that the last accepted one answered. Only
- * the header's indexOffset and lastWrittenTime change, and nothing is lost: a rollback to a later index brings back
- * what was committed later. `*new_used` is `used`, `*index` is `offset`.
+ * Makes the index at `offset` the disc's. Where a creation, an import or a commit answered that offset as its index,
+ * the disc then reads as right after that call, as long as every call was handed the `used` that the last accepted one
+ * answered. Only the header's indexOffset and lastWrittenTime change, and nothing is lost: a rollback to a later index
+ * brings back what was committed later. `*new_used` is `used`, `*index` is `offset`.
  * Refused with, in this order:
  *   31  the buffer is longer than 4,294,967,296 bytes
  *   32  `used` exceeds the buffer's length
@@ -142,6 +145,37 @@ uint32_t aaru_commit(uint8_t *buffer, size_t length, uint64_t used, const int64_
  */
 uint32_t aaru_rollback(uint8_t *buffer, size_t length, uint64_t used, uint64_t offset, uint64_t time,
                        uint64_t *new_used, uint64_t *index, uint64_t *place);
+
+/*
+ * Writes the image's flat file to the start of `out`: all its sectors, from the lowest address on. Later bytes of `out`
+ * stay as they are. `*written` is the file's length: the size of a sector x the number of sectors, so 0 for an image of
+ * no sectors.
+ * Refused with, in this order:
+ *    1 to 14 and 70 to 72, as above
+ *   21 to 27 and 73, as above: every sector of the disc is checked, by rising address, and the first that is refused,
+ *      also with 21, gives its number and place
+ *   40  the sectors differ in size
+ *   41  the flat file is longer than `length`
+ */
+uint32_t aaru_export(const uint8_t *image, size_t used, uint8_t *out, size_t length, uint64_t *written,
+                     uint64_t *place);
+
+/*
+ * Makes a new image of a flat file at the start of the buffer: its sectors, of `sector_size` bytes each, at the
+ * addresses 0, 1 and so on. What it leaves and answers is what aaru_create would, with as many sectors and the same
+ * name, version, media type and times, and then one aaru_commit of all of them at the time `written`: so equal sectors
+ * are stored once, and `*used` and `*index` are the commit's. Later bytes of the buffer stay as they are.
+ * Refused with, in this order:
+ *   31  the buffer is longer than 4,294,967,296 bytes
+ *   30  `sector_size` is 0 or over 65,536, or `flat_length` is 0 or over 65,536 x sector_size
+ *   42  `flat_length` is no multiple of `sector_size`
+ *   33  `application_length` is not 64
+ *   35  the image would not fit into the buffer
+ */
+uint32_t aaru_import(uint8_t *buffer, size_t length, const uint8_t *flat, size_t flat_length, uint64_t sector_size,
+                     const uint8_t *application, size_t application_length, uint8_t major, uint8_t minor,
+                     uint32_t media_type, uint64_t created, uint64_t written, uint64_t *used, uint64_t *index,
+                     uint64_t *place);
 
 #ifdef __cplusplus
 }

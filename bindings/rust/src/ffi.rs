@@ -54,4 +54,29 @@ extern "C" {
         index: *mut u64,
         place: *mut u64,
     ) -> u32;
+    pub fn aaru_export(
+        image: *const u8,
+        used: usize,
+        out: *mut u8,
+        length: usize,
+        written: *mut u64,
+        place: *mut u64,
+    ) -> u32;
+    pub fn aaru_import(
+        buffer: *mut u8,
+        length: usize,
+        flat: *const u8,
+        flat_length: usize,
+        sector_size: u64,
+        application: *const u8,
+        application_length: usize,
+        major: u8,
+        minor: u8,
+        media_type: u32,
+        created: u64,
+        written: u64,
+        used: *mut u64,
+        index: *mut u64,
+        place: *mut u64,
+    ) -> u32;
 }

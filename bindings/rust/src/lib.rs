@@ -16,6 +16,14 @@
 //! assert_eq!(aaru::read(image, 1).unwrap_err().number, 21); // not written
 //! let refusal = aaru::rollback(&mut buffer, take.used, 104, 2).unwrap_err();
 //! assert_eq!((refusal.number, refusal.place), (5, 104)); // a table there, no index
+//!
+//! let (flat, application) = (b"AAAABBBBAAAA", &[0; 64]);
+//! let (major, minor, media_type) = (1, 0, 3);
+//! let about = aaru::Import { flat, sector_size: 4, application, major, minor, media_type, created: 0, written: 2 };
+//! let made = aaru::import(&mut buffer, &about)?;
+//! let mut out = [0; 20];
+//! assert_eq!(aaru::export(&buffer[..made.used as usize], &mut out)?, 12);
+//! assert_eq!(out[..12], flat[..]);
 //! # Ok::<(), aaru::Refusal>(())
 //! ```
 use std::{error, fmt};
@@ -57,6 +65,19 @@ pub struct Placed {
 #[derive(Clone, Copy, Debug)]
 pub struct Creation<'a> {
     pub sectors: u64,
+    pub application: &'a [u8],
+    pub major: u8,
+    pub minor: u8,
+    pub media_type: u32,
+    pub created: u64,
+    pub written: u64,
+}
+
+/// What an image is made of a flat file with: the file, the size of its sectors, and all else as for a `Creation`.
+#[derive(Clone, Copy, Debug)]
+pub struct Import<'a> {
+    pub flat: &'a [u8],
+    pub sector_size: u64,
     pub application: &'a [u8],
     pub major: u8,
     pub minor: u8,
@@ -188,6 +209,51 @@ pub fn rollback(buffer: &mut [u8], used: u64, offset: u64, time: u64) -> Result<
             used,
             offset,
             time,
+            &mut placed.used,
+            &mut placed.index,
+            &mut place,
+        )
+    };
+    answer(number, place, placed)
+}
+
+/// Writes all sectors, by rising address, to the start of `out`, and answers how many bytes they are. Refused with
+/// 1 to 14, 70 to 72, 21 to 27, 73, 40, 41.
+pub fn export(image: &[u8], out: &mut [u8]) -> Result<u64, Refusal> {
+    let (mut written, mut place) = (0, 0);
+    // SAFETY: both slices are valid for their lengths, `out` is borrowed alone, and the numbers are parts of neither.
+    let number = unsafe {
+        ffi::aaru_export(
+            image.as_ptr(),
+            image.len(),
+            out.as_mut_ptr(),
+            out.len(),
+            &mut written,
+            &mut place,
+        )
+    };
+    answer(number, place, written)
+}
+
+/// Makes a new image of a flat file at the start of the buffer, as creating and one commit at the time `written` would.
+/// Refused with 30, 31, 33, 35, 42.
+pub fn import(buffer: &mut [u8], about: &Import) -> Result<Placed, Refusal> {
+    let (mut placed, mut place) = (Placed { used: 0, index: 0 }, 0);
+    // SAFETY: as for `create`.
+    let number = unsafe {
+        ffi::aaru_import(
+            buffer.as_mut_ptr(),
+            buffer.len(),
+            about.flat.as_ptr(),
+            about.flat.len(),
+            about.sector_size,
+            about.application.as_ptr(),
+            about.application.len(),
+            about.major,
+            about.minor,
+            about.media_type,
+            about.created,
+            about.written,
             &mut placed.used,
             &mut placed.index,
             &mut place,
