@@ -99,7 +99,7 @@ static void *lend(const struct pages *pages, const void *bytes, size_t length, s
     return at;
 }
 
-/* The numbers behind a call's last pointers. */
+/* The numbers behind a call's last pointers. A call that answers one number has no second. */
 struct numbers {
     uint64_t *first, *second, *place;
 };
@@ -121,7 +121,8 @@ static uint32_t answered(uint32_t number, struct numbers numbers)
 {
     calls++;
     expect((*numbers.first == MARK) == (number != 0), "a first number set exactly if accepted");
-    expect((*numbers.second == MARK) == (number != 0), "a second number set exactly if accepted");
+    expect(numbers.second == NULL || (*numbers.second == MARK) == (number != 0),
+           "a second number set exactly if accepted");
     expect((*numbers.place == MARK) == (number == 0), "a place set exactly if refused");
     return number;
 }
@@ -145,6 +146,7 @@ struct image {
     int64_t lowest;
     size_t blocks;          /* how many its index names */
     uint32_t commit;        /* how a commit is answered that has room enough */
+    uint32_t export;        /* how an export is */
     struct point points[3]; /* the one that the header names, then earlier ones */
     size_t length;
     uint8_t bytes[MOST];
@@ -154,10 +156,10 @@ struct image {
  * gets far; in the others, which are built, the index stands first and a table or a block ends the image. Payloads from
  * 128 bytes on are summed in another way than shorter ones. */
 static struct image images[] = {
-    {.name = "samples/takes.aaruf", .sectors = 16, .blocks = 4, .commit = 27},
-    {.name = "samples/second-table.aaruf", .sectors = 12, .lowest = -3, .blocks = 3, .commit = 74},
-    {.name = "a created disc", .sectors = 16},
-    {.name = "a disc of two takes", .sectors = 16, .blocks = 2},
+    {.name = "samples/takes.aaruf", .sectors = 16, .blocks = 4, .commit = 27, .export = 21},
+    {.name = "samples/second-table.aaruf", .sectors = 12, .lowest = -3, .blocks = 3, .commit = 74, .export = 21},
+    {.name = "a created disc", .sectors = 16, .export = 21},
+    {.name = "a disc of two takes", .sectors = 16, .blocks = 2, .export = 21},
     {.name = "'DDT*', a table last", .sectors = 6, .blocks = 1},
     {.name = "'DDT*', a block last", .sectors = 6, .blocks = 1},
     {.name = "'DDT*', a long table last", .sectors = 33, .blocks = 1},
@@ -361,6 +363,54 @@ static void locate(const struct image *image, size_t length)
     }
 }
 
+/* The flat file of a built image is its block's payload: every entry names its item. */
+static size_t flat_length(const struct image *image)
+{
+    return SIZE * image->sectors;
+}
+
+/* An export of the image's first bytes to so many others. */
+static void export_to(const struct image *image, size_t length, size_t room)
+{
+    static uint8_t before[MOST];
+    const uint8_t *lent = lend(&image_pages, image->bytes, length, 1);
+    struct numbers numbers = lend_numbers();
+    size_t file = flat_length(image);
+    uint8_t *out;
+    uint32_t number, whole = image->export != 0 ? image->export : room < file ? 41 : 0;
+
+    memset(before, 0xA5, room);
+    out = lend(&sector_pages, before, room, 1);
+    numbers.second = NULL;
+    call = "aaru_export";
+    number = aaru_export(lent, length, out, room, numbers.first, numbers.place);
+    answered(number, numbers);
+    if (length == image->length)
+        expect(number == whole, "as the image and the room are");
+    else
+        expect(number != 0 && number != 41, "refused for the image if it is cut");
+    if (number == 0) {
+        expect(*numbers.first == file, "the file's length");
+        for (size_t i = 0; i < file; i++)
+            expect(out[i] == (uint8_t)i, "the sectors one after another");
+    }
+    expect(same(out, before, number == 0 ? file : 0, room), "bytes behind the file, or all, left as they were");
+    expect(same(lent, image->bytes, 0, length), "an image left as it was");
+}
+
+static void export(const struct image *image, size_t length)
+{
+    export_to(image, length, 0);
+    export_to(image, length, flat_length(image));
+}
+
+/* The whole image, to every number of bytes. */
+static void exports(const struct image *image)
+{
+    for (size_t room = 0; room <= flat_length(image) + 9; room++)
+        export_to(image, image->length, room);
+}
+
 /* What stands below the end may change in two fields of the header alone. */
 static void expect_kept(const uint8_t *buffer, const uint8_t *before, size_t used)
 {
@@ -425,9 +475,10 @@ static size_t needed(const struct image *image, struct take take)
     return block + 49 + 8 * image->sectors + INDEX + INDEX_ENTRY * (image->blocks + 1);
 }
 
-/* What is handed in: the first addresses, and sectors that all differ; those on the discs are of other sizes. */
+/* What is handed in: the first addresses, and sectors that all differ; those on the discs are of other sizes. For
+ * imports, also sectors that are all equal. */
 static int64_t addresses_handed[32];
-static uint8_t sectors_handed[2048];
+static uint8_t sectors_handed[2048], equal_handed[2048];
 
 static void expect_committed(const uint8_t *buffer, const uint8_t *before, size_t used, size_t whole, size_t new_used,
                              struct take take)
@@ -556,6 +607,89 @@ static void creations(void)
         create(300, 3, length, length == NAME ? 0 : 33);
 }
 
+/* Imports */
+
+/* What an import is handed: a flat file of sectors of a size, and a name. */
+struct file {
+    const uint8_t *bytes;
+    size_t length, size, name_length;
+};
+
+/* What creating and then one commit of all sectors leave in a buffer, and the commit's answers. */
+static size_t make_imported(uint8_t *buffer, size_t length, struct file file, uint64_t *index)
+{
+    size_t count = file.length / file.size;
+    uint64_t used, place;
+    uint32_t number = aaru_create(buffer, length, count, application, NAME, 1, 0, 3, TIME, TIME + 1, &used, index,
+                                  &place);
+
+    if (number == 0)
+        number = aaru_commit(buffer, length, used, addresses_handed, count, file.size, file.bytes, file.length,
+                             TIME + 1, &used, index, &place);
+    must(number == 0, "no disc made of a file");
+    return used;
+}
+
+static void import(size_t length, struct file file, uint32_t expected)
+{
+    static uint8_t before[MOST], made[MOST], name[2 * NAME];
+    uint8_t *buffer;
+    const uint8_t *flat = lend(&sector_pages, file.bytes, file.length, 1), *lent_name;
+    struct numbers numbers = lend_numbers();
+    uint32_t number;
+
+    memset(before, 0xA5, length);
+    memcpy(made, before, length);
+    memcpy(name, application, NAME);
+    buffer = lend(&image_pages, before, length, 1);
+    lent_name = lend(&name_pages, name, file.name_length, 1);
+    call = "aaru_import";
+    lent_length = length;
+    number = aaru_import(buffer, length, flat, file.length, file.size, lent_name, file.name_length, 1, 0, 3, TIME,
+                         TIME + 1, numbers.first, numbers.second, numbers.place);
+    expect(answered(number, numbers) == expected, "as length, file and name are");
+    if (number == 0) {
+        uint64_t index;
+        size_t used = make_imported(made, length, file, &index);
+
+        expect(*numbers.first == used && *numbers.second == index, "the commit's length and index");
+    }
+    expect(same(buffer, made, 0, length), "as creating and one commit leave the buffer, or as it was");
+    expect(memcmp(flat, file.bytes, file.length) == 0, "a file left as it was");
+    expect(memcmp(lent_name, name, file.name_length) == 0, "a name left as it was");
+}
+
+static void imports(void)
+{
+    static const uint8_t *const contents[] = {sectors_handed, equal_handed};
+    static uint8_t scratch[MOST];
+
+    image_name = "a flat file";
+    for (size_t i = 0; i < 2 * LENGTH(takes); i++) {
+        struct take take = takes[i / 2];
+        struct file file = {contents[i % 2], take.count * take.size, take.size, NAME};
+        uint64_t index;
+        size_t most = take.count > 0 ? make_imported(scratch, MOST, file, &index) : 300;
+
+        for (size_t length = 0; length <= most + 9; length++)
+            import(length, file, take.count == 0 ? 30 : length < most ? 35 : 0);
+    }
+    for (size_t bytes = 0; bytes <= 6 * 3 + 2; bytes++) {
+        struct file file = {sectors_handed, bytes, 3, NAME};
+
+        import(700, file, bytes == 0 ? 30 : bytes % 3 != 0 ? 42 : 0);
+        file.size = 0;
+        import(700, file, 30);
+        file.size = 65537;
+        import(700, file, 30);
+    }
+    for (size_t length = 0; length <= 2 * NAME; length++) {
+        struct file file = {sectors_handed, 6, 3, length};
+
+        import(700, file, length == NAME ? 0 : 33);
+    }
+}
+
 static void every_length(const struct image *image)
 {
     for (size_t length = 0; length <= image->length; length++) {
@@ -564,6 +698,7 @@ static void every_length(const struct image *image)
         locate(image, length);
         rollback(image, length);
         commit(image, length);
+        export(image, length);
     }
 }
 
@@ -578,6 +713,7 @@ static void prepare(void)
         addresses_handed[i] = (int64_t)i;
     for (size_t i = 0; i < sizeof sectors_handed; i++)
         sectors_handed[i] = (uint8_t)(i * 7 + i / 256 + 100);
+    memset(equal_handed, 'E', sizeof equal_handed);
     read_sample(&images[0]);
     read_sample(&images[1]);
     make_disc(&images[2]);
@@ -592,11 +728,14 @@ int main(void)
     signal(SIGSEGV, on_fault);
     for (side = ENDS; side < SIDES; side++) {
         creations();
+        imports();
         for (size_t i = 0; i < LENGTH(images); i++) {
             image_name = images[i].name;
             every_length(&images[i]);
             rooms(&images[i]);
             lists(&images[i]);
+            lent_length = images[i].length;
+            exports(&images[i]);
         }
     }
     printf("guard: %lu calls, no fault\n", calls);
