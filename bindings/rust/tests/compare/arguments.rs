@@ -2,7 +2,7 @@
 
 use crate::layout::APPLICATION;
 use crate::random::Random;
-use crate::sides::{Commit, Create};
+use crate::sides::{About, Commit, Create, Import};
 use std::ops::Range;
 
 /// A sector's bytes: few different ones, so that equal sectors are met often.
@@ -59,6 +59,21 @@ pub fn telling_addresses(addresses: &Range<i64>) -> Vec<i64> {
 pub fn create(random: &mut Random, sectors: u64) -> Create {
     Create {
         sectors,
+        about: about(random),
+    }
+}
+
+/// A flat file of so many sectors.
+pub fn import(random: &mut Random, count: usize, size: usize) -> Import {
+    Import {
+        flat: (0..count).flat_map(|_| sector(random, size)).collect(),
+        size: size as u64,
+        about: about(random),
+    }
+}
+
+fn about(random: &mut Random) -> About {
+    About {
         application: random.bytes(APPLICATION),
         major: random.number() as u8,
         minor: random.number() as u8,

@@ -5,7 +5,7 @@ use crate::layout::{
     get, identifier, put, Kind, Layout, ALIGNMENT, BLOCK, BLOCKS, DUMPED, IMAGE_MAJOR,
     INDEX_OFFSET, LEVELS, NEGATIVE, OVERFLOW, SIZE_TYPE,
 };
-use crate::sides::Call;
+use crate::sides::{Call, Commit, Create, Import};
 use std::mem::discriminant;
 
 #[derive(Clone)]
@@ -32,6 +32,7 @@ pub enum Edit {
     FirstAddress(i64),
     LastAddress(i64),
     AddressCount(usize),
+    FlatLength(usize),
 }
 use Edit::*;
 
@@ -59,8 +60,14 @@ impl Edit {
             (Address(new), Call::Locate(address)) => *address = new,
             (Offset(new), Call::Rollback { offset, .. }) => *offset = new,
             (Sectors(new), Call::Create(create)) => create.sectors = new,
-            (ApplicationLength(new), Call::Create(create)) => create.application.resize(new, 7),
-            (Size(new), Call::Commit(commit)) => commit.size = new,
+            (
+                ApplicationLength(new),
+                Call::Create(Create { about, .. }) | Call::Import(Import { about, .. }),
+            ) => about.application.resize(new, 7),
+            (Size(new), Call::Commit(Commit { size, .. }) | Call::Import(Import { size, .. })) => {
+                *size = new
+            }
+            (FlatLength(new), Call::Import(import)) => import.flat.resize(new, 7),
             (BytesLength(new), Call::Commit(commit)) => commit.sectors.resize(new, 7),
             (FirstAddress(new), Call::Commit(commit)) => commit.addresses[0] = new,
             (LastAddress(new), Call::Commit(commit)) => {

@@ -1,6 +1,7 @@
 //! Every field of an image set to telling values, one after another, and every call tried on it.
 
 use crate::arguments::{self, telling_addresses, with_room};
+use crate::exports;
 use crate::faults::{
     block_lengths, read_addresses, table_blocks, table_count, with, Edit::*, Fault, Input,
 };
@@ -195,7 +196,7 @@ fn of_second(image: &[u8], layout: &Layout) -> Vec<(Record, Fault)> {
     faults
 }
 
-/// Opening, reads at the addresses and others, a commit, and rollbacks.
+/// Opening, reads at the addresses and others, a commit, rollbacks, and exports.
 fn every_call(
     sides: &mut Sides,
     input: &Input,
@@ -221,6 +222,7 @@ fn every_call(
         let time = random.number();
         let _ = run(Call::Rollback { offset, time });
     }
+    let _ = exports::in_every_room(sides, &input.buffer, input.used);
 }
 
 /// Where a rollback may be sent to.

@@ -1,9 +1,9 @@
-//! Random histories: a creation, then commits and rollbacks with free arguments. Beside the
-//! comparison, what each call promises about the disc is checked from outside.
+//! Random histories: a creation or an import, then commits and rollbacks with free arguments. Beside
+//! the comparison, what each call promises about the disc is checked from outside.
 
-use crate::arguments::{self, outside, with_room};
+use crate::arguments::{self, outside, with_room, SIZES};
 use crate::images::Description;
-use crate::layout::{Kind, Layout};
+use crate::layout::{Kind, Layout, CREATED, INDEX, INDEX_ENTRY};
 use crate::random::Random;
 use crate::sides::{refused, Answer, Call, Commit, Sides};
 use aaru::Refusal;
@@ -24,11 +24,13 @@ struct History<'a> {
     used: u64,
     /// Each returned index offset, and how the disc read then.
     points: Vec<(u64, Reading)>,
+    /// The index of the creation that an import stands for: it opens, and no call has returned it.
+    unreturned: Option<u64>,
     now: Reading,
     count: i64,
 }
 
-/// Histories of created discs and of built images.
+/// Histories of created discs, of imported ones and of built images.
 pub fn run(sides: &mut Sides, seed: u64, histories: usize) {
     let mut random = Random::new(seed);
     let mut damaged = 0;
@@ -37,6 +39,7 @@ pub fn run(sides: &mut Sides, seed: u64, histories: usize) {
         let mut history = match number % 6 {
             0 => built(sides, any(&mut random).wild(), &mut random),
             3 => built(sides, any(&mut random), &mut random),
+            1 | 4 => imported(sides, &mut random),
             _ => created(sides, &mut random),
         };
         damaged += usize::from(history.damage().is_some());
@@ -58,6 +61,23 @@ fn created<'a>(sides: &'a mut Sides, random: &mut Random) -> History<'a> {
     start(sides, buffer, used, index)
 }
 
+/// Its one point reads as the flat file.
+fn imported<'a>(sides: &'a mut Sides, random: &mut Random) -> History<'a> {
+    let (sectors, size) = (1 + random.below(8), random.pick(&SIZES));
+    let import = arguments::import(random, sectors, size);
+    let room = 600 + random.below(3000);
+    let mut buffer = random.bytes(room);
+    let call = Call::Import(import.clone());
+    let (used, index) = sides.run_on(&mut buffer, 0, &call).unwrap();
+    let mut history = start(sides, buffer, used, index);
+    let flat = import.flat.chunks_exact(size);
+    let flat: Reading = flat.map(|sector| Ok(sector.to_vec())).collect();
+    assert_eq!(history.now[..sectors], flat);
+    history.unreturned = Some((CREATED + 8 * sectors - INDEX - INDEX_ENTRY) as u64);
+    history.export();
+    history
+}
+
 fn built<'a>(sides: &'a mut Sides, description: Description, random: &mut Random) -> History<'a> {
     let image = description.build(random);
     let room = 300 + random.below(3000);
@@ -72,6 +92,7 @@ fn start(sides: &mut Sides, buffer: Vec<u8>, used: u64, index: u64) -> History<'
         sides,
         used,
         points: vec![(index, now.clone())],
+        unreturned: None,
         count: aaru::sector_count(&buffer[..used as usize]).unwrap().count as i64,
         buffer,
         now,
@@ -97,6 +118,7 @@ impl History<'_> {
                 let commit = self.exchange(random);
                 self.commit(&commit);
             }
+            8 => self.export(),
             _ => self.commit(&arguments::commit(random, 0..self.count)),
         }
     }
@@ -171,9 +193,12 @@ impl History<'_> {
     fn telling_rollback(&mut self, random: &mut Random) {
         let any = random.number() % self.used;
         let (point, _) = random.pick(&self.points);
-        let near = [point - 1, point + 1, any, self.used - 20, self.used];
-        let offset = random.pick(&[&near[..], &[0, 103, 104, 1 << 32]].concat());
-        let known = self.points.iter().any(|(point, _)| *point == offset);
+        let mut offsets = vec![point - 1, point + 1, any, self.used - 20, self.used];
+        offsets.extend([0, 103, 104, 1 << 32]);
+        offsets.extend(self.unreturned);
+        let offset = random.pick(&offsets);
+        let mut points = self.points.iter().map(|(point, _)| *point);
+        let known = points.any(|point| point == offset) || self.unreturned == Some(offset);
         let answer = self.call(&Call::Rollback {
             offset,
             time: random.number(),
@@ -189,11 +214,36 @@ impl History<'_> {
         assert_eq!(self.now, then);
     }
 
+    /// Into the room behind the image. Must give the sectors as they read, one after another, or what
+    /// refuses first: a sector by rising address, sizes that differ, too little room.
+    fn export(&mut self) {
+        let answer = self.sides.run(&self.buffer, self.used, &Call::Export);
+        let reads = self.now[..self.count as usize].iter().cloned();
+        let sectors: Vec<Vec<u8>> = match reads.collect() {
+            Ok(sectors) => sectors,
+            Err(refusal) => return assert_eq!(answer, Err(refusal)),
+        };
+        let flat = sectors.concat();
+        let room = self.buffer.len() - self.used as usize;
+        let even = sectors
+            .iter()
+            .all(|sector| sector.len() == sectors[0].len());
+        match even {
+            false => assert_eq!(answer, refused(40)),
+            true if flat.len() > room => assert_eq!(answer, refused(41)),
+            true => {
+                assert_eq!(answer, Ok((flat.len() as u64, 0)));
+                assert!(self.sides.left()[self.used as usize..].starts_with(&flat));
+            }
+        }
+    }
+
     fn go_everywhere(&mut self, random: &mut Random) {
         let mut points = self.points.clone();
         random.shuffle(&mut points);
         for (offset, then) in points {
             self.rollback(offset, then, random);
+            self.export();
         }
     }
 }

@@ -3,8 +3,8 @@
 
 use crate::arguments::{self, sector, SIZES};
 use crate::layout::{
-    put, Kind, Layout, ALIGNMENT, BLOCK, BLOCKS, DUMPED, HEADER, IMAGE_MAJOR, INDEX, INDEX_ENTRY,
-    INDEX_OFFSET, LEVELS, NEGATIVE, OVERFLOW, POINTER_BITS, SIZE_TYPE,
+    get, put, Kind, Layout, ALIGNMENT, BLOCK, BLOCKS, DUMPED, HEADER, IMAGE_MAJOR, INDEX,
+    INDEX_ENTRY, INDEX_OFFSET, LEVELS, NEGATIVE, OVERFLOW, POINTER_BITS, SIZE_TYPE,
 };
 use crate::random::Random;
 use crate::sides::{raw, Call};
@@ -15,6 +15,8 @@ struct Block {
     data_type: u64,
     /// How many index entries name it.
     named: usize,
+    /// Whether no table entry names it.
+    spare: bool,
 }
 
 impl Block {
@@ -32,6 +34,17 @@ enum Part {
     Other(Vec<u8>, u64),
 }
 
+/// What a table's entries name.
+#[derive(Clone, Copy, PartialEq)]
+pub enum Entries {
+    /// Items that can be read, every one.
+    Written,
+    /// Such items, or nothing: not written.
+    Some,
+    /// Also what can't be read.
+    Wild,
+}
+
 /// How an image is to be built.
 pub struct Description {
     kind: Kind,
@@ -40,15 +53,17 @@ pub struct Description {
     blocks: Vec<Block>,
     others: Vec<(Vec<u8>, u64)>,
     count: usize,
-    /// Whether table entries may name what can't be read.
-    wild: bool,
+    entries: Entries,
     /// Bytes behind the last record, the second of them where a block may stand.
     tail: [Vec<u8>; 2],
 }
 
 fn random_block(random: &mut Random) -> Block {
-    let sector_size = random.pick(&SIZES);
-    let items = random.below(5);
+    let (sector_size, items) = (random.pick(&SIZES), random.below(5));
+    block_of(sector_size, items, random)
+}
+
+fn block_of(sector_size: usize, items: usize, random: &mut Random) -> Block {
     Block {
         sector_size,
         payload: (0..items)
@@ -56,6 +71,7 @@ fn random_block(random: &mut Random) -> Block {
             .collect(),
         data_type: if random.once_in(6) { 2 } else { 1 },
         named: if random.once_in(5) { 2 } else { 1 },
+        spare: false,
     }
 }
 
@@ -100,7 +116,10 @@ impl Description {
             blocks: (0..random.below(4)).map(|_| random_block(random)).collect(),
             others: (0..random.below(4)).map(|_| random_other(random)).collect(),
             count: random.below(9),
-            wild: random.once_in(3),
+            entries: match random.below(3) {
+                0 => Entries::Wild,
+                _ => Entries::Some,
+            },
             tail: match random.below(3) {
                 0 => Default::default(),
                 1 => [Vec::new(), random.bytes(5)],
@@ -127,9 +146,33 @@ impl Description {
                 .map(|_| random_other(random))
                 .collect(),
             count: 4 + random.below(3),
-            wild: false,
+            entries: Entries::Some,
             tail: cut_short(random),
             alignment: random_alignment(kind, random),
+        }
+    }
+
+    /// A rich one whose sectors are all written and of one size, so that it can be exported; a block
+    /// of another size stands by.
+    pub fn even(kind: Kind, random: &mut Random) -> Description {
+        let mut sizes = SIZES.to_vec();
+        random.shuffle(&mut sizes);
+        let size = sizes[0];
+        sizes.retain(|&other| other != size);
+        let mut blocks: Vec<Block> = (0..1 + random.below(2))
+            .map(|_| block_of(size, 1 + random.below(4), random))
+            .collect();
+        blocks.push(Block {
+            spare: true,
+            ..block_of(sizes[0], 1 + random.below(4), random)
+        });
+        for block in &mut blocks {
+            block.data_type = 1;
+        }
+        Description {
+            blocks,
+            entries: Entries::Written,
+            ..Description::rich(kind, random)
         }
     }
 
@@ -139,7 +182,10 @@ impl Description {
 
     /// With table entries that may name what can't be read.
     pub fn wild(self) -> Description {
-        Description { wild: true, ..self }
+        Description {
+            entries: Entries::Wild,
+            ..self
+        }
     }
 
     pub fn build(mut self, random: &mut Random) -> Vec<u8> {
@@ -170,8 +216,8 @@ impl Description {
         image.extend([&before[..], behind].concat());
         fill_index(&mut image, &placed, random);
         let mut layout = Layout::of(&image);
-        let items = items(&placed, self.wild);
-        fill_table(&mut image, &items, &mut layout, self.wild, random);
+        let items = items(&placed, self.entries);
+        fill_table(&mut image, &items, &mut layout, self.entries, random);
         layout.make_right(&mut image);
         image
     }
@@ -266,27 +312,30 @@ fn fill_index(image: &mut [u8], placed: &[(usize, Part)], random: &mut Random) {
 }
 
 /// The items that table entries may name, each with its block's offset.
-fn items(placed: &[(usize, Part)], wild: bool) -> Vec<(u64, u64)> {
+fn items(placed: &[(usize, Part)], entries: Entries) -> Vec<(u64, u64)> {
     let mut items = Vec::new();
     for (at, part) in placed {
         if let Part::Block(block) = part {
-            let readable = match block.data_type {
-                1 => block.items(),
+            let readable = match (block.spare, block.data_type) {
+                (false, 1) => block.items(),
                 _ => 0,
             };
-            let end = if wild { readable + 2 } else { readable };
+            let end = match entries {
+                Entries::Wild => readable + 2,
+                _ => readable,
+            };
             items.extend((0..end).map(|item| (*at as u64, item as u64)));
         }
     }
     items
 }
 
-/// Writes the table's shift, often larger than needed, and its entries, some not written.
+/// Writes the table's shift, often larger than needed, and its entries.
 pub fn fill_table(
     image: &mut [u8],
     items: &[(u64, u64)],
     layout: &mut Layout,
-    wild: bool,
+    entries: Entries,
     random: &mut Random,
 ) {
     let (kind, table) = (layout.kind, layout.table);
@@ -296,7 +345,7 @@ pub fn fill_table(
             // With a larger one no entry can name the image's last bytes.
             let bits = u64::from((layout.length >> layout.alignment).ilog2()) + 1;
             let largest = POINTER_BITS - bits;
-            random.pick(&[0, 1, 2, 3, 3, 5, 12, largest])
+            random.pick(&[0, 1, 2, 3, 3, 5, 12, largest]).min(largest)
         }
     };
     put(image, table + kind.shift(), 1, layout.shift);
@@ -307,8 +356,10 @@ pub fn fill_table(
     for number in 0..layout.count {
         let any = random.number();
         let entry = match kind {
-            Kind::Second if wild && random.once_in(3) => any,
-            _ if !named.is_empty() && !random.once_in(4) => random.pick(&named),
+            Kind::Second if entries == Entries::Wild && random.once_in(3) => any,
+            _ if !named.is_empty() && (entries == Entries::Written || !random.once_in(4)) => {
+                random.pick(&named)
+            }
             Kind::Old => 0,
             // Not dumped, whatever the pointer is.
             Kind::Second => any % DUMPED,
@@ -331,10 +382,12 @@ fn made(random: &mut Random) -> Vec<u8> {
     buffer
 }
 
-/// An image to try things on, of the old kind in one of four cases made by the library.
+/// An image to try things on: in one of four cases an even one, and in another, if it is of the old
+/// kind, made by the library.
 pub fn base(kind: Kind, number: usize, random: &mut Random) -> Vec<u8> {
     match (kind, number % 4) {
         (Kind::Old, 0) => made(random),
+        (_, 1) => Description::even(kind, random).build(random),
         _ => Description::rich(kind, random).build(random),
     }
 }
@@ -345,4 +398,14 @@ pub fn addresses_in(image: &[u8], layout: &Layout, block: usize) -> Vec<i64> {
     let names = |entry| matches!(layout.named(image, entry), Some((at, _)) if at == offset);
     let entries = (0..layout.count).filter(|&entry| names(entry));
     entries.map(|entry| layout.address(entry)).collect()
+}
+
+/// The table entry that names the first item of an even image's block of another size.
+pub fn spare_entry(image: &[u8], layout: &Layout) -> u64 {
+    let size = |block: u64| get(image, block as usize + 8, 4);
+    let (first, _) = layout.named(image, 0).expect("all sectors are written");
+    let mut blocks = layout.blocks.iter().map(|&block| block as u64);
+    let spare = blocks.find(|&block| size(block) != size(first));
+    let entry = layout.entry(spare.expect("a block stands by"), 0);
+    entry.expect("an entry has bits for it")
 }

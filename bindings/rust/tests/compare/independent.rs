@@ -1,10 +1,10 @@
 //! Document 01 in plain Rust, in the paper's order: layouts, checksum, opening, reading, creating,
-//! committing, rolling back. Each refusal carries the place that request 1/13 gives it; the header
-//! is that of 2/13; tables are of both kinds of 11/13, and addresses are signed. All is written
-//! from the papers alone and shares no code with the library; it is there to compare the library
-//! with.
+//! committing, rolling back; then the flat files of 4/13. Each refusal carries the place that
+//! request 1/13 gives it; the header is that of 2/13; tables are of both kinds of 11/13, and
+//! addresses are signed. All is written from the papers alone and shares no code with the library;
+//! it is there to compare the library with.
 
-use aaru::{AddressRange, Creation, Refusal};
+use aaru::{AddressRange, Creation, Import, Refusal};
 use std::collections::BTreeMap;
 
 // Layouts.
@@ -466,13 +466,14 @@ pub fn create(buffer: &mut [u8], creation: &Creation) -> Result<(u64, u64), Refu
     if creation.application.len() != APPLICATION_LENGTH {
         return Err(refusal(33));
     }
+    let (image, index_offset) = created_image(creation);
+    fill(buffer, &image, index_offset)
+}
+
+/// The bytes of a created image, and the offset of its index.
+fn created_image(creation: &Creation) -> (Vec<u8>, u64) {
     let table_offset = HEADER;
     let index_offset = table_offset + table_length(creation.sectors);
-    let used = index_offset + INDEX + INDEX_ENTRY;
-    if used > buffer.len() as u64 {
-        return Err(refusal(35));
-    }
-
     let mut image = Vec::new();
     put(&mut image, AARUFRMT, 8);
     image.extend_from_slice(creation.application);
@@ -488,8 +489,15 @@ pub fn create(buffer: &mut [u8], creation: &Creation) -> Result<(u64, u64), Refu
         offset: table_offset,
     };
     put_index(&mut image, &[table_entry]);
-    buffer[..used as usize].copy_from_slice(&image);
-    Ok((used, index_offset))
+    (image, index_offset)
+}
+
+/// Writes a whole image to the buffer's front, or refuses with 35. Gives `used` and the index's
+/// offset.
+fn fill(buffer: &mut [u8], image: &[u8], index_offset: u64) -> Result<(u64, u64), Refusal> {
+    let front = buffer.get_mut(..image.len()).ok_or(refusal(35))?;
+    front.copy_from_slice(image);
+    Ok((image.len() as u64, index_offset))
 }
 
 /// Commits sectors of one size at rising addresses. Gives the new `used` and the new index's
@@ -518,48 +526,86 @@ pub fn commit(
         .iter()
         .map(|&address| disc.table.entry_number(address));
     let numbers: Vec<u64> = numbers.collect::<Result<_, _>>()?;
-    let old = old_sectors(&disc)?;
-
-    // "Equal sectors are stored once." A sector of this commit is an item of the block at `used`.
-    let pointers = (0..disc.table.count).map(|number| disc.table.pointer(number).ok());
-    let mut table: Vec<Option<Pointer>> = pointers.collect();
-    let mut stored: Vec<&[u8]> = Vec::new();
-    for (number, sector) in numbers.into_iter().zip(sectors.chunks_exact(size as usize)) {
-        let equal_old = old.iter().find(|(_, bytes)| *bytes == sector);
-        let pointer = match equal_old {
-            Some(&(pointer, _)) => pointer,
-            None => Pointer {
-                offset: used,
-                item: store_once(&mut stored, sector),
-            },
-        };
-        table[number as usize] = Some(pointer);
-    }
-
-    // "Appended at `used`, without gaps: one data block if anything is stored; a table of the same
-    // count; an index." As `used` is at most 2^32, these sums stay far below 2^64.
-    let block_length = match stored.len() as u64 {
-        0 => 0,
-        items => BLOCK + items * size,
-    };
-    let block_offset = (!stored.is_empty()).then_some(used);
-    let table_offset = used + block_length;
-    let index_offset = table_offset + table_length(disc.table.count);
-    let index = new_index(&disc.index, table_offset, block_offset);
-    let new_used = index_offset + INDEX + INDEX_ENTRY * index.len() as u64;
-    if new_used > buffer.len() as u64 {
+    let commit = Commit::new(&disc, &numbers, size, sectors)?;
+    if commit.used > buffer.len() as u64 {
         return Err(refusal(35));
     }
-
-    let mut appended = Vec::new();
-    if !stored.is_empty() {
-        put_block(&mut appended, size, &stored.concat());
-    }
-    put_table(&mut appended, &table, smallest_shift(&table));
-    put_index(&mut appended, &index);
+    let (appended, index_offset, new_used) = (commit.appended(), commit.index_offset, commit.used);
     buffer[used as usize..new_used as usize].copy_from_slice(&appended);
     set_header(buffer, index_offset, time);
     Ok((new_used, index_offset))
+}
+
+/// What a commit appends to a disc of the old kind.
+struct Commit<'s> {
+    stored: Vec<&'s [u8]>,
+    size: u64,
+    table: Vec<Option<Pointer>>,
+    index: Vec<IndexEntry>,
+    index_offset: u64,
+    /// The new `used`.
+    used: u64,
+}
+
+impl<'s> Commit<'s> {
+    /// Of sectors of one size for the table entries with these numbers. Refused with the first old
+    /// sector that can't be read.
+    fn new(
+        disc: &Disc,
+        numbers: &[u64],
+        size: u64,
+        sectors: &'s [u8],
+    ) -> Result<Commit<'s>, Refusal> {
+        let used = disc.image.len() as u64;
+        let old = old_sectors(disc)?;
+
+        // "Equal sectors are stored once." A sector of this commit is an item of the block at
+        // `used`.
+        let pointers = (0..disc.table.count).map(|number| disc.table.pointer(number).ok());
+        let mut table: Vec<Option<Pointer>> = pointers.collect();
+        let mut stored: Vec<&[u8]> = Vec::new();
+        for (&number, sector) in numbers.iter().zip(sectors.chunks_exact(size as usize)) {
+            let equal_old = old.iter().find(|(_, bytes)| *bytes == sector);
+            let pointer = match equal_old {
+                Some(&(pointer, _)) => pointer,
+                None => Pointer {
+                    offset: used,
+                    item: store_once(&mut stored, sector),
+                },
+            };
+            table[number as usize] = Some(pointer);
+        }
+
+        // "Appended at `used`, without gaps: one data block if anything is stored; a table of the
+        // same count; an index." As `used` is at most 2^32, these sums stay far below 2^64.
+        let block_length = match stored.len() as u64 {
+            0 => 0,
+            items => BLOCK + items * size,
+        };
+        let block_offset = (!stored.is_empty()).then_some(used);
+        let table_offset = used + block_length;
+        let index_offset = table_offset + table_length(disc.table.count);
+        let index = new_index(&disc.index, table_offset, block_offset);
+        let new_used = index_offset + INDEX + INDEX_ENTRY * index.len() as u64;
+        Ok(Commit {
+            stored,
+            size,
+            table,
+            index,
+            index_offset,
+            used: new_used,
+        })
+    }
+
+    fn appended(&self) -> Vec<u8> {
+        let mut appended = Vec::new();
+        if !self.stored.is_empty() {
+            put_block(&mut appended, self.size, &self.stored.concat());
+        }
+        put_table(&mut appended, &self.table, smallest_shift(&self.table));
+        put_index(&mut appended, &self.index);
+        appended
+    }
 }
 
 /// Goes back, or forward again, to the index at `offset`. Gives `used` and that offset. For 74 the
@@ -716,6 +762,80 @@ fn put_index(image: &mut Vec<u8>, index: &[IndexEntry]) {
 fn set_header(buffer: &mut [u8], index_offset: u64, time: u64) {
     buffer[INDEX_OFFSET..INDEX_OFFSET + 8].copy_from_slice(&index_offset.to_le_bytes());
     buffer[LAST_WRITTEN_TIME..LAST_WRITTEN_TIME + 8].copy_from_slice(&time.to_le_bytes());
+}
+
+// Flat sector files in and out (4/13).
+
+/// "Export fills the front of a lent buffer and reports the length; an unwritten sector refuses with
+/// 21." Order: "opening's numbers, then the sectors' by rising address, then 40, sizes differ, then
+/// 41, buffer too short".
+pub fn export(image: &[u8], out: &mut [u8]) -> Result<u64, Refusal> {
+    let disc = open_disc(image)?;
+    let mut right = BTreeMap::new();
+    // Entry 0 is that of the lowest address.
+    let sectors = (0..disc.table.count).map(|number| {
+        let (place, size) = read(&disc, number, &mut right)?;
+        Ok(&image[place as usize..(place + size) as usize])
+    });
+    let sectors: Vec<&[u8]> = sectors.collect::<Result<_, _>>()?;
+    let mut sizes = sectors.iter().map(|sector| sector.len());
+    // With no sector at all there is no size, and nothing to write.
+    let Some(size) = sizes.next() else {
+        return Ok(0);
+    };
+    if sizes.any(|other| other != size) {
+        return Err(refusal(40));
+    }
+    if size as u128 * sectors.len() as u128 > out.len() as u128 {
+        return Err(refusal(41));
+    }
+    for (sector, room) in sectors.iter().zip(out.chunks_exact_mut(size)) {
+        room.copy_from_slice(sector);
+    }
+    Ok((size * sectors.len()) as u64)
+}
+
+/// Import "makes an image as creating and one commit at the last time would"; of creating's two
+/// times the last is lastWrittenTime. Order: "31, 30 (also a length of 0 or above 65,536 x size),
+/// 42, length no multiple of the size, 33, 35". Gives `used` and the index's offset.
+pub fn import(buffer: &mut [u8], import: &Import) -> Result<(u64, u64), Refusal> {
+    let (size, length) = (import.sector_size, import.flat.len() as u64);
+    if buffer.len() as u64 > MOST_BYTES {
+        return Err(refusal(31));
+    }
+    if size == 0 || size > MOST_SECTOR_SIZE {
+        return Err(refusal(30));
+    }
+    if length == 0 || length > MOST_ADDRESSES as u64 * size {
+        return Err(refusal(30));
+    }
+    if length % size != 0 {
+        return Err(refusal(42));
+    }
+    if import.application.len() != APPLICATION_LENGTH {
+        return Err(refusal(33));
+    }
+    let creation = Creation {
+        sectors: length / size,
+        application: import.application,
+        major: import.major,
+        minor: import.minor,
+        media_type: import.media_type,
+        created: import.created,
+        written: import.written,
+    };
+    let (mut image, _) = created_image(&creation);
+    let disc = open_disc(&image)?;
+    let numbers: Vec<u64> = (0..creation.sectors).collect();
+    let commit = Commit::new(&disc, &numbers, size, import.flat)?;
+    // The commit only adds to what creating makes, so that the end decides.
+    if commit.used > buffer.len() as u64 {
+        return Err(refusal(35));
+    }
+    let (appended, index_offset) = (commit.appended(), commit.index_offset);
+    image.extend_from_slice(&appended);
+    set_header(&mut image, index_offset, import.written);
+    fill(buffer, &image, index_offset)
 }
 
 /// "A small disc, worked out", and where its damaged copies are refused.
@@ -1337,5 +1457,129 @@ mod tests {
         let longer = buffer.len() as u64;
         assert_eq!(rollback(&mut buffer, longer, used, 7), Ok((longer, used)));
         assert_eq!(sector_count(&buffer), Ok(range(3, 0)));
+    }
+
+    fn flat_file<'a>(flat: &'a [u8], sector_size: u64, application: &'a [u8]) -> Import<'a> {
+        Import {
+            flat,
+            sector_size,
+            application,
+            major: 5,
+            minor: 6,
+            media_type: 0x0403_0201,
+            created: 3,
+            written: 4,
+        }
+    }
+
+    /// Three sectors, two of them equal, worked out: P1's disc with all its addresses committed to.
+    #[test]
+    fn import_is_create_and_commit() {
+        let flat = b"AAAABBBBAAAA";
+        let mut buffer = vec![0xEE; 700];
+        let result = import(&mut buffer, &flat_file(flat, 4, NAME));
+        assert_eq!(result, Ok((382, 330)));
+        let mut made = p1();
+        assert_eq!(commit(&mut made, 213, &[0, 1, 2], 4, flat, 4), result);
+        assert_eq!(buffer, made);
+        let image = &buffer[..382];
+        assert_eq!([80, 88, 96].map(|at| number(image, at, 8)), [330, 3, 4]);
+        assert_eq!(index(image), [(DDT, 1, 257), (DBLK, 1, 213)]);
+        assert_eq!(table(image), (1, vec![426, 427, 426]));
+
+        let mut out = [0xEE; 15];
+        assert_eq!(export(image, &mut out), Ok(12));
+        assert_eq!(&out, b"AAAABBBBAAAA\xEE\xEE\xEE");
+        for length in [381, 382] {
+            let mut buffer = vec![0xEE; length];
+            let result = import(&mut buffer, &flat_file(flat, 4, NAME));
+            assert_eq!(result.is_ok(), length == 382);
+            assert_eq!(buffer == vec![0xEE; length], length == 381);
+        }
+    }
+
+    /// Each with an application that is too short, where that is not to be met.
+    #[test]
+    fn refused_imports() {
+        let flat = [b'A'; 131_074];
+        let short = &NAME[..63];
+        let cases = [
+            (4, 0, short, 30),
+            (4, 65_537, short, 30),
+            (0, 4, short, 30),
+            (131_073, 2, short, 30),
+            (131_074, 2, short, 30),
+            (131_071, 2, short, 42),
+            (5, 4, short, 42),
+            (4, 4, short, 33),
+            (131_072, 2, NAME, 35),
+            (8, 4, NAME, 35),
+        ];
+        for (length, size, application, number) in cases {
+            let mut buffer = vec![0xEE; 300];
+            let result = import(&mut buffer, &flat_file(&flat[..length], size, application));
+            assert_eq!(
+                result,
+                Err(refusal(number)),
+                "{length} bytes of size {size}"
+            );
+            assert!(buffer.iter().all(|&byte| byte == 0xEE));
+        }
+    }
+
+    #[test]
+    fn refused_exports() {
+        let mut out = [0xEE; 20];
+        assert_eq!(export(&p2()[..382], &mut out), Err(refusal(21)));
+        assert_eq!(export(&p3()[..507], &mut out[..11]), Err(refusal(41)));
+        assert_eq!(export(&p3()[..507], &mut []), Err(refusal(41)));
+        // Another size at the last address, then its first sector's block damaged as well.
+        let mut buffer = p3();
+        let (used, _) = commit(&mut buffer, 507, &[2], 3, b"CCC", 9).unwrap();
+        let image = &mut buffer[..used as usize];
+        assert_eq!(export(image, &mut out), Err(refusal(40)));
+        assert_eq!(export(image, &mut []), Err(refusal(40)));
+        image[213 + 28] ^= 1;
+        assert_eq!(export(image, &mut []), Err(refusal_at(27, 213)));
+        assert_eq!(export(&image[..103], &mut out), Err(refusal(1)));
+        assert_eq!(out, [0xEE; 20]);
+        assert_eq!(export(&p3()[..507], &mut out), Ok(12));
+        assert_eq!(&out[..13], b"AAAAAAAABBBB\xEE");
+    }
+
+    #[test]
+    fn export_of_no_sectors() {
+        let mut image = p1();
+        image.truncate(HEADER as usize);
+        put_table(&mut image, &[], 0);
+        put_index(&mut image, &[user_data(DDT, HEADER)]);
+        set_header(&mut image, HEADER + 49, 4);
+        let mut out = [0xEE; 3];
+        assert_eq!(export(&image, &mut out), Ok(0));
+        assert_eq!(out, [0xEE; 3]);
+        assert_eq!(export(&image, &mut []), Ok(0));
+    }
+
+    /// What is refused is mended by rising address, from the lowest on.
+    #[test]
+    fn export_of_second_kind() {
+        let mut image = second();
+        let entries = SECOND_TABLE + 82;
+        let mut out = [0xEE; 20];
+        for (entry, mended, refused) in [
+            (1, 0x1000_0021u32, refusal(21)),
+            (3, 0x1000_0022, refusal(73)),
+            (4, 0x1000_0020, refusal(40)),
+        ] {
+            assert_eq!(export(&image, &mut out), Err(refused));
+            let at = entries + 4 * entry;
+            image[at..at + 4].copy_from_slice(&mended.to_le_bytes());
+            let sum = checksum(&image[entries..entries + 20]).to_le_bytes();
+            image[entries - 16..entries].copy_from_slice(&[sum, sum].concat());
+        }
+        assert_eq!(export(&image, &mut out[..19]), Err(refusal(41)));
+        assert_eq!(out, [0xEE; 20]);
+        assert_eq!(export(&image, &mut out), Ok(20));
+        assert_eq!(&out, b"AAAABBBBCCCCCCCCAAAA");
     }
 }

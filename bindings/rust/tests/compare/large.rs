@@ -1,9 +1,11 @@
 //! A few large inputs, at the limits of what a call takes.
 
-use crate::arguments::{self, telling_addresses};
-use crate::faults::{edit_image, table_blocks};
+use crate::arguments::{self, telling_addresses, with_room};
+use crate::exports::in_every_room;
+use crate::faults::{edit_image, table_blocks, Edit::Field};
 use crate::images::Description;
-use crate::layout::{Kind, Layout};
+use crate::imports;
+use crate::layout::{get, Kind, Layout};
 use crate::random::Random;
 use crate::sides::{refused, Call, Commit, Sides};
 
@@ -15,9 +17,13 @@ pub fn run(sides: &mut Sides, seed: u64) {
             most_sectors(sides, &mut random);
             largest_sectors(sides, &mut random);
             most_addresses(sides, &mut random);
+            most_imported(sides, &mut random);
+            longest_export(sides, &mut random);
+            longer_sectors(sides, &mut random);
         }
         Kind::Second => most_negative(sides, &mut random),
     }
+    more_than_imported(sides, &mut random);
 }
 
 fn created(sides: &mut Sides, room: usize, sectors: u64, random: &mut Random) -> (Vec<u8>, u64) {
@@ -128,5 +134,107 @@ fn most_negative(sides: &mut Sides, random: &mut Random) {
         .collect();
     for address in near.chain(any) {
         sides.compare(&image, used, &Call::Locate(address));
+    }
+}
+
+/// As many sectors as an import takes, few of them different, which makes the search short; then
+/// more, by bytes up to a sector.
+fn most_imported(sides: &mut Sides, random: &mut Random) {
+    for size in [1, 2] {
+        let mut import = arguments::import(random, 1, size);
+        let letters = (0..65_536).map(|_| b'A' + random.below(5) as u8);
+        import.flat = letters.flat_map(|letter| vec![letter; size]).collect();
+        let buffer = random.bytes(1_500_000);
+        imports::in_every_buffer(sides, &import, &buffer, random);
+        for _ in 0..size {
+            import.flat.push(b'A');
+            let call = Call::Import(import.clone());
+            assert_eq!(sides.run(&buffer, 0, &call), refused(30));
+        }
+    }
+}
+
+/// A disc of 65,537 sectors that are all one of 65,536 bytes: its length has more than 32 bits, of
+/// which the lower ones name less than the room.
+fn longest_export(sides: &mut Sides, random: &mut Random) {
+    let size = 65_536;
+    let (mut buffer, used) = created(sides, 1_300_000, size as u64 + 1, random);
+    let commit = Call::Commit(Commit {
+        addresses: vec![0],
+        size: size as u64,
+        sectors: random.bytes(size),
+        time: 5,
+    });
+    let answer = sides.run_on(&mut buffer, used, &commit);
+    let (used, _) = answer.expect("room enough");
+    let image = &mut buffer[..used as usize];
+    let layout = Layout::of(image);
+    let entry = get(image, layout.table_entry(0), 8);
+    let entries = (0..layout.count).map(|number| Field(layout.table_entry(number), 8, entry));
+    edit_image(image, &layout, &entries.collect::<Vec<_>>());
+    assert!(buffer.len() - used as usize > size);
+    assert_eq!(in_every_room(sides, &buffer, used), refused(41));
+}
+
+/// Sectors that are longer than an import's, made of two each.
+fn longer_sectors(sides: &mut Sides, random: &mut Random) {
+    let size = 65_536;
+    let (mut buffer, used) = created(sides, 500_000, 2, random);
+    let commit = Call::Commit(Commit {
+        addresses: vec![0, 1],
+        size: size as u64,
+        sectors: random.bytes(2 * size),
+        time: 6,
+    });
+    let answer = sides.run_on(&mut buffer, used, &commit);
+    let (used, _) = answer.expect("room enough");
+    let image = &mut buffer[..used as usize];
+    let layout = Layout::of(image);
+    let entry = get(image, layout.table_entry(0), 8);
+    let fault = [
+        Field(layout.blocks[0] + 8, 4, 2 * size as u64),
+        Field(layout.table_entry(1), 8, entry),
+    ];
+    edit_image(image, &layout, &fault);
+    let length = 4 * size;
+    let answer = in_every_room(sides, &buffer, used);
+    assert_eq!(answer, Ok((length as u64, 0)));
+
+    sides.compare(&buffer, used, &Call::Export);
+    let mut import = arguments::import(random, 0, 2 * size);
+    import.flat = sides.left()[used as usize..][..length].to_vec();
+    assert_eq!(sides.run(&buffer, 0, &Call::Import(import)), refused(30));
+}
+
+/// More sectors than an import takes, of the second kind nearly all at negative addresses.
+fn more_than_imported(sides: &mut Sides, random: &mut Random) {
+    let kind = sides.tally.kind;
+    let description = Description::even(kind, random).with_count(65_537);
+    let mut image = description.build(random);
+    let mut layout = Layout::of(&image);
+    if kind == Kind::Second {
+        let fault = table_blocks(layout.table, 65_535, 0, 65_535);
+        edit_image(&mut image, &layout, &fault);
+        layout = Layout::of(&image);
+    }
+    let used = image.len() as u64;
+    let read = |number| aaru::read(&image, layout.address(number)).expect("it is written");
+    let size = read(0).bytes.len();
+    let length = size * layout.count;
+    let buffer = with_room(&image, length + 5, random);
+    let answer = in_every_room(sides, &buffer, used);
+    assert_eq!(answer, Ok((length as u64, 0)));
+
+    sides.compare(&buffer, used, &Call::Export);
+    let flat = sides.left()[image.len()..][..length].to_vec();
+    let any: Vec<usize> = (0..30).map(|_| random.below(layout.count)).collect();
+    for number in [0, 1, 65_534, 65_535, 65_536].into_iter().chain(any) {
+        assert_eq!(flat[size * number..][..size], *read(number).bytes);
+    }
+    if kind == Kind::Old {
+        let mut import = arguments::import(random, 0, size);
+        import.flat = flat;
+        let call = Call::Import(import);
+        assert_eq!(sides.run(&buffer, 0, &call), refused(30));
     }
 }

@@ -2,6 +2,7 @@
 //! call needs.
 
 use crate::arguments::{self, telling_addresses, with_room};
+use crate::exports;
 use crate::images::{self, Description};
 use crate::layout::{Kind, Layout, CREATED};
 use crate::random::Random;
@@ -46,6 +47,7 @@ fn cut_everywhere(sides: &mut Sides, image: &[u8], random: &mut Random) {
         sides.compare(&buffer[..image.len()], used, &commit);
         let time = random.number();
         sides.compare(&buffer, used, &Call::Rollback { offset, time });
+        sides.compare(&buffer, used, &Call::Export);
     }
 }
 
@@ -83,6 +85,7 @@ fn built_image(sides: &mut Sides, image: &[u8], random: &mut Random) {
     }
     let commit = Call::Commit(arguments::commit(random, all));
     sides.compare(&buffer, used, &commit);
+    let _ = exports::in_every_room(sides, &buffer, used);
     let (offset, time) = (layout.index as u64, random.number());
     let answer = sides.run(&buffer, used, &Call::Rollback { offset, time });
     let expected = match layout.kind {

@@ -3,10 +3,12 @@
 //! call with all its arguments, its buffer included.
 
 mod arguments;
+mod exports;
 mod faults;
 mod fields;
 mod histories;
 mod images;
+mod imports;
 mod independent;
 mod large;
 mod layout;
@@ -32,7 +34,7 @@ type Part = (Kind, fn(&mut Sides));
 
 /// Each part has images of one kind. The numbers after `sides` are seeds, to which that of the run
 /// is added; those after them say how many images or histories.
-const PARTS: [Part; 18] = [
+const PARTS: [Part; 21] = [
     (Kind::Old, |sides| fields::run(sides, 1, 9)),
     (Kind::Old, |sides| fields::run(sides, 2, 9)),
     (Kind::Old, |sides| pairs::run(sides, 3, 18)),
@@ -42,6 +44,8 @@ const PARTS: [Part; 18] = [
     (Kind::Old, |sides| large::run(sides, 7)),
     (Kind::Old, |sides| sparse::run(sides, 8)),
     (Kind::Old, |sides| mixed::run(sides, 9, 60)),
+    (Kind::Old, |sides| exports::run(sides, 20, 260)),
+    (Kind::Old, |sides| imports::run(sides, 21, 400)),
     (Kind::Second, |sides| fields::run(sides, 11, 9)),
     (Kind::Second, |sides| fields::run(sides, 12, 9)),
     (Kind::Second, |sides| pairs::run(sides, 13, 18)),
@@ -51,6 +55,7 @@ const PARTS: [Part; 18] = [
     (Kind::Second, |sides| large::run(sides, 17)),
     (Kind::Second, |sides| sparse::run(sides, 18)),
     (Kind::Second, |sides| mixed::run(sides, 19, 60)),
+    (Kind::Second, |sides| exports::run(sides, 22, 260)),
 ];
 
 #[test]
@@ -93,7 +98,7 @@ fn null_pointers_to_nothing() {
     let (start, length) = (buffer.as_mut_ptr(), buffer.len());
     let (mut a, mut b) = (0, 0);
     // One for each call: a refused one sets it.
-    let mut places = [7; 5];
+    let mut places = [7; 7];
     // SAFETY: those pointers that are not null are valid for their lengths and apart from others.
     unsafe {
         let mut lowest = 0;
@@ -134,6 +139,26 @@ fn null_pointers_to_nothing() {
             &mut places[4],
         );
         assert_eq!((no_sectors, a), (0, used + 109));
+        let export = aaru_export(nothing.0, 0, nothing.1, 0, &mut a, &mut places[5]);
+        assert_eq!(export, 1);
+        let import = aaru_import(
+            nothing.1,
+            0,
+            nothing.0,
+            0,
+            4,
+            nothing.0,
+            0,
+            1,
+            0,
+            0,
+            0,
+            0,
+            &mut a,
+            &mut b,
+            &mut places[6],
+        );
+        assert_eq!(import, 30);
     }
-    assert_eq!(places, [0, 0, 0, 0, 7]);
+    assert_eq!(places, [0, 0, 0, 0, 7, 0, 0]);
 }

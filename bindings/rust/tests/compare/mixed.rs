@@ -3,8 +3,9 @@
 //! other.
 
 use crate::arguments::{self, with_room};
+use crate::exports;
 use crate::faults::{self, with, Input};
-use crate::images::{self, fill_table};
+use crate::images::{self, fill_table, Entries};
 use crate::layout::{get, put, Kind, Layout, INDEX_OFFSET};
 use crate::random::Random;
 use crate::sides::{refused, Call, Sides};
@@ -36,6 +37,7 @@ fn one_image(sides: &mut Sides, old: &[u8], random: &mut Random) {
     }
     let commit = Call::Commit(arguments::commit(random, here.addresses()));
     sides.compare(&buffer, used, &commit);
+    let _ = exports::in_every_room(sides, &buffer, used);
 
     for layout in [&here, &there] {
         let (offset, time) = (layout.index as u64, random.number());
@@ -79,7 +81,11 @@ fn with_second(old: &[u8], random: &mut Random) -> (Vec<u8>, Layout) {
     let mut second = Layout::at(&image, second.index);
     let items = (0..layout.count).filter_map(|number| layout.named(old, number));
     let items: Vec<(u64, u64)> = items.collect();
-    fill_table(&mut image, &items, &mut second, false, random);
+    let entries = match items.len() == layout.count {
+        true => Entries::Written,
+        false => Entries::Some,
+    };
+    fill_table(&mut image, &items, &mut second, entries, random);
     second.make_right(&mut image);
     (image, second)
 }

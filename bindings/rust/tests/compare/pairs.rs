@@ -3,7 +3,7 @@
 
 use crate::arguments::{self, outside, with_room};
 use crate::faults::{self, clash, with, Edit::*, Fault, Input};
-use crate::images;
+use crate::images::{self, spare_entry, Description};
 use crate::layout::{Kind, Layout, CREATED, HEADER};
 use crate::random::Random;
 use crate::sides::{Answer, Call, Sides};
@@ -22,16 +22,18 @@ pub fn run(sides: &mut Sides, seed: u64, images: usize) {
         locate(sides, &image, &layout, &mut random);
         commit(sides, &image, &layout, &mut random);
         rollback(sides, &image, &layout, &mut random);
+        export(sides, &mut random);
         if kind == Kind::Old {
             create(sides, &mut random);
+            import(sides, &mut random);
         }
     }
 }
 
 /// The order of checks, which is the same for all calls as far as they have them.
-const ORDER: [u32; 33] = [
-    31, 32, 30, 33, 34, 1, 2, 3, 4, 5, 6, 7, 8, 9, 10, 11, 13, 70, 71, 72, 12, 14, 74, 20, 21, 73,
-    22, 23, 24, 25, 26, 27, 35,
+const ORDER: [u32; 36] = [
+    31, 32, 30, 42, 33, 34, 1, 2, 3, 4, 5, 6, 7, 8, 9, 10, 11, 13, 70, 71, 72, 12, 14, 74, 20, 21,
+    73, 22, 23, 24, 25, 26, 27, 40, 41, 35,
 ];
 
 /// Runs the base, every fault alone, and two of them with different numbers or places at once:
@@ -198,5 +200,56 @@ fn create(sides: &mut Sides, random: &mut Random) {
     faults.extend([0, 1_048_577, u64::MAX].map(|sectors| vec![Sectors(sectors)]));
     faults.extend([0, 32, 63, 65].map(|length| vec![ApplicationLength(length)]));
     faults.extend([0, HEADER, needed - 1].map(|length| vec![BufferLength(length)]));
+    pairs(sides, &base, &Layout::default(), faults, random);
+}
+
+/// Of a disc that can be exported, with faults of its first and its last sector.
+fn export(sides: &mut Sides, random: &mut Random) {
+    let image = Description::even(sides.tally.kind, random).build(random);
+    let layout = Layout::of(&image);
+    let mut base = Input {
+        buffer: with_room(&image, 300, random),
+        used: image.len() as u64,
+        call: Call::Export,
+    };
+    let (length, _) = run_input(sides, &base).expect("it is even");
+    let needed = image.len() + length as usize;
+    base.buffer.truncate(needed + random.below(3));
+
+    let mut faults = Vec::new();
+    // The order within an opening is seen above: most of its faults come alone.
+    for fault in faults::of_opening(&image, &layout) {
+        match random.once_in(4) {
+            true => faults.push(fault),
+            false => drop(run_input(sides, &with(&base, &layout, &fault))),
+        }
+    }
+    for number in [0, layout.count - 1] {
+        faults.extend(faults::of_reading(&image, &layout, layout.address(number)));
+        let (at, width) = (layout.table_entry(number), layout.kind.width());
+        faults.push(vec![Field(at, width, spare_entry(&image, &layout))]);
+    }
+    faults.extend([needed - 1, image.len()].map(|length| vec![BufferLength(length)]));
+    pairs(sides, &base, &layout, faults, random);
+}
+
+fn import(sides: &mut Sides, random: &mut Random) {
+    let (count, size) = (1 + random.below(9), 2 + random.below(3));
+    let mut base = Input {
+        buffer: random.bytes(600),
+        used: 0,
+        call: Call::Import(arguments::import(random, count, size)),
+    };
+    let (needed, _) = run_input(sides, &base).expect("there is room");
+    let needed = needed as usize;
+    base.buffer.truncate(needed + random.below(3));
+
+    let (created, length, most) = (CREATED + 8 * count, count * size, 65_536 * size);
+    let mut faults: Vec<Fault> = Vec::new();
+    faults.extend([0, 65_537, u64::MAX].map(|size| vec![Size(size)]));
+    faults.extend([0, most + 1, most + size].map(|length| vec![FlatLength(length)]));
+    faults.extend([length - 1, length + 1].map(|length| vec![FlatLength(length)]));
+    faults.extend([0, 32, 63, 65].map(|length| vec![ApplicationLength(length)]));
+    faults.extend([0, HEADER, created, needed - 1].map(|length| vec![BufferLength(length)]));
     pairs(sides, &base, &Layout::default(), faults, random);
 }

@@ -9,7 +9,8 @@ use crate::tally::Tally;
 use aaru::{ffi, AddressRange, Creation, Placed, Refusal};
 use std::ops::Range;
 
-/// A call without its buffer. For opening and reading the image is the buffer's first `used` bytes.
+/// A call without its buffer. For opening, reading and exporting the image is the buffer's first
+/// `used` bytes; the bytes behind it are what an export may fill.
 #[derive(Clone, Debug)]
 pub enum Call {
     SectorCount,
@@ -17,11 +18,19 @@ pub enum Call {
     Create(Create),
     Commit(Commit),
     Rollback { offset: u64, time: u64 },
+    Export,
+    Import(Import),
 }
 
 #[derive(Clone, Debug)]
 pub struct Create {
     pub sectors: u64,
+    pub about: About,
+}
+
+/// Creating's arguments but the number of sectors.
+#[derive(Clone, Debug)]
+pub struct About {
     pub application: Vec<u8>,
     pub major: u8,
     pub minor: u8,
@@ -38,16 +47,45 @@ pub struct Commit {
     pub time: u64,
 }
 
+#[derive(Clone, Debug)]
+pub struct Import {
+    pub flat: Vec<u8>,
+    pub size: u64,
+    pub about: About,
+}
+
 impl Create {
-    fn about(&self) -> Creation<'_> {
+    fn lent(&self) -> Creation<'_> {
+        let about = &self.about;
         Creation {
             sectors: self.sectors,
-            application: &self.application,
-            major: self.major,
-            minor: self.minor,
-            media_type: self.media_type,
-            created: self.created,
-            written: self.written,
+            application: &about.application,
+            major: about.major,
+            minor: about.minor,
+            media_type: about.media_type,
+            created: about.created,
+            written: about.written,
+        }
+    }
+}
+
+impl Import {
+    fn lent(&self) -> aaru::Import<'_> {
+        self.of(&self.flat)
+    }
+
+    /// The same of another flat file.
+    pub fn of<'a>(&'a self, flat: &'a [u8]) -> aaru::Import<'a> {
+        let about = &self.about;
+        aaru::Import {
+            flat,
+            sector_size: self.size,
+            application: &about.application,
+            major: about.major,
+            minor: about.minor,
+            media_type: about.media_type,
+            created: about.created,
+            written: about.written,
         }
     }
 }
@@ -61,16 +99,24 @@ impl Call {
             Call::Create(_) => 2,
             Call::Commit(_) => 3,
             Call::Rollback { .. } => 4,
+            Call::Export => 5,
+            Call::Import(_) => 6,
         }
     }
 
+    /// Whether it writes an image.
     pub fn writes(&self) -> bool {
-        self.column() >= 2
+        !matches!(self, Call::SectorCount | Call::Locate(_) | Call::Export)
+    }
+
+    /// Whether it makes a new image, whatever stands in the buffer.
+    fn makes(&self) -> bool {
+        matches!(self, Call::Create(_) | Call::Import(_))
     }
 }
 
-/// Count and lowest address (its 64 bits), start and size, or `used` and index offset; or the
-/// refusal.
+/// Count and lowest address (its 64 bits), start and size, `used` and index offset, or a flat file's
+/// length and 0; or the refusal.
 pub type Answer = Result<(u64, u64), Refusal>;
 
 /// The answer where the refusal is about no record of the image.
@@ -115,13 +161,13 @@ pub fn raw(buffer: &mut [u8], used: u64, call: &Call) -> Answer {
                 start,
                 length,
                 create.sectors,
-                create.application.as_ptr(),
-                create.application.len(),
-                create.major,
-                create.minor,
-                create.media_type,
-                create.created,
-                create.written,
+                create.about.application.as_ptr(),
+                create.about.application.len(),
+                create.about.major,
+                create.about.minor,
+                create.about.media_type,
+                create.about.created,
+                create.about.written,
                 &mut first,
                 &mut second,
                 &mut place,
@@ -146,6 +192,39 @@ pub fn raw(buffer: &mut [u8], used: u64, call: &Call) -> Answer {
                 used,
                 *offset,
                 *time,
+                &mut first,
+                &mut second,
+                &mut place,
+            ),
+            Call::Export => {
+                let image = used as usize;
+                let number = ffi::aaru_export(
+                    start,
+                    image,
+                    start.add(image),
+                    length - image,
+                    &mut first,
+                    &mut place,
+                );
+                // It answers one number.
+                if number == 0 {
+                    second = 0;
+                }
+                number
+            }
+            Call::Import(import) => ffi::aaru_import(
+                start,
+                length,
+                import.flat.as_ptr(),
+                import.flat.len(),
+                import.size,
+                import.about.application.as_ptr(),
+                import.about.application.len(),
+                import.about.major,
+                import.about.minor,
+                import.about.media_type,
+                import.about.created,
+                import.about.written,
                 &mut first,
                 &mut second,
                 &mut place,
@@ -182,7 +261,7 @@ pub fn safe(buffer: &mut [u8], used: u64, call: &Call) -> Answer {
                 (sector.start, sector.bytes.len() as u64)
             })
         }
-        Call::Create(create) => aaru::create(buffer, &create.about()).map(pair),
+        Call::Create(create) => aaru::create(buffer, &create.lent()).map(pair),
         Call::Commit(commit) => aaru::commit(
             buffer,
             used,
@@ -193,6 +272,11 @@ pub fn safe(buffer: &mut [u8], used: u64, call: &Call) -> Answer {
         )
         .map(pair),
         Call::Rollback { offset, time } => aaru::rollback(buffer, used, *offset, *time).map(pair),
+        Call::Export => {
+            let (image, out) = buffer.split_at_mut(used as usize);
+            aaru::export(image, out).map(|length| (length, 0))
+        }
+        Call::Import(import) => aaru::import(buffer, &import.lent()).map(pair),
     }
 }
 
@@ -201,7 +285,7 @@ pub fn other(buffer: &mut [u8], used: u64, call: &Call) -> Answer {
     match call {
         Call::SectorCount => independent::sector_count(&buffer[..used as usize]).map(pair_of),
         Call::Locate(address) => independent::locate(&buffer[..used as usize], *address),
-        Call::Create(create) => independent::create(buffer, &create.about()),
+        Call::Create(create) => independent::create(buffer, &create.lent()),
         Call::Commit(commit) => independent::commit(
             buffer,
             used,
@@ -211,6 +295,11 @@ pub fn other(buffer: &mut [u8], used: u64, call: &Call) -> Answer {
             commit.time,
         ),
         Call::Rollback { offset, time } => independent::rollback(buffer, used, *offset, *time),
+        Call::Export => {
+            let (image, out) = buffer.split_at_mut(used as usize);
+            independent::export(image, out).map(|length| (length, 0))
+        }
+        Call::Import(import) => independent::import(buffer, &import.lent()),
     }
 }
 
@@ -250,7 +339,8 @@ impl Sides {
         let answers = [safe(second, used, call), other(third, used, call)];
         let same_answers = answers == [answer; 2];
         let same_bytes = first == second && first == third;
-        let kept = first == buffer || answer.is_ok() && call.writes();
+        let may_change = call.writes() || matches!(call, Call::Export);
+        let kept = first == buffer || answer.is_ok() && may_change;
         if !(same_answers && same_bytes && kept) {
             println!("{call:?} used {used} of {}", buffer.len());
             println!("library {answer:?}, wrapper and independent {answers:?}");
@@ -268,7 +358,7 @@ impl Sides {
                 self.tally.count_telling(call, refusal);
             }
         }
-        if !matches!(call, Call::Create(_)) && used <= buffer.len() as u64 {
+        if !call.makes() && used <= buffer.len() as u64 {
             self.note(image);
         }
         if call.writes() {

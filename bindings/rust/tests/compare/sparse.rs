@@ -3,6 +3,7 @@
 use crate::arguments;
 use crate::faults::{self, read_addresses};
 use crate::images::Description;
+use crate::independent;
 use crate::layout::{get, put, Kind, Layout, ALIGNMENT, HEADER, INDEX_OFFSET};
 use crate::random::Random;
 use crate::sides::{other, raw, refused, safe, Answer, Call, Commit, Sides};
@@ -55,15 +56,19 @@ impl Drop for Mapping {
 const MOST: usize = 4_294_967_296;
 /// More than the images below need.
 const FRONT: usize = 65_536;
+/// More than their flat files need.
+const ROOM: usize = 4096;
 const SECTORS: u64 = 6;
 
 pub fn run(sides: &mut Sides, seed: u64) {
     let kind = sides.tally.kind;
     let mut random = Random::new(seed);
-    let mut mapping = Mapping::new(MOST + FRONT);
+    let mut mapping = Mapping::new(MOST + FRONT + ROOM);
     let long = mapping.bytes();
     too_long(sides, &mut long[..MOST + 1], &mut random);
+    export_into(sides, long, &mut random);
     if kind == Kind::Old {
+        flat_files(sides, long, &mut random);
         let mut mappings = [MOST, MOST].map(Mapping::new);
         let [second, third] = &mut mappings;
         let buffers = [&mut long[..MOST], second.bytes(), third.bytes()];
@@ -73,12 +78,13 @@ pub fn run(sides: &mut Sides, seed: u64) {
         let nothing = [0; FRONT];
         let mut between = long[FRONT..MOST - FRONT].chunks_exact(FRONT);
         assert!(between.all(|part| part == nothing));
-        assert_eq!(long[MOST..], nothing);
+        assert_eq!(long[MOST..MOST + FRONT], nothing);
     }
     // Reading has no length limit: in the longer one every record stands above 4 GiB.
     for length in [MOST, MOST + FRONT] {
         let layout = build_far_behind(kind, &mut long[..length], &mut random);
         far_behind(sides, &mut long[..layout.length], &layout, &mut random);
+        export_by_each(sides, &mut long[..layout.length + ROOM], layout.length);
     }
     if kind == Kind::Second {
         let layout = build_at_4_gib(long, &mut random);
@@ -98,6 +104,9 @@ fn too_long(sides: &mut Sides, buffer: &mut [u8], random: &mut Random) {
     let create = arguments::create(random, SECTORS);
     let mut wrong_create = create.clone();
     wrong_create.sectors = 0;
+    let import = arguments::import(random, 3, 4);
+    let mut wrong_import = import.clone();
+    wrong_import.size = 0;
     let offset = layout.index as u64;
     let mut calls = vec![
         Call::Commit(commit),
@@ -107,6 +116,7 @@ fn too_long(sides: &mut Sides, buffer: &mut [u8], random: &mut Random) {
     ];
     if kind == Kind::Old {
         calls.extend([create, wrong_create].map(Call::Create));
+        calls.extend([import, wrong_import].map(Call::Import));
     }
     for call in &calls {
         for used in [image.len() as u64, 0, MOST as u64 + 1, MOST as u64 + 2] {
@@ -158,6 +168,8 @@ fn longest(sides: &mut Sides, mut buffers: [&mut [u8]; 3], random: &mut Random) 
     assert_eq!(answer, refused(32));
     let answer = run(whole, Call::Rollback { offset, time });
     assert_eq!(answer, Ok((whole, offset)));
+    let import = arguments::import(random, SECTORS as usize, 3);
+    run(0, Call::Import(import)).expect("not too long");
 }
 
 /// Runs a call on every side and compares the first and the last bytes, between which nothing is
@@ -171,6 +183,57 @@ fn on_each([first, second, third]: &mut [&mut [u8]; 3], used: u64, call: &Call) 
         assert!(first[part.clone()] == third[part]);
     }
     answer
+}
+
+/// An export has no length limit: it is lent 4 GiB to fill, a length of 33 bits.
+fn export_into(sides: &mut Sides, long: &mut [u8], random: &mut Random) {
+    let image = Description::even(sides.tally.kind, random).build(random);
+    let buffer = &mut long[..image.len() + MOST];
+    buffer[..image.len()].copy_from_slice(&image);
+    export_by_each(sides, buffer, image.len());
+    buffer[..image.len()].fill(0);
+}
+
+/// An export by every side, one after another in one buffer.
+fn export_by_each(sides: &mut Sides, buffer: &mut [u8], used: usize) {
+    let image = &buffer[..used];
+    let all = Layout::of(image).addresses();
+    let read = |address| aaru::read(image, address).expect("it is even").bytes;
+    let flat = all.map(read).collect::<Vec<_>>().concat();
+    let answer = Ok((flat.len() as u64, 0));
+    let before = buffer[used..used + ROOM].to_vec();
+    let after = [&flat, &before[flat.len()..]].concat();
+    for side in [raw, safe, other] {
+        assert_eq!(side(buffer, used as u64, &Call::Export), answer);
+        assert!(buffer[used..used + ROOM] == after);
+        buffer[used..used + ROOM].copy_from_slice(&before);
+    }
+    sides.tally.count(&Call::Export, answer);
+}
+
+/// Flat files of 4 GiB and around, of zeros.
+fn flat_files(sides: &mut Sides, long: &[u8], random: &mut Random) {
+    let mut buffer = random.bytes(1000);
+    let before = buffer.clone();
+    for (length, size, application, number) in [
+        (MOST + 4, 4, 64, 30),
+        (MOST + 4, 65_536, 64, 30),
+        (MOST + 65_536, 65_536, 64, 30),
+        (MOST, 65_535, 64, 30),
+        (MOST - 1, 65_536, 63, 42),
+        (MOST, 65_536, 63, 33),
+    ] {
+        let mut import = arguments::import(random, 1, 4);
+        import.size = size;
+        import.about.application.resize(application, 7);
+        let flat = import.of(&long[..length]);
+        let answer = independent::import(&mut buffer, &flat);
+        assert_eq!(answer, refused(number));
+        let placed = aaru::import(&mut buffer, &flat);
+        assert_eq!(placed.map(|placed| (placed.used, placed.index)), answer);
+        assert_eq!(buffer, before);
+        sides.tally.count(&Call::Import(import), answer);
+    }
 }
 
 /// An image whose records all stand at the buffer's end, as it is and with each fault. One buffer
@@ -190,6 +253,7 @@ fn far_behind(sides: &mut Sides, buffer: &mut [u8], layout: &Layout, random: &mu
             offset: layout.index as u64,
             time: 8,
         },
+        Call::Export,
     ];
     let mut faults = faults::of_opening(buffer, layout);
     faults.extend(faults::of_reading(buffer, layout, address));
@@ -217,7 +281,7 @@ fn on_one(sides: &mut Sides, buffer: &mut [u8], call: &Call) -> Answer {
 /// Only the header stands at the buffer's front, all else as far behind as alignment lets it.
 fn build_far_behind(kind: Kind, buffer: &mut [u8], random: &mut Random) -> Layout {
     loop {
-        let image = Description::rich(kind, random).build(random);
+        let image = Description::even(kind, random).build(random);
         let layout = Layout::of(&image);
         let far = (buffer.len() - image.len()) >> layout.alignment << layout.alignment;
         let layout = move_behind(buffer, &image, far, layout.alignment);

@@ -1,8 +1,8 @@
 //! Whole images whose tables name anything: of the second kind with every status, any pointer and
 //! any displacement.
 
-use crate::arguments::{self, telling_addresses};
-use crate::images::{self, fill_table, Description};
+use crate::arguments::{self, telling_addresses, with_room};
+use crate::images::{self, fill_table, Description, Entries};
 use crate::layout::Layout;
 use crate::random::Random;
 use crate::sides::{Call, Sides};
@@ -36,7 +36,7 @@ fn set_table(image: &mut [u8], random: &mut Random) -> Layout {
     let blocks = layout.blocks.iter();
     let items = blocks.flat_map(|&at| (0..4).map(move |item| (at as u64, item)));
     let items: Vec<(u64, u64)> = items.collect();
-    fill_table(image, &items, &mut layout, true, random);
+    fill_table(image, &items, &mut layout, Entries::Wild, random);
     layout.make_right(image);
     layout
 }
@@ -53,5 +53,7 @@ fn reads(sides: &mut Sides, image: &[u8], layout: &Layout, random: &mut Random) 
     if random.once_in(4) {
         let commit = Call::Commit(arguments::commit(random, all));
         sides.compare(image, used, &commit);
+        let buffer = with_room(image, 200, random);
+        sides.compare(&buffer, used, &Call::Export);
     }
 }

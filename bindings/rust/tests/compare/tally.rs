@@ -6,22 +6,31 @@ use aaru::Refusal;
 use std::collections::{BTreeMap, HashMap, HashSet};
 use std::hash::{DefaultHasher, Hasher};
 
-pub const CALLS: [&str; 5] = ["sector_count", "locate", "create", "commit", "rollback"];
+pub const CALLS: [&str; 7] = [
+    "sector_count",
+    "locate",
+    "create",
+    "commit",
+    "rollback",
+    "export",
+    "import",
+];
 const NUMBERS: usize = 75;
 
 /// Whether a call can give a number on images of a kind; 0 stands for an accepted call. A rollback
-/// may lead from one kind to the other.
+/// may lead from one kind to the other, and of the second kind what was exported is imported.
 fn possible(kind: Kind, call: usize, number: usize) -> bool {
     let old = kind == Kind::Old;
     match (CALLS[call], number) {
-        ("create", 0 | 30 | 31 | 33 | 35) => old,
-        ("create", _) => false,
+        ("import", 0) => true,
+        ("create", 0 | 30 | 31 | 33 | 35) | ("import", 30 | 31 | 33 | 35 | 42) => old,
+        ("create" | "import", _) => false,
         ("commit", 0 | 20 | 22..=27 | 35) => old,
         ("commit", 30..=34) => true,
         ("rollback", 31 | 32 | 70..=72 | 74) => true,
-        ("locate", 20..=27) => true,
+        ("locate", 20..=27) | ("export", 21..=27 | 40 | 41) => true,
         (_, 0..=14) => true,
-        (_, 70..=72) | ("locate", 73) | ("commit", 74) => !old,
+        (_, 70..=72) | ("locate" | "export", 73) | ("commit", 74) => !old,
         _ => false,
     }
 }
@@ -70,7 +79,7 @@ impl Met {
         assert!(enough, "{name} met {number} at few telling places");
         // A buffer that is written can't be so long.
         let far = places.iter().any(|&place| place >= 1 << 32);
-        let enough = far || !matches!(name, "sector_count" | "locate");
+        let enough = far || !matches!(name, "sector_count" | "locate" | "export");
         assert!(enough, "{name} met {number} at no place above 4 GiB");
         let enough = number != 4 || places.contains(&u64::MAX);
         assert!(enough, "{name} never met the last offset");
