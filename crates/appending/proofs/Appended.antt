@@ -4,7 +4,8 @@ use mathlib.Core.List.{List, [], _∷_, _++_, append-assoc}
 use mathlib.Core.Logic.{Iff·rfl}
 use mathlib.Core.Option.{Option}
 use mathlib.Core.Path.{_≡_, sym, ap, _∙_, subst}
-use Prim.Native.Nat.{ℕ, _+_, _*_, _≤_, _<_}
+use Prim.Native.Nat.{ℕ, zero, suc, _+_, _*_, _≤_, _<_}
+use native.Mathlib.Nat.{zero-mul}
 use native.Mathlib.Omega.{arith}
 use lib.ListN.{length, take, length-append}
 use lib.IntN.{ℤ}
@@ -41,9 +42,10 @@ use Rattle.planning.specs.declared.Planned.{Planned}
 use Rattle.planning.specs.Plans.{Commits, storedBy, planFor, pointersBy}
 use Rattle.storing.specs.Stores.{Stores, tableEntriesBytes, stored}
 use Rattle.indexing.specs.Entries.{newEntries, Indexes}
-use Rattle.appending.specs.Appends.{Passed, headerFor, layoutFor, Data, Fits}
+use Rattle.records.specs.Blocks.{headerFor}
+use Rattle.records.proofs.Sealed.{data-sealed}
+use Rattle.appending.specs.Appends.{Passed, layoutFor, Data, Fits}
 use Rattle.appending.specs.declared.Layout.{Layout}
-use Rattle.appending.proofs.Sealed.{block-room, data-sealed}
 
 module _ (img : List ℕ) (t : Opened) (addresses : List ℕ) (size : ℕ) (sectors : List ℕ) (o : opened img (indexOffset img) ≡ t)
     (whole : length sectors ≡ length addresses * size) where
@@ -121,6 +123,12 @@ module _ (img : List ℕ) {o : ℕ} (e : o ≡ indexOffset img) where
       }
 
 -- ---- the block and the table
+-- the place of the items is before the table's entries, also where there is no block
+block-room : (n size : ℕ) → blockHeaderLength + n * size ≤ blockLengthFor n size + tableHeaderLength
+unfolding blockLengthFor
+block-room zero size = omega (arith, zero-mul size)
+block-room (suc n) size = omega arith
+
 module _ {buf : List ℕ} {used : ℕ} {t : Opened} {addresses : List ℕ} {size : ℕ} {sectors : List ℕ} {table shift n : ℕ}
     (d : Data buf used t addresses size sectors table shift n) where
   pub data-room : used + blockHeaderLength + n * size ≤ length buf

@@ -1,12 +1,12 @@
 -- A commit to an opened disc: what its parts ask for, and where what it appends stands.
-use mathlib.Core.List.{List, []}
+use mathlib.Core.List.{List}
 use mathlib.Core.Path.{_≡_}
-use Prim.Native.Nat.{ℕ, zero, suc, _+_, _*_, _≤_}
+use Prim.Native.Nat.{ℕ, _+_, _*_, _≤_}
 use lib.ListN.{length, take}
 use lib.IntN.{ℤ}
 use Rattle.format.specs.declared.Verdict.the-variants.{Passes}
 use Rattle.format.specs.Refusals.{accepted}
-use Rattle.format.specs.Layouts.{indexOffset, indexHeaderLength, entryLength, entries, blockHeader, tableHeaderLength, tableEntryLength}
+use Rattle.format.specs.Layouts.{indexOffset, indexHeaderLength, entryLength, entries, tableHeaderLength, tableEntryLength}
 use Rattle.format.specs.Opening.{Opened, opening}
 use Rattle.format.specs.Facts.{blockLengthFor}
 use Rattle.format.specs.Committing.{argumentsVerdict, discVerdict, entryNumbers, largestItem, shiftFor, keptEntries}
@@ -21,11 +21,6 @@ pub record Passed (buf : List ℕ) (used : ℕ) (t : Opened) (addresses : List �
   pub arguments : argumentsVerdict buf used addresses size sectors ≡ Passes
   pub opens : opening (take used buf) ≡ accepted t
   pub disc : discVerdict (take used buf) (indexOffset (take used buf)) addresses ≡ Passes
-
--- the header of the new data block, by how many sectors are stored in it
-unfoldable pub headerFor : ℕ → ℕ → List ℕ → List ℕ
-headerFor zero size payload = []
-headerFor (suc n) size payload = blockHeader size payload
 
 -- where the new table and the new index stand, behind the image and the new block; where they end; how many index entries are kept
 unfoldable pub layoutFor : List ℕ → Opened → ℕ → ℕ → Layout

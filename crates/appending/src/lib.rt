@@ -6,13 +6,13 @@
 ghost use mathlib.Core.Bool.{false};
 ghost use mathlib.Core.List.{_++_};
 ghost use mathlib.Core.Path.{_≡_};
-ghost use Prim.Native.Nat.{ℕ, _+_, _*_, _≤_};
+ghost use Prim.Native.Nat.{ℕ, _≤_};
 ghost use lib.ListN.{length, take};
-ghost use Rattle.fields.specs.Bytes.{part, overwrite};
+ghost use Rattle.fields.specs.Bytes.{overwrite};
 ghost use Rattle.format.specs.declared.TableKind.the-variants.{First};
 ghost use Rattle.format.specs.declared.Verdict.the-variants.{Passes};
 ghost use Rattle.format.specs.Refusals.{accepted};
-ghost use Rattle.format.specs.Layouts.{indexOffset, blockHeaderLength};
+ghost use Rattle.format.specs.Layouts.{indexOffset};
 ghost use Rattle.format.specs.Opening.{opening};
 ghost use Rattle.format.specs.Writing.{largestSize, mostAddresses, longestBuffer, setHeader};
 ghost use Rattle.format.specs.Committing.{argumentsVerdict, anyOutside, entryNumbers, newBlock, newTable, indexStart, appended, appendedBytes, commit};
@@ -20,7 +20,7 @@ ghost use Rattle.format.specs.Answers.{updated, answered};
 ghost use Rattle.opening.specs.Answers.{contents};
 ghost use Rattle.planning.specs.Plans.{storedBy, pointersBy};
 ghost use Rattle.format.specs.Facts.{blockLengthFor, blockEntry};
-ghost use Rattle.appending.specs.Appends.{Passed, headerFor, layoutFor, Data, Fits};
+ghost use Rattle.appending.specs.Appends.{Passed, layoutFor, Data, Fits};
 use fields::get;
 use fields::part;
 use format::ByteOffset;
@@ -78,17 +78,6 @@ fn lay_out(s: &[u8], t: Opened, size: u64, stored: u64) -> Layout
     }
 }
 
-// Writes the header of the new data block, if there is one, before its sectors.
-fn seal_block(buf: &mut [u8], used: u64, size: u64, stored: u64)
-    requires { ⌜ used + blockHeaderLength + stored * size ≤ length (now buf) ⌝ }
-    ensures { λ _. ⌜ now (buf .exit) ≡ overwrite (now (buf .entry)) used (headerFor stored size (part (now (buf .entry)) (used + blockHeaderLength) (stored * size))) ⌝ }
-{
-    if stored == 0 {
-        return;
-    }
-    records::seal_block(buf, ByteOffset(used), size, stored * size);
-}
-
 // Writes the new data block and the new table.
 fn put_data(
     buf: &mut [u8],
@@ -115,7 +104,7 @@ fn put_data(
         ByteOffset(table.0 + 49),
         shift,
     );
-    seal_block(buf, used, size, stored);
+    records::seal_block(buf, ByteOffset(used), size, stored);
     records::seal_table(buf, table, shift, opening::count(t));
 }
 

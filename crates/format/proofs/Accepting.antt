@@ -3,7 +3,7 @@ use mathlib.Core.Bool.{true}
 use mathlib.Core.List.{List, [], _∷_, _++_}
 use mathlib.Core.Logic.{_⊎_, inl, inr, ⊎-map, _↔_, Iff·trans, Iff·and}
 use mathlib.Core.Path.{_≡_, refl, sym, ap, _∙_, subst}
-use Prim.Native.Nat.{ℕ, zero, suc, _+_, _*_, _/_, _%_, _≤_, _<_}
+use Prim.Native.Nat.{ℕ, _+_, _*_, _/_, _%_, _≤_, _<_}
 use native.Mathlib.Nat.{pos-of-ne-zero, mul-mod-left, mul-le-mul-right}
 use native.Mathlib.Omega.{arith}
 use lib.ListN.{length, take, length-append}
@@ -25,7 +25,7 @@ use Rattle.format.specs.Committing.{entryNumbers, pieces, Appended, appe
 use Rattle.format.specs.RollingBack.{rollback}
 use Rattle.format.specs.Exporting.{sizeAt, flatFile, export}
 use Rattle.format.specs.Importing.{import}
-use Rattle.format.specs.Facts.{Opens, OpensWith, EntryNames, DiscOk, Stores, all, again, new, Reindexed, replaced, end, blockLengthFor, blockEntry}
+use Rattle.format.specs.Facts.{Opens, OpensWith, EntryNames, DiscOk, Stores, all, again, new, Reindexed, replaced, end, blockLengthFor}
 use Rattle.format.specs.Demands.{HasSectors, Held, Additions, newEntries, CommitOk, ExportOk, ImportOk, Demand1Accepted}
 use Rattle.format.proofs.Tests.{same-on, same-true}
 use Rattle.format.proofs.Lists.{all-map, length-ofEach}
@@ -41,7 +41,7 @@ use Rattle.format.proofs.Created.{length-new}
 use Rattle.format.proofs.Storing.{length-pieces}
 use Rattle.format.proofs.Bytes.{tag-bytes}
 use Rattle.format.proofs.KeptEntries.{reindexed-back}
-use Rattle.format.proofs.Ends.{additions, index-is, end-is, ends-at}
+use Rattle.format.proofs.Ends.{length-some, entry-some, additions, index-is, end-is, ends-at}
 
 -- ---- counting
 count-forth : (img : List ℕ) (r : AddressRange) → sectorCount img ≡ accepted r → HasSectors img r
@@ -251,17 +251,6 @@ module _ (buffer file : List ℕ) (size : ℕ) (application : List ℕ) (major m
   some-stored stored r =
       stores-some handed stored (rw (length-pieces (length (addressesOf total)) size file, many) (pos-of-ne-zero (file-some k))) r
 
-  -- the lengths of what is appended
-  block-some : (n : ℕ) → 0 < n → blockLengthFor n size ≡ 36 + n * size
-  unfolding blockLengthFor
-  block-some zero h = absurd (omega arith)
-  block-some (suc n) h = refl
-
-  entry-some : (n : ℕ) → 0 < n → length (blockEntry used₀ n) ≡ 1
-  unfolding blockEntry
-  entry-some zero h = absurd (omega arith)
-  entry-some (suc n) h = refl
-
   entries-are : entries disc (indexOffset disc) ≡ createdEntries
   entries-are = ap (entries disc) offset-is ∙ made-entries buffer file size application major minor mediaType creationTime lastWrittenTime k
 
@@ -272,7 +261,7 @@ module _ (buffer file : List ℕ) (size : ℕ) (application : List ℕ) (major m
   two-entries a h =
       let t : ℕ = used₀ + blockLengthFor (length (a .stored)) size in
       let one : a .kept ≡ userDataEntry DDT* t ∷ [] = sym (reindexed-back t _ (a .kept) (a .keeps)) ∙ reindexed-back t _ _ (kept-one t) in
-      length-append (a .kept) _ ∙ (λ j. length (one j) + entry-some (length (a .stored)) h j)
+      length-append (a .kept) _ ∙ (λ j. length (one j) + length (entry-some used₀ (length (a .stored)) (λ e. omega arith) j))
 
   added-is : appended disc (indexOffset disc) (entryNumbers (opened disc (indexOffset disc)) (addressesOf total)) size file ≡ added buffer file size application major minor mediaType creationTime lastWrittenTime
   added-is = rw (offset-is, made-numbers buffer file size application major minor mediaType creationTime lastWrittenTime k) refl
@@ -284,7 +273,7 @@ module _ (buffer file : List ℕ) (size : ℕ) (application : List ℕ) (major m
   import-ends a h p e f =
       ap (λ (x : Appended). placed (usedAfter used₀ x) (indexStart used₀ x)) (sym added-is)
       ∙ ends-at disc s used₀ long (addressesOf total) size file whole (opens .table) (opens .opens) a p
-      (e ∙ (rw (table-count, block-some (length (a .stored)) h, created-used total) refl)) (f ∙ ap (λ n. p .index .0 + (20 + 16 * n)) (sym (two-entries a h)))
+      (e ∙ (rw (table-count, length-some (length (a .stored)) size (λ z. omega arith), created-used total) refl)) (f ∙ ap (λ n. p .index .0 + (20 + 16 * n)) (sym (two-entries a h)))
 
 module _ (buffer file : List ℕ) (size : ℕ) (application : List ℕ) (major minor mediaType creationTime lastWrittenTime : ℕ) (p : Placed) where
   import-forth : import buffer file size application major minor mediaType creationTime lastWrittenTime .result ≡ accepted p → ImportOk buffer file size application p

@@ -1,10 +1,10 @@
 -- Where what a commit appends ends: how long its parts are, by the sectors that it stores and the index entries that it keeps.
 use mathlib.Core.Bool.{not}
 use mathlib.Core.List.{List, [], _∷_, _++_, flatten}
-use mathlib.Core.Logic.{_⊎_, ⊎-elim, inl, inr}
+use mathlib.Core.Logic.{_≢_, _⊎_, ⊎-elim, inl, inr}
 use mathlib.Core.Option.{Option, none, some}
 use mathlib.Core.Path.{_≡_, refl, sym, ap, _∙_, subst}
-use Prim.Native.Nat.{ℕ, _+_, _*_}
+use Prim.Native.Nat.{ℕ, suc, _+_, _-_, _*_}
 use native.Mathlib.Omega.{arith}
 use lib.ListN.{length}
 use lib.IntN.{ℤ, pos, negℤ, _+ℤ_}
@@ -16,7 +16,7 @@ use Rattle.format.specs.declared.Pointer.{Pointer}
 use Rattle.format.specs.declared.TableKind.the-variants.{First}
 use Rattle.format.specs.Lists.{All}
 use Rattle.format.specs.Refusals.{accepted}
-use Rattle.format.specs.Layouts.{indexOffset, entries, blockHeaderLength, tableHeaderLength, tableEntryLength, tableCount}
+use Rattle.format.specs.Layouts.{DBLK, indexOffset, entries, userDataEntry, blockHeaderLength, tableHeaderLength, tableEntryLength, tableCount}
 use Rattle.format.specs.Opening.{Opened, openedAs, opened}
 use Rattle.format.specs.Reading.{entryNumber, pointerOf, readAt, read}
 use Rattle.format.specs.Writing.{placed}
@@ -43,7 +43,7 @@ module _ (img : List ℕ) (s : Sound img (indexOffset img)) where
   Known stored d = Held img d ⊎ Among stored d
 
   -- the search of the disc finds a sector exactly if some address reads as it
-  disc-some : (d : List ℕ) (n : ℕ) → onDisc img t d ≡ some n → Held img d
+  pub disc-some : (d : List ℕ) (n : ℕ) → onDisc img t d ≡ some n → Held img d
   unfolding read
   disc-some d n e =
       let f = onDisc-found img t d n e in
@@ -110,6 +110,25 @@ pub block-entry : (b : ℕ) (items : List (List ℕ)) → newBlockEntry b items 
 unfolding newBlockEntry blockEntry
 block-entry b [] = refl
 block-entry b (i ∷ is) = refl
+
+-- by how many sectors are stored
+module _ (n size : ℕ) where
+  pub length-none : n ≡ 0 → blockLengthFor n size ≡ 0
+  unfolding blockLengthFor
+  length-none e = rw e
+
+  pub length-some : n ≢ 0 → blockLengthFor n size ≡ blockHeaderLength + n * size
+  unfolding blockLengthFor
+  length-some h = let e : n ≡ suc (n - 1) = omega arith in rw e
+
+module _ (place n : ℕ) where
+  pub entry-none : n ≡ 0 → blockEntry place n ≡ []
+  unfolding blockEntry
+  entry-none e = rw e
+
+  pub entry-some : n ≢ 0 → blockEntry place n ≡ userDataEntry DBLK place ∷ []
+  unfolding blockEntry
+  entry-some h = let e : n ≡ suc (n - 1) = omega arith in rw e
 
 -- ---- a commit's
 module _ (img : List ℕ) (s : Sound img (indexOffset img)) (used : ℕ) (long : length img ≡ used) (addresses : List ℤ) (size : ℕ) (sectors : List ℕ)

@@ -104,12 +104,12 @@ among-none l d e =
     never (ap (λ (x : List ℕ). equal x d) q ∙ equal-refl d) (firstWith-none (λ i. equal (getD l i []) d) (length l) 0 j e (omega arith) (omega arith)))
 
 -- ---- the handed-in sectors
-pieces-sized : (k size : ℕ) (l : List ℕ) → length l ≡ k * size → All (Sized size) (pieces k size l)
+pub pieces-sized : (k size : ℕ) (l : List ℕ) → k * size ≤ length l → All (Sized size) (pieces k size l)
 unfolding pieces
 pieces-sized zero size l h = done
 pieces-sized (suc k) size l h =
-    let e : length (take size l) ≡ size = simp length-take (omega arith) in
-    more e (pieces-sized k size (drop size l) (simp length-drop (omega arith)))
+    let e : length (take size l) ≡ size = simp length-take (omega (arith, suc-mul k size)) in
+    more e (pieces-sized k size (drop size l) (simp length-drop (omega (arith, suc-mul k size))))
 
 pub pieces-all : {P : ℕ → Type 0} (k size : ℕ) (l : List ℕ) → All P l → All (All P) (pieces k size l)
 unfolding pieces
@@ -223,7 +223,7 @@ module _ (img : List ℕ) (t : Opened) (block : ℕ) where
 -- the stored sectors have the size of those handed in
 pub stored-sized : (img : List ℕ) (t : Opened) (block k size : ℕ) (sectors : List ℕ) → length sectors ≡ k * size
     → All (Sized size) (storeAll img t block [] (pieces k size sectors) .items)
-stored-sized img t block k size sectors h = stored-ok img t block (Sized size) (pieces k size sectors) [] .keeps done (pieces-sized k size sectors h)
+stored-sized img t block k size sectors h = stored-ok img t block (Sized size) (pieces k size sectors) [] .keeps done (pieces-sized k size sectors (omega arith))
 
 -- ---- what an address reads as after a commit, by what was handed in for it and by what it read as before
 unfoldable pub handedOr : Option (List ℕ) → Answer (List ℕ) → Answer (List ℕ)

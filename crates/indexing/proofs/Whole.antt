@@ -2,7 +2,7 @@
 use mathlib.Core.List.{List, [], _∷_, _++_, append-assoc, append-nil, flatten}
 use mathlib.Core.Logic.{_≢_}
 use mathlib.Core.Path.{_≡_, refl, sym, ap, _∙_}
-use Prim.Native.Nat.{ℕ, zero, suc, _+_, _*_, _≤_}
+use Prim.Native.Nat.{ℕ, _+_, _*_, _≤_}
 use native.Mathlib.Omega.{arith}
 use lib.ListN.{length, take, length-append, length-take}
 use Rattle.fields.specs.Bytes.{part, overwrite}
@@ -11,6 +11,7 @@ use Rattle.format.specs.declared.Entry.{Entry}
 use Rattle.format.specs.Layouts.{DBLK, indexHeaderLength, entryLength, entryBytes, userDataEntry, entries, indexHeader, indexBytes}
 use Rattle.format.specs.Committing.{keptEntries}
 use Rattle.format.proofs.Written.{length-entriesBytes, length-indexHeader}
+use Rattle.format.proofs.Ends.{entry-some}
 use Rattle.records.proofs.Sealed.{sealed}
 use Rattle.format.specs.Facts.{blockEntry}
 use Rattle.indexing.specs.Entries.{newEntries, entriesBytes, Indexes}
@@ -21,13 +22,8 @@ entriesBytes-append [] b = refl
 entriesBytes-append (e ∷ a) b = ap (λ (l : List ℕ). entryBytes e ++ l) (entriesBytes-append a b) ∙ sym (append-assoc (entryBytes e) (entriesBytes a) (entriesBytes b))
 
 -- ---- the new block's entry
-block-one : (block stored : ℕ) → stored ≢ 0 → blockEntry block stored ≡ userDataEntry DBLK block ∷ []
-unfolding blockEntry
-block-one block zero h = absurd (h refl)
-block-one block (suc n) h = refl
-
 pub one-room : (at block stored n : ℕ) → stored ≢ 0 → at + entryLength * length (blockEntry block stored) ≤ n → at + entryLength ≤ n
-one-room at block stored n h r = omega (arith, ap length (block-one block stored h))
+one-room at block stored n h r = omega (arith, ap length (entry-some block stored h))
 
 pub wrote-none : (s : List ℕ) (at block stored : ℕ) → stored ≡ 0
     → (0 ≡ length (blockEntry block stored)) × (s ≡ overwrite s at (entriesBytes (blockEntry block stored)))
@@ -37,7 +33,7 @@ wrote-none s at block stored h = rw h (refl, sym (overwrite-nil s at))
 pub wrote-one : (s : List ℕ) (at block stored : ℕ) (after : List ℕ) → stored ≢ 0 → after ≡ overwrite s at (entryBytes (userDataEntry DBLK block))
     → (1 ≡ length (blockEntry block stored)) × (after ≡ overwrite s at (entriesBytes (blockEntry block stored)))
 unfolding entriesBytes flatten
-wrote-one s at block stored after h e = rw (block-one block stored h) (refl, e ∙ ap (overwrite s at) (sym (append-nil (entryBytes (userDataEntry DBLK block)))))
+wrote-one s at block stored after h e = rw (entry-some block stored h) (refl, e ∙ ap (overwrite s at) (sym (append-nil (entryBytes (userDataEntry DBLK block)))))
 
 -- ---- the whole index
 -- kept entries, then the new block's, then the header

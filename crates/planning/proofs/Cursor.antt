@@ -73,7 +73,7 @@ module _ (img : List ℕ) (t : Opened) where
   past b l p ps (suc n) x h =
       rw (choose-false _ (some p) (given l ps x) (same-iff .1 (λ (e : b ≡ x). absurd (omega arith))), past b l p ps n (suc x) (omega arith))
 
-  pointers-new : (b : ℕ) (l : List ℕ) (p : Pointer) (ps : List Pointer) (n a : ℕ) → b ≡ a
+  pub pointers-new : (b : ℕ) (l : List ℕ) (p : Pointer) (ps : List Pointer) (n a : ℕ) → b ≡ a
       → newPointers img t (b ∷ l) (p ∷ ps) (suc n) a ≡ some p ∷ newPointers img t l ps n (suc a)
   unfolding newPointers newPointer given orElse
   pointers-new b l p ps n a e =

@@ -1,5 +1,5 @@
 pub mod Cursor
-mod Seen
+pub mod Seen
 mod Looking
 mod Progress
 pub mod Next

@@ -38,7 +38,7 @@ more-new (y ∷ l) x d e = there (more-new l x d e)
 among-more : (l : List (List ℕ)) (x d : List ℕ) → Among (l ++ (x ∷ [])) d ↔ (Among l d ⊎ (x ≡ d))
 among-more l x d = (more-forth l x d, ⊎-elim (more-old l x d) (more-new l x d))
 
-pieces-more : (k size : ℕ) (l : List ℕ) → pieces (suc k) size l ≡ pieces k size l ++ (sectorOf size l k ∷ [])
+pub pieces-more : (k size : ℕ) (l : List ℕ) → pieces (suc k) size l ≡ pieces k size l ++ (sectorOf size l k ∷ [])
 unfolding pieces part
 pieces-more zero size l = rw zero-mul
 pieces-more (suc k) size l =

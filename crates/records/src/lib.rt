@@ -8,9 +8,10 @@ ghost use Prim.Native.Nat.{_+_, _*_, _≤_};
 ghost use lib.ListN.{length};
 ghost use Rattle.fields.specs.Bytes.{part, overwrite};
 ghost use Rattle.fields.specs.Layout.{num, raw, layout};
-ghost use Rattle.format.specs.Layouts.{headerLength, applicationLength, imageMajorAt, headerBytes, entryBytes, userDataEntry, indexHeader, blockHeader, tableHeader};
+ghost use Rattle.format.specs.Layouts.{headerLength, applicationLength, imageMajorAt, headerBytes, entryBytes, userDataEntry, indexHeader, tableHeader};
 ghost use Rattle.format.specs.Writing.{setHeader};
 ghost use Rattle.format.specs.Creating.{createdUsed, createdBytes};
+ghost use Rattle.records.specs.Blocks.{headerFor};
 use crc64::checksum;
 use fields::clear;
 use fields::copy;
@@ -52,12 +53,16 @@ fn put_sums(buf: &mut [u8], at: u64, width: u64, n: u64, sum: u64)
     put(buf, at + 2 * width + 8, 8, sum);
 }
 
-// Writes the header of a data block at `at` whose payload of n bytes stands after it.
-pub fn seal_block(buf: &mut [u8], at: ByteOffset, size: u64, n: u64)
-    requires { ⌜ at .0 + 36 + n ≤ length (now buf) ⌝ }
-    ensures { λ _. ⌜ now (buf .exit) ≡ overwrite (now (buf .entry)) (at .0) (blockHeader size (part (now (buf .entry)) (at .0 + 36) n)) ⌝ }
+// Writes the header of a data block at `at` whose sectors, `stored` of `size` bytes, stand after it. Where nothing is stored there is no block.
+pub fn seal_block(buf: &mut [u8], at: ByteOffset, size: u64, stored: u64)
+    requires { ⌜ at .0 + 36 + stored * size ≤ length (now buf) ⌝ }
+    ensures { λ _. ⌜ now (buf .exit) ≡ overwrite (now (buf .entry)) (at .0) (headerFor stored size (part (now (buf .entry)) (at .0 + 36) (stored * size))) ⌝ }
 {
+    if stored == 0 {
+        return;
+    }
     let block = at.0;
+    let n = stored * size;
     let sum = checksum(part(buf, block + 36, n));
     put_identifier(buf, block, b"DBLK");
     put(buf, block + 8, 4, size);
