@@ -1,4 +1,4 @@
-mod Pieces
-mod Steps
+pub mod Pieces
+pub mod Steps
 mod Turns
 mod Pass

@@ -3,13 +3,13 @@ use mathlib.Core.List.{List, [], _∷_, _++_, flatten, append-assoc, append-nil}
 use mathlib.Core.Logic.{_≢_}
 use mathlib.Core.Path.{_≡_, refl, sym, ap, _∙_}
 use Prim.Native.Nat.{ℕ, zero, suc, _+_, _*_, _≤_}
-use native.Mathlib.Nat.{zero-mul, suc-mul, mul-suc, le-refl}
+use native.Mathlib.Nat.{mul-suc, le-refl}
 use native.Mathlib.Omega.{arith}
 use lib.ListN.{length, take, drop, length-drop}
-use lib.Seq.{take-add, take-at, drop-at, length-take-le}
+use lib.Seq.{drop-at, length-take-le}
 use Rattle.fields.specs.Bytes.{part, overwrite}
 use Rattle.fields.proofs.Overwrite.{length-overwrite, overwrite-then, overwrite-split, overwrite-comm, overwrite-self, overwrite-cover}
-use Rattle.format.specs.Lists.{All, done, more}
+use Rattle.format.specs.Lists.{All}
 use Rattle.format.specs.Committing.{pieces}
 use Rattle.format.proofs.Lists.{Sized, length-flatten}
 use Rattle.format.proofs.Storing.{flatten-pieces, pieces-flatten}
@@ -34,7 +34,8 @@ pieces-written s at size ls hs h =
     ∙ ap (pieces (length ls) size) (drop-at (take at s) (flatten ls ++ drop (at + length (flatten ls)) s) at (length-take-le at s (omega arith)))
     ∙ pieces-flatten size ls (drop (at + length (flatten ls)) s) hs
 
-flatten-next : (ls : List (List ℕ)) (l : List ℕ) → flatten (ls ++ (l ∷ [])) ≡ flatten ls ++ l
+-- one list more
+pub flatten-next : (ls : List (List ℕ)) (l : List ℕ) → flatten (ls ++ (l ∷ [])) ≡ flatten ls ++ l
 unfolding flatten
 flatten-next [] l = append-nil l
 flatten-next (k ∷ ls) l = ap (λ (r : List ℕ). k ++ r) (flatten-next ls l) ∙ sym (append-assoc k (flatten ls) l)

@@ -11,18 +11,19 @@ use Rattle.fields.specs.Bytes.{part}
 use Rattle.fields.proofs.Overwrite.{length-part}
 use Rattle.format.specs.Layouts.{blockHeaderLength, encode}
 use Rattle.format.specs.Opening.{Opened}
+use Rattle.format.specs.Reading.{pointerAt}
 use Rattle.format.specs.Writing.{longestBuffer}
 use Rattle.format.specs.Committing.{oldPointer}
 use Rattle.format.proofs.Tests.{choose-true, choose-false}
-use Rattle.format.proofs.Storing.{length-pieces}
+use Rattle.format.proofs.Storing.{OnDisc, length-pieces}
 use Rattle.search.specs.Found.{Checked}
 use Rattle.search.proofs.Stored as stored
 use Rattle.planning.specs.Plans.{isNext, sectorOf}
 use Rattle.planning.proofs.Cursor.{next-listed}
 use Rattle.storing.specs.declared.Handed.{Handed}
-use Rattle.storing.specs.Turns.{itemsIn, stepAt, entryOf, Turn, turnAt, Steps, Stepped, Turns, Turned}
+use Rattle.storing.specs.Turns.{stepAt, entryOf, Turn, turnAt, itemsIn, stepIn, Steps, Stepped, Turns, Turned}
 use Rattle.storing.proofs.Pieces.{pieces-stand}
-use Rattle.storing.proofs.Steps.{Small, step-small}
+use Rattle.storing.proofs.Steps.{Small, old-small, step-small}
 
 module _ {buf : List ℕ} {used : ℕ} {t : Opened} {addresses : List ℕ} {size : ℕ} {sectors : List ℕ} {shift k a n : ℕ}
     (h : Turns buf used t addresses size sectors shift k a n) where
@@ -58,22 +59,23 @@ module _ {buf : List ℕ} {used : ℕ} {t : Opened} {addresses : List ℕ} {size
     room : start + length (stepAt img t items sector .stored) * size ≤ length buf
     room = rw turn-next at (h .room)
 
-    pub steps : {s : List ℕ} → s ≡ sectorOf size sectors k → Steps buf used t s n
-    steps {s} es =
-        subst (λ (x : List ℕ). Steps buf used t x n) (sym es)
-        (record { checked = h .commits .checked; pos = rw sector-long (h .commits .pos); short = h .short; room = rw sector-long room })
+    pub steps : {s : List ℕ} → s ≡ sectorOf size sectors k → Checked img t × Steps buf used s (stepIn buf used t s n)
+    steps {s} es = (
+      h .commits .checked,
+      subst (λ (x : List ℕ). Steps buf used x (stepIn buf used t x n)) (sym es)
+          (record { pos = rw sector-long (h .commits .pos); short = h .short; room = rw sector-long room }),
+    )
 
-    module _ {s after : List ℕ} {r : Handed} (es : s ≡ sectorOf size sectors k) (w : Stepped buf after used t s n r) where
-      stepped : Stepped buf after used t sector n r
-      stepped = subst (λ (x : List ℕ). Stepped buf after used t x n r) es w
-
-      pointer-is : r .pointer ≡ stepAt img t items sector .pointer
-      pointer-is = rw sector-long at (stepped .pointer)
+    module _ {s after : List ℕ} {r : Handed} (es : s ≡ sectorOf size sectors k) (w : Stepped buf after used (stepIn buf used t s n) r) where
+      stepped : Stepped buf after used (stepAt img t items sector) r
+      stepped = rw sector-long at (subst (λ (x : List ℕ). Stepped buf after used (stepIn buf used t x n) r) es w)
 
       pub encodes : (shift ≤ 32) × (r .pointer .block .0 < 2 ^ 32) × (r .pointer .item .0 < 2 ^ 32)
       encodes =
           let long : length img ≡ used = length-take-le used buf (omega (arith, room)) in
-          let p : Small (r .pointer) = rw pointer-is (step-small img t items sector size (h .commits .checked) (h .commits .pos) (omega (arith, room, h .short))) in
+          let old : (a : ℕ) → OnDisc img t sector a → Small (pointerAt img t a) =
+          λ a o. old-small img t a (h .commits .checked) (omega (arith, room, h .short)) (o .inside) (o .written) in
+          let p : Small (r .pointer) = rw (stepped .pointer) (step-small img t (length img) items sector size old (h .commits .pos) (omega (arith, room, h .short))) in
           (h .low, p .0, p .1)
 
       pub handed-in : {entry : ℕ} → entry ≡ encode shift (r .pointer)
@@ -81,10 +83,10 @@ module _ {buf : List ℕ} {used : ℕ} {t : Opened} {addresses : List ℕ} {size
       unfolding entryOf
       handed-in {entry} q =
           record {
-            entry = rw turn-next (q ∙ ap (encode shift) pointer-is);
-            stored = rw turn-next (rw sector-long at (stepped .stored));
+            entry = rw turn-next (q ∙ ap (encode shift) (stepped .pointer));
+            stored = rw turn-next (stepped .stored);
             next = rw turn-next;
-            buffer = rw turn-next (rw sector-long at (stepped .buffer));
+            buffer = rw turn-next (stepped .buffer);
           }
 
   module _ (e : isNext addresses k a ≡ false) {s : List ℕ} (es : s ≡ part buf 0 used) where

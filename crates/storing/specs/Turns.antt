@@ -1,5 +1,5 @@
 -- One turn of the second pass of a commit: what becomes of a table entry, and of the sector that is handed in for its address.
-use mathlib.Core.List.{List, flatten}
+use mathlib.Core.List.{List, [], flatten}
 use mathlib.Core.Logic.{_≢_}
 use mathlib.Core.Option.{Option, none, some}
 use mathlib.Core.Path.{_≡_}
@@ -7,12 +7,12 @@ use Prim.Native.Nat.{ℕ, _+_, _*_, _≤_, _<_}
 use lib.ListN.{length, take, drop}
 use Rattle.fields.specs.Bytes.{overwrite}
 use Rattle.format.specs.declared.Pointer.{Pointer}
+use Rattle.format.specs.declared.TableKind.the-variants.{First}
 use Rattle.format.specs.Tests.{choose}
 use Rattle.format.specs.Layouts.{blockHeaderLength, encode}
 use Rattle.format.specs.Opening.{Opened}
 use Rattle.format.specs.Writing.{longestBuffer}
 use Rattle.format.specs.Committing.{pieces, Step, storeOne, oldPointer}
-use Rattle.search.specs.Found.{Checked}
 use Rattle.planning.specs.Plans.{isNext, Commits, sectorOf}
 use Rattle.storing.specs.declared.Handed.{Handed}
 use Rattle.storing.specs.declared.Next.{Next}
@@ -20,6 +20,14 @@ use Rattle.storing.specs.declared.Next.{Next}
 -- what becomes of a handed-in sector where `items` are stored; the new block stands at the end of the image
 abbrev pub stepAt : List ℕ → Opened → List (List ℕ) → List ℕ → Step
 stepAt img t items sector = storeOne img t (length img) items sector
+
+-- a disc of no sectors, on which every search finds nothing
+abbrev pub noDisc : Opened
+noDisc = record { kind = First; table = 0; count = 0; shift = 0; alignment = 0; negative = 0 }
+
+-- what becomes of a sector that the disc does not hold, where `items` are stored in a block at `block`
+abbrev pub addAt : ℕ → List (List ℕ) → List ℕ → Step
+addAt block items sector = storeOne [] noDisc block items sector
 
 -- the number that a table entry holds
 unfoldable pub entryOf : ℕ → Option Pointer → ℕ
@@ -40,28 +48,31 @@ turnAt img t addresses size sectors items k a =
     (record { items = step .stored; pointer = some (step .pointer); k = k + 1 })
     (record { items = items; pointer = oldPointer img t a; k = k })
 
--- ---- by a buffer whose first `used` bytes are the image, with n sectors stored behind the place of the new block's header
+-- ---- by a buffer with n sectors stored behind the place of the header of the block at `block`
 abbrev pub itemsIn : List ℕ → ℕ → ℕ → ℕ → List (List ℕ)
-itemsIn buf used n size = pieces n size (drop (used + blockHeaderLength) buf)
+itemsIn buf block n size = pieces n size (drop (block + blockHeaderLength) buf)
 
+abbrev pub addIn : List ℕ → ℕ → List ℕ → ℕ → Step
+addIn buf block sector n = addAt block (itemsIn buf block n (length sector)) sector
+
+-- whose first `used` bytes are the image, and the block stands behind it
 abbrev pub stepIn : List ℕ → ℕ → Opened → List ℕ → ℕ → Step
 stepIn buf used t sector n = stepAt (take used buf) t (itemsIn buf used n (length sector)) sector
 
 abbrev pub turnIn : List ℕ → ℕ → Opened → List ℕ → ℕ → List ℕ → ℕ → ℕ → ℕ → Turn
 turnIn buf used t addresses size sectors k a n = turnAt (take used buf) t addresses size sectors (itemsIn buf used n size) k a
 
--- a handed-in sector, for which there is room if it has to be stored
-pub record Steps (buf : List ℕ) (used : ℕ) (t : Opened) (sector : List ℕ) (n : ℕ) : Type 0 where
-  pub checked : Checked (take used buf) t
+-- a sector that becomes `step`, with room for what is stored after it
+pub record Steps (buf : List ℕ) (block : ℕ) (sector : List ℕ) (step : Step) : Type 0 where
   pub pos : length sector ≢ 0
   pub short : length buf ≤ longestBuffer
-  pub room : used + blockHeaderLength + length (stepIn buf used t sector n .stored) * length sector ≤ length buf
+  pub room : block + blockHeaderLength + length (step .stored) * length sector ≤ length buf
 
 -- what is answered for it, and the buffer afterwards; the sectors that are stored already are written over by themselves
-pub record Stepped (buf after : List ℕ) (used : ℕ) (t : Opened) (sector : List ℕ) (n : ℕ) (r : Handed) : Type 0 where
-  pub pointer : r .pointer ≡ stepIn buf used t sector n .pointer
-  pub stored : r .stored ≡ length (stepIn buf used t sector n .stored)
-  pub buffer : after ≡ overwrite buf (used + blockHeaderLength) (flatten (stepIn buf used t sector n .stored))
+pub record Stepped (buf after : List ℕ) (block : ℕ) (step : Step) (r : Handed) : Type 0 where
+  pub pointer : r .pointer ≡ step .pointer
+  pub stored : r .stored ≡ length (step .stored)
+  pub buffer : after ≡ overwrite buf (block + blockHeaderLength) (flatten (step .stored))
 
 -- a table entry, with room for a sector that has to be stored for it
 pub record Turns (buf : List ℕ) (used : ℕ) (t : Opened) (addresses : List ℕ) (size : ℕ) (sectors : List ℕ) (shift k a n : ℕ) : Type 0 where

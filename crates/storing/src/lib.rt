@@ -6,14 +6,14 @@
 ghost use mathlib.Core.Bool.{false};
 ghost use mathlib.Core.Path.{_≡_};
 ghost use Prim.Native.Nat.{_^_, _≤_, _<_};
-ghost use lib.ListN.{length};
+ghost use lib.ListN.{length, take};
 ghost use Rattle.format.specs.Layouts.{encode};
 ghost use Rattle.format.specs.Writing.{longestBuffer};
 ghost use Rattle.format.specs.Committing.{anyOutside, entryNumbers, oldPointer};
 ghost use Rattle.opening.specs.Answers.{contents};
 ghost use Rattle.search.specs.Found.{Checked};
 ghost use Rattle.storing.specs.Stores.{Stores, stored};
-ghost use Rattle.storing.specs.Turns.{entryOf, Steps, Stepped, Turns, Turned};
+ghost use Rattle.storing.specs.Turns.{entryOf, addIn, stepIn, Steps, Stepped, Turns, Turned};
 use fields::part;
 use format::ByteOffset;
 use format::EntryNumber;
@@ -23,10 +23,10 @@ use opening::Opened;
 use search::Item;
 use search::TableEntry;
 
-// Where a handed-in sector is, and how many are stored with it.
-struct Handed {
-    pointer: Pointer,
-    stored: u64,
+// Where a sector is, and how many are stored with it.
+pub struct Handed {
+    pub pointer: Pointer,
+    pub stored: u64,
 }
 
 // A new table entry, and how many sectors are stored and how many addresses of the list are used up after it.
@@ -37,7 +37,7 @@ struct Next {
 }
 
 // The table entry of a pointer.
-fn encode(shift: u64, p: Pointer) -> u64
+pub fn encode(shift: u64, p: Pointer) -> u64
     requires { ⌜ (shift ≤ 32) × (p .block .0 < 2 ^ 32) × (p .item .0 < 2 ^ 32) ⌝ }
     ensures { λ r. ⌜ r ≡ encode shift p ⌝ }
 {
@@ -47,10 +47,32 @@ fn encode(shift: u64, p: Pointer) -> u64
     block.0 * unit + item.0
 }
 
-// A handed-in sector: found on the disc, found among the `stored` sectors of the new block, or stored there as the next.
+// A sector that the disc does not hold: found among the `stored` ones of the block at `block`, or stored there as the next.
+pub fn store_among(buf: &mut [u8], block: ByteOffset, sector: &[u8], stored: u64) -> Handed
+    requires { ⌜ Steps (now buf) (block .0) (now sector) (addIn (now buf) (block .0) (now sector) stored) ⌝ }
+    ensures { λ r. ⌜ Stepped (now (buf .entry)) (now (buf .exit)) (block .0) (addIn (now (buf .entry)) (block .0) (now (sector .entry)) stored) r ⌝ }
+{
+    let start = block.0 + 36;
+    let found = search::among(buf, ByteOffset(start), stored, sector);
+    if let Item::Is(item) = found {
+        return Handed {
+            pointer: Pointer { block, item },
+            stored,
+        };
+    }
+    let size = sector.len() as u64;
+    fields::copy(buf, start + stored * size, sector);
+    let item = ItemNumber(stored);
+    Handed {
+        pointer: Pointer { block, item },
+        stored: stored + 1,
+    }
+}
+
+// A handed-in sector: found on the disc, or stored in the new block, at the image's end.
 fn store(buf: &mut [u8], used: u64, t: Opened, sector: &[u8], stored: u64) -> Handed
-    requires { ⌜ Steps (now buf) used (contents t) (now sector) stored ⌝ }
-    ensures { λ r. ⌜ Stepped (now (buf .entry)) (now (buf .exit)) used (contents t) (now (sector .entry)) stored r ⌝ }
+    requires { ⌜ Checked (take used (now buf)) (contents t) × Steps (now buf) used (now sector) (stepIn (now buf) used (contents t) (now sector) stored) ⌝ }
+    ensures { λ r. ⌜ Stepped (now (buf .entry)) (now (buf .exit)) used (stepIn (now (buf .entry)) used (contents t) (now (sector .entry)) stored) r ⌝ }
 {
     let old = search::on_disc_at(part(buf, 0, used), t, sector);
     if let TableEntry::Is(a) = old {
@@ -59,26 +81,7 @@ fn store(buf: &mut [u8], used: u64, t: Opened, sector: &[u8], stored: u64) -> Ha
             stored,
         };
     }
-    let start = used + 36;
-    let new = search::among(buf, ByteOffset(start), stored, sector);
-    if let Item::Is(i) = new {
-        return Handed {
-            pointer: Pointer {
-                block: ByteOffset(used),
-                item: i,
-            },
-            stored,
-        };
-    }
-    let size = sector.len() as u64;
-    fields::copy(buf, start + stored * size, sector);
-    Handed {
-        pointer: Pointer {
-            block: ByteOffset(used),
-            item: ItemNumber(stored),
-        },
-        stored: stored + 1,
-    }
+    store_among(buf, ByteOffset(used), sector, stored)
 }
 
 // The entry of an address that is not in the list, number a: what it was, encoded anew. It is read once.
