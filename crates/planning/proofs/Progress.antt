@@ -11,7 +11,7 @@ use Rattle.format.specs.Committing.{onDisc, amongStored, pieces, Step, stepFor,
 use Rattle.format.proofs.Tests.{choose-cases}
 use Rattle.format.proofs.Storing.{amongStored-found, among-some, among-none}
 use Rattle.planning.specs.declared.Looked.{Looked}
-use Rattle.planning.specs.Plans.{isNext, Commits, sectorOf, storedBy, planFor, lookedFor, looked, lookedAt}
+use Rattle.planning.specs.Plans.{isNext, Commits, sectorOf, storedBy, planFor, missing, isNew, lookedFor, looked, lookedAt}
 use Rattle.planning.proofs.Cursor.{left, Walks, walk-starts, left-starts, walk-old, left-old, walk-new, left-new, walk-done, left-done}
 use Rattle.planning.proofs.Seen.{Same, same-starts, same-more}
 
@@ -77,14 +77,14 @@ module _ (img : List ℕ) (t : Opened) (addresses : List ℕ) (size : ℕ) (sect
       top : max largest (r .item .0) ≡ max largest (s .pointer .item .0)
 
     fits : Fits (looked img t size sectors k stored) (storeOne img t (length img) (p .items) (sectorOf size sectors k))
-    unfolding looked lookedFor storeOne stepFor
+    unfolding looked lookedFor isNew missing storeOne stepFor
     fits = go (onDisc img t x) refl (amongStored (p .items) x) refl (amongStored (pieces k size sectors) x) refl
       where
         x : List ℕ
         x = sectorOf size sectors k
 
         go : (u : Option ℕ) → onDisc img t x ≡ u → (v : Option ℕ) → amongStored (p .items) x ≡ v → (w : Option ℕ) → amongStored (pieces k size sectors) x ≡ w
-            → Fits (lookedFor img t k stored u w) (stepFor img t (length img) (p .items) x u v)
+            → Fits (lookedFor img t k stored u (missing w)) (stepFor img t (length img) (p .items) x u v)
         go (some b) e v f w g = record { used = refl; count = p .count; few = omega (arith, p .few); low = omega (arith, p .low); top = refl }
         go none e (some j) f (some i) g =
             let r = amongStored-found (p .items) x j f in

@@ -63,16 +63,23 @@ planFor img t addresses size sectors =
 abbrev pub Looks : List ℕ → Opened → ℕ → List ℕ → ℕ → ℕ → Type 0
 Looks img t size sectors k stored = Checked img t × (k * size + size ≤ length sectors) × (k < mostAddresses) × (stored ≤ k)
 
--- what sector k adds, by what is found on the disc and among the sectors handed in before it
-unfoldable pub lookedFor : List ℕ → Opened → ℕ → ℕ → Option ℕ → Option ℕ → Looked
-lookedFor img t k stored (some a) j = record { item = pointerAt img t a .item; stored = stored; k = k + 1 }
-lookedFor img t k stored none (some j) = record { item = record { 0 = 0 }; stored = stored; k = k + 1 }
-lookedFor img t k stored none none = record { item = record { 0 = stored }; stored = stored + 1; k = k + 1 }
+-- a search found nothing
+unfoldable pub missing : Option ℕ → Bool
+missing none = true
+missing (some j) = false
+
+-- sector k equals none before it
+unfoldable pub isNew : ℕ → List ℕ → ℕ → Bool
+isNew size sectors k = missing (amongStored (pieces k size sectors) (sectorOf size sectors k))
+
+-- what sector k adds, by what is found on the disc and by whether it is new among those handed in
+unfoldable pub lookedFor : List ℕ → Opened → ℕ → ℕ → Option ℕ → Bool → Looked
+lookedFor img t k stored (some a) b = record { item = pointerAt img t a .item; stored = stored; k = k + 1 }
+lookedFor img t k stored none false = record { item = record { 0 = 0 }; stored = stored; k = k + 1 }
+lookedFor img t k stored none true = record { item = record { 0 = stored }; stored = stored + 1; k = k + 1 }
 
 unfoldable pub looked : List ℕ → Opened → ℕ → List ℕ → ℕ → ℕ → Looked
-looked img t size sectors k stored =
-    let sector = sectorOf size sectors k in
-    lookedFor img t k stored (onDisc img t sector) (amongStored (pieces k size sectors) sector)
+looked img t size sectors k stored = lookedFor img t k stored (onDisc img t (sectorOf size sectors k)) (isNew size sectors k)
 
 -- what table entry a adds
 unfoldable pub lookedAt : List ℕ → Opened → List ℕ → ℕ → List ℕ → ℕ → ℕ → ℕ → Looked

@@ -5,12 +5,13 @@
 // that is equal.
 ghost use mathlib.Core.Bool.{false};
 ghost use mathlib.Core.Path.{_≡_};
-ghost use Prim.Native.Nat.{_^_, _≤_, _<_, max};
+ghost use Prim.Native.Nat.{_+_, _*_, _^_, _≤_, _<_, max};
+ghost use lib.ListN.{length};
 ghost use Rattle.format.specs.Refusals.{accepted};
 ghost use Rattle.format.specs.Opening.{opening};
 ghost use Rattle.format.specs.Committing.{anyOutside, entryNumbers, oldPointer, itemOrZero, shiftFor};
 ghost use Rattle.opening.specs.Answers.{contents};
-ghost use Rattle.planning.specs.Plans.{isNext, Commits, planFor, Looks, looked, lookedAt};
+ghost use Rattle.planning.specs.Plans.{isNext, isNew, Commits, planFor, Looks, looked, lookedAt};
 use format::ByteOffset;
 use format::EntryNumber;
 use format::ItemNumber;
@@ -65,6 +66,19 @@ fn old_item(s: &[u8], t: Opened, n: EntryNumber) -> ItemNumber
     p.item
 }
 
+// Whether sector k of those that stand one after another equals none before it.
+pub fn is_new(sectors: &[u8], size: u64, k: u64) -> bool
+    requires { ⌜ k * size + size ≤ length (now sectors) ⌝ }
+    ensures { λ r. ⌜ r ≡ isNew size (now (sectors .entry)) k ⌝ }
+{
+    let sector = fields::part(sectors, k * size, size);
+    let earlier = search::among(sectors, ByteOffset(0), k, sector);
+    if let Item::Is(_) = earlier {
+        return false;
+    }
+    true
+}
+
 // The handed-in sector k. One that equals an earlier one adds no item.
 fn look(s: &[u8], t: Opened, size: u64, sectors: &[u8], k: usize, stored: u64) -> Looked
     requires { ⌜ Looks (now s) (contents t) size (now sectors) k stored ⌝ }
@@ -82,17 +96,16 @@ fn look(s: &[u8], t: Opened, size: u64, sectors: &[u8], k: usize, stored: u64) -
             k: k + 1,
         };
     }
-    let earlier = search::among(sectors, ByteOffset(0), handed, sector);
-    if let Item::Is(_) = earlier {
+    if is_new(sectors, size, handed) {
         return Looked {
-            item: ItemNumber(0),
-            stored,
+            item: ItemNumber(stored),
+            stored: stored + 1,
             k: k + 1,
         };
     }
     Looked {
-        item: ItemNumber(stored),
-        stored: stored + 1,
+        item: ItemNumber(0),
+        stored,
         k: k + 1,
     }
 }
