@@ -1,11 +1,14 @@
-// Internal: the checks of a call's arguments, before an image is looked at: 30 to 34 of document 01, and all of creating's, 35 included.
+// Internal: the checks of a call's arguments, before an image is looked at: 30 to 34 of document 01, all of creating's, 35 included, and
+// 4/13's of an import, 42 among them.
 ghost use mathlib.Core.Path.{_≡_};
 ghost use Prim.Native.Nat.{_*_};
 ghost use lib.ListN.{length};
-ghost use Rattle.format.specs.Tests.{same, below, _or_};
+ghost use Rattle.format.specs.Tests.{same, differs, below, _or_};
+ghost use Rattle.format.specs.Layouts.{applicationLength};
 ghost use Rattle.format.specs.Writing.{mostSectors, largestSize, mostAddresses, bufferVerdict};
 ghost use Rattle.format.specs.Creating.{createVerdict};
 ghost use Rattle.format.specs.Committing.{rising, argumentsVerdict};
+ghost use Rattle.format.specs.Importing.{importVerdict};
 use format::APPLICATION_LENGTH;
 use format::ByteOffset;
 use format::CREATED_ENTRIES;
@@ -27,6 +30,13 @@ fn count_refused(count: u64) -> bool
     1048576 < count
 }
 
+// The application's name: check 33.
+fn name_refused(application: &[u8]) -> bool
+    ensures { λ r. ⌜ r ≡ differs (length (now (application .entry))) applicationLength ⌝ }
+{
+    application.len() as u64 != APPLICATION_LENGTH
+}
+
 // A creation: 31, 30, 33, 35.
 pub fn create_verdict(buffer: &[u8], count: u64, application: &[u8]) -> Verdict
     ensures { λ r. ⌜ r ≡ createVerdict (now (buffer .entry)) count (now (application .entry)) ⌝ }
@@ -39,7 +49,7 @@ pub fn create_verdict(buffer: &[u8], count: u64, application: &[u8]) -> Verdict
     if count_refused(count) {
         return Verdict::Refuses(Refusal { number: 30, place });
     }
-    if application.len() as u64 != APPLICATION_LENGTH {
+    if name_refused(application) {
         return Verdict::Refuses(Refusal { number: 33, place });
     }
     if length < CREATED_LENGTH + 8 * count {
@@ -119,4 +129,41 @@ pub fn commit_verdict(
         return Verdict::Passes;
     }
     Verdict::Refuses(Refusal { number: 34, place })
+}
+
+// An import's sector size and the length of its file: check 30.
+fn file_refused(size: u64, length: u64) -> bool
+    ensures { λ r. ⌜ r ≡ (same size 0 or below largestSize size or same length 0 or below (mostAddresses * size) length) ⌝ }
+{
+    if size == 0 {
+        return true;
+    }
+    if 65536 < size {
+        return true;
+    }
+    if length == 0 {
+        return true;
+    }
+    65536 * size < length
+}
+
+// An import's arguments: 31, 30, 42, 33.
+pub fn import_verdict(buffer: &[u8], file: &[u8], size: u64, application: &[u8]) -> Verdict
+    ensures { λ r. ⌜ r ≡ importVerdict (now (buffer .entry)) (now (file .entry)) size (now (application .entry)) ⌝ }
+{
+    let place = ByteOffset(0);
+    if LONGEST_BUFFER < buffer.len() as u64 {
+        return Verdict::Refuses(Refusal { number: 31, place });
+    }
+    let length = file.len() as u64;
+    if file_refused(size, length) {
+        return Verdict::Refuses(Refusal { number: 30, place });
+    }
+    if length % size != 0 {
+        return Verdict::Refuses(Refusal { number: 42, place });
+    }
+    if name_refused(application) {
+        return Verdict::Refuses(Refusal { number: 33, place });
+    }
+    Verdict::Passes
 }

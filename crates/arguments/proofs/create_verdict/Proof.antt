@@ -1,6 +1,6 @@
 -- `arguments::create_verdict` meets its contract. Assumes nothing.
 use native.Mathlib.Omega.{arith}
-use Rattle.format.proofs.Tests.{below-true, below-iff, same-iff, differs-true, differs-iff, or-iff}
+use Rattle.format.proofs.Tests.{below-true, below-iff, same-iff, or-iff}
 use Rattle.format.proofs.Chains.{stop, on, stop-last, on-last, by}
 use Rattle.format.specs.Creating.{createdUsed, createdIndexAt, createVerdict}
 use Prim.Native.Nat.{_≤_}
@@ -24,28 +24,30 @@ returns-2 c = on _ (below-iff .1 (omega arith)) (stop _ (by (c .before .count-re
 returns-3 : tie.Need-returns-3
 unfolding createVerdict
 returns-3 c =
-    on _ (below-iff .1 (omega arith))
-    (on _ (by (c .before .before .count-refused .ensures) (c .before .if2 .left)) (stop _ (differs-true _ _ (λ e. omega arith))))
+    let m = c .before .before in
+    on _ (below-iff .1 (omega arith)) (on _ (by (m .before .count-refused .ensures) (m .if2 .left)) (stop _ (by (c .before .name-refused .ensures) (c .if3 .taken))))
 
 mul-if4 : tie.Need-mul-if4
-mul-if4 c = omega (arith, few (c .before))
+mul-if4 c = omega (arith, few (c .before .before))
 
 add-if4 : tie.Need-add-if4
-add-if4 c = omega (arith, few (c .before))
+add-if4 c = omega (arith, few (c .before .before))
 
 returns-4 : tie.Need-returns-4
 unfolding createVerdict createdUsed createdIndexAt
 returns-4 c =
-    on _ (below-iff .1 (omega arith))
-    (on _ (by (c .before .before .before .count-refused .ensures) (c .before .before .if2 .left))
-    (on _ (differs-iff .1 (omega arith)) (stop-last (below-true _ _ (omega arith)))))
+    let n = c .before in
+    let m = n .before .before in
+    on _ (below-iff .1 (omega arith)) (on _ (by (m .before .count-refused .ensures) (m .if2 .left))
+    (on _ (by (n .before .name-refused .ensures) (n .if3 .left)) (stop-last (below-true _ _ (omega arith)))))
 
 returns-5 : tie.Need-returns-5
 unfolding createVerdict createdUsed createdIndexAt
 returns-5 c =
-    on _ (below-iff .1 (omega arith))
-    (on _ (by (c .before .before .before .count-refused .ensures) (c .before .before .if2 .left))
-    (on _ (differs-iff .1 (omega arith)) (on-last _ (below-iff .1 (omega arith)))))
+    let n = c .before in
+    let m = n .before .before in
+    on _ (below-iff .1 (omega arith)) (on _ (by (m .before .count-refused .ensures) (m .if2 .left))
+    (on _ (by (n .before .name-refused .ensures) (n .if3 .left)) (on-last _ (below-iff .1 (omega arith)))))
 
 pub create-verdict-spec : {M : Type 1} → statement M
 create-verdict-spec =
@@ -54,6 +56,7 @@ create-verdict-spec =
     returns
     (λ c κs. search needs)
     returns-2
+    (λ c κs. search needs)
     returns-3
     mul-if4
     add-if4
