@@ -1,6 +1,6 @@
 -- What a commit appends, by what its passes found: where it stands, and what the commit leaves. Assumes nothing.
 use mathlib.Core.Bool.{false}
-use mathlib.Core.List.{List, [], _∷_, _++_, append-assoc}
+use mathlib.Core.List.{List, [], _∷_, _++_}
 use mathlib.Core.Logic.{Iff·rfl}
 use mathlib.Core.Option.{Option}
 use mathlib.Core.Path.{_≡_, sym, ap, _∙_, subst}
@@ -11,7 +11,7 @@ use lib.ListN.{length, take, length-append}
 use lib.IntN.{ℤ}
 use lib.Seq.{length-take-le}
 use Rattle.fields.specs.Bytes.{part, overwrite}
-use Rattle.fields.proofs.Overwrite.{length-overwrite, overwrite-then, take-overwrite}
+use Rattle.fields.proofs.Overwrite.{length-overwrite, take-overwrite}
 use Rattle.format.specs.declared.Placed.{Placed}
 use Rattle.format.specs.declared.Pointer.{Pointer}
 use Rattle.format.specs.declared.TableKind.the-variants.{First}
@@ -43,7 +43,7 @@ use Rattle.planning.specs.Plans.{Commits, storedBy, planFor, pointersBy}
 use Rattle.storing.specs.Stores.{Stores, tableEntriesBytes, stored}
 use Rattle.indexing.specs.Entries.{newEntries, Indexes}
 use Rattle.records.specs.Blocks.{headerFor}
-use Rattle.records.proofs.Sealed.{data-sealed}
+use Rattle.records.proofs.Sealed.{data-sealed, all-sealed}
 use Rattle.appending.specs.Appends.{Passed, layoutFor, Data, Fits}
 use Rattle.appending.specs.declared.Layout.{Layout}
 
@@ -270,20 +270,16 @@ module _ (buf : List ℕ) (used : ℕ) (t : Opened) (addresses : List ℤ) (size
   all-written : (time : ℕ) {b₁ b₂ b₃ : List ℕ} → b₁ ≡ overwrite buf used (newBlock size (st .items) ++ newTable (pointersBy img t numbers size sectors))
       → b₂ ≡ overwrite b₁ (at .index .0) (indexBytes (newEntries (take used b₁) (indexOffset img) (at .table .0) (length (st .items))))
       → b₃ ≡ setHeader b₂ (at .index .0) time → b₃ ≡ setHeader (overwrite buf used (appendedBytes added)) (indexStart used added) time
-  unfolding appendedBytes indexStart tableStart
   all-written time {b₁} {b₂} {b₃} e₁ e₂ e₃ =
       let is-block : added .block ≡ newBlock size (st .items) = block-is img t numbers size sectors opened-as (commits .whole) in
       let is-table : added .table ≡ newTable (pointersBy img t numbers size sectors) = newTable-is img t numbers size sectors opened-as (commits .whole) in
       let is-index : added .index ≡ indexBytes (newEntries img (indexOffset img) (at .table .0) (length (st .items))) = index-is img t numbers size sectors opened-as (commits .whole) in
-      let f₁ : b₁ ≡ overwrite buf used (added .block ++ added .table) = e₁ ∙ sym (ap (λ l. overwrite buf used (l ++ added .table)) is-block ∙ ap (λ l. overwrite buf used (newBlock size (st .items) ++ l)) is-table) in
+      let f₁ : b₁ ≡ overwrite buf used (added .block ++ added .table) = e₁ ∙ sym (λ j. overwrite buf used (is-block j ++ is-table j)) in
       let kept : take used b₁ ≡ img = ap (take used) f₁ ∙ take-overwrite buf used (added .block ++ added .table) used (omega arith) in
-      let start : at .index .0 ≡ used + length (added .block ++ added .table) = sym index-start ∙ rw length-append (omega arith) in
-      let f₂ : b₂ ≡ overwrite buf used (added .block ++ (added .table ++ added .index)) =
-      e₂ ∙ ap (λ l. overwrite b₁ (at .index .0) (indexBytes (newEntries l (indexOffset img) (at .table .0) (length (st .items))))) kept
-      ∙ ap (λ l. overwrite b₁ (at .index .0) l) (sym is-index) ∙ ap (λ n. overwrite b₁ n (added .index)) start
-      ∙ ap (λ l. overwrite l (used + length (added .block ++ added .table)) (added .index)) f₁ ∙ overwrite-then buf used (added .block ++ added .table) (added .index)
-      ∙ ap (overwrite buf used) (append-assoc (added .block) (added .table) (added .index)) in
-      e₃ ∙ ap (λ l. setHeader l (at .index .0) time) f₂ ∙ ap (λ n. setHeader (overwrite buf used (added .block ++ (added .table ++ added .index))) n time) (sym index-start)
+      all-sealed buf used added time f₁
+      (e₂ ∙ ap (λ l. overwrite b₁ (at .index .0) (indexBytes (newEntries l (indexOffset img) (at .table .0) (length (st .items))))) kept
+      ∙ sym (λ j. overwrite b₁ (index-start j) (is-index j)))
+      (e₃ ∙ ap (λ n. setHeader b₂ n time) (sym index-start))
 
   -- ---- what the commit answers
   no-room : (time : ℕ) → length buf < at .end → answered (updated (update.Refused (refusal 35 0))) buf ≡ commit buf used addresses size sectors time

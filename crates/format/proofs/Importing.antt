@@ -229,7 +229,8 @@ module _ (buffer file : List ℕ) (size : ℕ) (application : List ℕ) (major m
           (create-ok buffer count application .1
           (record { long = k .long; some = file-some k; few = omega (arith, file-few k); sized = k .sized; room = rw (← created-used count) room }))
 
-      image-is : take (createdUsed count) begun ≡ made
+      -- it stands in front
+      pub image-is : take (createdUsed count) (overwrite buffer 0 made) ≡ made
       unfolding part
       image-is = part-same buffer 0 (createdUsed count) made created-length (omega arith)
 

@@ -7,13 +7,13 @@ use Prim.Native.Nat.{ℕ, suc, _+_, _≤_, _<_, max}
 use native.Mathlib.Omega.{arith}
 use lib.ListN.{length, length-append}
 use Rattle.format.specs.Opening.{Opened}
-use Rattle.format.specs.Committing.{onDisc, amongStored, pieces, Step, stepFor, storeOne, newPointers, itemOrZero, largestItem, oldPointer}
+use Rattle.format.specs.Committing.{onDisc, amongStored, Step, stepFor, storeOne, newPointers, itemOrZero, largestItem, oldPointer}
 use Rattle.format.proofs.Tests.{choose-cases}
-use Rattle.format.proofs.Storing.{amongStored-found, among-some, among-none}
+use Rattle.format.proofs.Storing.{amongStored-found}
 use Rattle.planning.specs.declared.Looked.{Looked}
 use Rattle.planning.specs.Plans.{isNext, Commits, sectorOf, storedBy, planFor, missing, isNew, lookedFor, looked, lookedAt}
 use Rattle.planning.proofs.Cursor.{left, Walks, walk-starts, left-starts, walk-old, left-old, walk-new, left-new, walk-done, left-done}
-use Rattle.planning.proofs.Seen.{Same, same-starts, same-more}
+use Rattle.planning.proofs.Seen.{Same, same-starts, same-more, same-new}
 
 module _ (img : List ℕ) (t : Opened) (addresses : List ℕ) (size : ℕ) (sectors : List ℕ) where
   abbrev whole : ℕ
@@ -77,28 +77,31 @@ module _ (img : List ℕ) (t : Opened) (addresses : List ℕ) (size : ℕ) (sect
       top : max largest (r .item .0) ≡ max largest (s .pointer .item .0)
 
     fits : Fits (looked img t size sectors k stored) (storeOne img t (length img) (p .items) (sectorOf size sectors k))
-    unfolding looked lookedFor isNew missing storeOne stepFor
-    fits = go (onDisc img t x) refl (amongStored (p .items) x) refl (amongStored (pieces k size sectors) x) refl
+    unfolding looked lookedFor missing storeOne stepFor
+    fits = go (onDisc img t x) refl (amongStored (p .items) x) refl
       where
         x : List ℕ
         x = sectorOf size sectors k
 
-        go : (u : Option ℕ) → onDisc img t x ≡ u → (v : Option ℕ) → amongStored (p .items) x ≡ v → (w : Option ℕ) → amongStored (pieces k size sectors) x ≡ w
-            → Fits (lookedFor img t k stored u (missing w)) (stepFor img t (length img) (p .items) x u v)
-        go (some b) e v f w g = record { used = refl; count = p .count; few = omega (arith, p .few); low = omega (arith, p .low); top = refl }
-        go none e (some j) f (some i) g =
+        is-new : {v : Option ℕ} → onDisc img t x ≡ none → amongStored (p .items) x ≡ v → isNew size sectors k ≡ missing v
+        is-new e f = same-new img t size sectors k (p .items) (p .seen) e ∙ ap missing f
+
+        go : (u : Option ℕ) → onDisc img t x ≡ u → (v : Option ℕ) → amongStored (p .items) x ≡ v
+            → Fits (lookedFor img t k stored u (isNew size sectors k)) (stepFor img t (length img) (p .items) x u v)
+        go (some b) e v f = record { used = refl; count = p .count; few = omega (arith, p .few); low = omega (arith, p .low); top = refl }
+        go none e (some j) f =
             let r = amongStored-found (p .items) x j f in
-            record { used = refl; count = p .count; few = omega (arith, p .few); low = omega (arith, p .low); top = omega (arith, r .0, p .count, p .low) }
-        go none e (some j) f none g = absurd (among-none _ x g (p .seen x e .0 (among-some _ x j f)))
-        go none e none f (some i) g = absurd (among-none _ x f (p .seen x e .1 (among-some _ x i g)))
-        go none e none f none g =
-            record {
+            rw (is-new e f)
+            (record { used = refl; count = p .count; few = omega (arith, p .few); low = omega (arith, p .low); top = omega (arith, r .0, p .count, p .low) })
+        go none e none f =
+            rw (is-new e f)
+            (record {
               used = refl;
               count = simp length-append (omega (arith, p .count));
               few = omega (arith, p .few);
               low = omega arith;
               top = ap (max largest) (p .count);
-            }
+            })
 
     goes-new : isNext addresses k a ≡ true → Goes (looked img t size sectors k stored)
     unfolding largestItem itemOrZero

@@ -13,8 +13,8 @@ use Rattle.fields.specs.Bytes.{part}
 use Rattle.format.specs.Lists.{here, there}
 use Rattle.format.specs.Opening.{Opened}
 use Rattle.format.specs.Committing.{onDisc, amongStored, pieces, stepFor, storeOne}
-use Rattle.format.proofs.Storing.{Among, among-some}
-use Rattle.planning.specs.Plans.{sectorOf}
+use Rattle.format.proofs.Storing.{Among, among-some, among-none}
+use Rattle.planning.specs.Plans.{sectorOf, missing, isNew}
 
 -- ---- one more of them
 among-long : (l : List (List ℕ)) (d : List ℕ) → Among l d → 0 < length l
@@ -77,3 +77,18 @@ module _ (img : List ℕ) (t : Opened) (size : ℕ) (sectors : List ℕ) where
         (λ h. p .1 (⊎-map (s d n .0) (λ y. y) (q .0 h))),
         λ h. q .1 (⊎-map (s d n .1) (λ y. y) (p .0 h)),
       )
+
+  -- sector k is found among the stored ones exactly if one before it equals it
+  pub same-new : (k : ℕ) (st : List (List ℕ)) → Same k st → onDisc img t (sectorOf size sectors k) ≡ none
+      → isNew size sectors k ≡ missing (amongStored st (sectorOf size sectors k))
+  unfolding isNew missing
+  same-new k st s n = go (amongStored (pieces k size sectors) x) refl (amongStored st x) refl
+    where
+      x : List ℕ
+      x = sectorOf size sectors k
+
+      go : (u : Option ℕ) → amongStored (pieces k size sectors) x ≡ u → (v : Option ℕ) → amongStored st x ≡ v → missing u ≡ missing v
+      go none e none f = refl
+      go (some i) e (some j) f = refl
+      go (some i) e none f = absurd (among-none st x f (s x n .1 (among-some _ x i e)))
+      go none e (some j) f = absurd (among-none _ x e (s x n .0 (among-some st x j f)))

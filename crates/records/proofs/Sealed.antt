@@ -1,10 +1,10 @@
 -- A header before its payload: the fields written one after the other are the header, and the header with the payload is the record.
-use mathlib.Core.List.{List, [], _∷_, _++_, flatten}
+use mathlib.Core.List.{List, [], _∷_, _++_, append-assoc, flatten}
 use mathlib.Core.Logic.{_≢_}
 use mathlib.Core.Path.{_≡_, sym, ap, _∙_}
 use Prim.Native.Nat.{ℕ, suc, _+_, _-_, _*_, _≤_}
 use native.Mathlib.Omega.{arith}
-use lib.ListN.{length}
+use lib.ListN.{length, length-append}
 use Rattle.crc64.specs.Crc.{crcOf}
 use Rattle.fields.specs.Bytes.{part, overwrite}
 use Rattle.fields.specs.Layout.{num, raw}
@@ -12,7 +12,8 @@ use Rattle.fields.proofs.Overwrite.{length-part, length-overwrite, part-same, o
 use Rattle.fields.proofs.Records.{Laid}
 use Rattle.format.specs.Lists.{All}
 use Rattle.format.specs.Layouts.{IDX2, DBLK, DDT*, indexHeaderLength, indexHeader, blockHeaderLength, blockHeader, blockBytes, tableHeaderLength, tableHeader, tableEntryLength, tableBytes}
-use Rattle.format.specs.Committing.{newBlock}
+use Rattle.format.specs.Writing.{setHeader}
+use Rattle.format.specs.Committing.{newBlock, tableStart, indexStart, Appended, appendedBytes}
 use Rattle.format.proofs.Lists.{Sized, length-flatten}
 use Rattle.format.proofs.Written.{length-blockHeader, length-tableHeader}
 use Rattle.records.specs.Blocks.{headerFor}
@@ -88,3 +89,15 @@ data-sealed buf used size table shift count items entries {b₁} {b₂} {b₃} s
     block-sealed (overwrite buf start entries) used size items sized (omega arith) f₁ e₂ ∙ overwrite-comm buf start entries used (newBlock size items) (omega arith) in
     sealed (tableHeader shift count) tableHeaderLength (length-tableHeader shift count) new table (tableEntryLength * count) entries b₂ b₃ le (omega arith) f₂ e₃
     ∙ ap (λ n. overwrite new n (tableHeader shift count entries ++ entries)) lt ∙ overwrite-then buf used (newBlock size items) _
+
+-- and the index behind them, then the header's two fields
+pub all-sealed : (buf : List ℕ) (used : ℕ) (new : Appended) (time : ℕ) {b₁ b₂ b₃ : List ℕ} → b₁ ≡ overwrite buf used (new .block ++ new .table)
+    → b₂ ≡ overwrite b₁ (indexStart used new) (new .index) → b₃ ≡ setHeader b₂ (indexStart used new) time
+    → b₃ ≡ setHeader (overwrite buf used (appendedBytes new)) (indexStart used new) time
+unfolding appendedBytes indexStart tableStart
+all-sealed buf used new time e₁ e₂ e₃ =
+    let behind : used + length (new .block) + length (new .table) ≡ used + length (new .block ++ new .table) = rw length-append (omega arith) in
+    e₃
+    ∙ ap (λ l. setHeader l (used + length (new .block) + length (new .table)) time)
+    (e₂ ∙ (λ j. overwrite (e₁ j) (behind j) (new .index)) ∙ overwrite-then buf used (new .block ++ new .table) (new .index)
+    ∙ ap (overwrite buf used) (append-assoc (new .block) (new .table) (new .index)))

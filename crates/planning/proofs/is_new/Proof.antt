@@ -1,11 +1,12 @@
 -- `planning::is_new` meets its contract. Assumes nothing.
 use borrow.Author.Needs.{needs}
+use native.Mathlib.Omega.{arith}
 use Rattle.planning.proofs.Looking.{earlier-inside, not-new, new-here}
 use Rattle.planning.proofs.is_new.Statement.{statement}
 use Rattle.planning.proofs.is_new.Tie as tie
 
 among-requires : tie.Need-among-requires
-among-requires c κs = earlier-inside _ _ _ (c .before .before .pre) _ (c .part .ensures)
+among-requires c κs = omega (arith, earlier-inside _ _ _ (c .before .before .pre) _ (c .part .ensures))
 
 -- in what follows d is the place after the search
 returns : tie.Need-returns

@@ -9,7 +9,7 @@ use Rattle.storing.proofs.store_among.Statement.{statement}
 use Rattle.storing.proofs.store_among.Tie as tie
 
 among-requires : tie.Need-among-requires
-among-requires c κs = inside _ _ _ _ (c .before .before .before .before .pre)
+among-requires c κs = omega (arith, inside _ _ _ _ (c .before .before .before .before .pre))
 
 -- in what follows d is the place after the search
 returns : tie.Need-returns
