@@ -1,0 +1,4 @@
+mod Counting
+mod Entries
+mod Laid
+mod New

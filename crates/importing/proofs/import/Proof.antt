@@ -1,0 +1,77 @@
+-- `importing::import` meets its contract. Assumes nothing.
+use borrow.Author.Needs.{needs}
+use native.Mathlib.Omega.{arith}
+use mathlib.Core.Path.{sym, _∙_}
+use Prim.Native.Nat.{_/_}
+use denote.Ref.{now}
+use lib.ListN.{length}
+use Rattle.format.proofs.Chains.{by, stops}
+use Rattle.format.proofs.Answers.{outcome-stops}
+use Rattle.format.proofs.Importing.{Importable, importable, file-few, import-is}
+use Rattle.importing.specs.Imports.{Plan}
+use Rattle.importing.proofs.New.{import-files, import-few, import-plan, image-fits, import-fits, import-full, import-done}
+use Rattle.importing.proofs.import.Statement.{statement}
+use Rattle.importing.proofs.import.Tie as tie
+
+-- the arguments have passed
+ok : (c : tie.After-enum-told) → (let a = c .before .before .before .before .before .before .before .args in Importable (now (a .buffer)) (now (a .file)) (a .size) (now (a .application)))
+ok c = importable _ _ _ _ .0 (sym (by (c .enum-told .given .1) (c .before .before .import-verdict .ensures)))
+
+returns : tie.Need-returns
+returns c = outcome-stops _ _ _ (stops _ (by (c .before .v .given .1) (c .before .before .before .import-verdict .ensures))) ∙ sym (import-is _ _ _ _ _ _ _ _ _)
+
+div-count : tie.Need-div-count
+div-count c = omega (arith, ok c .some)
+
+count-stored-requires : tie.Need-count-stored-requires
+count-stored-requires c κs = import-files (ok c)
+
+lay-out-requires : tie.Need-lay-out-requires
+lay-out-requires c κs =
+    let k = ok (c .before) in
+    (file-few k, k .small, import-few k (c .count-stored .ensures 0))
+
+-- and this is the plan
+planned : (c : tie.After-lay-out)
+    → (let a = c .before .before .before .before .before .before .before .before .before .args in Plan (now (a .file)) (length (now (a .file)) / a .size) (a .size) (c .before .count-stored .result) (c .lay-out .result))
+planned c = import-plan (ok (c .before .before)) (c .before .count-stored .ensures _) (c .lay-out .ensures)
+
+-- in what follows d is the place after `lay_out`
+returns-2 : tie.Need-returns-2
+returns-2 c =
+    let d = c .before .before in
+    import-full _ _ _ _ _ _ _ _ _ (ok (d .before .before)) (planned d) (omega arith)
+
+put-image-requires : tie.Need-put-image-requires
+put-image-requires c κs =
+    let d = c .before .before .before in
+    (image-fits (planned d) (omega arith), ok (d .before .before) .sized)
+
+put-all-requires : tie.Need-put-all-requires
+put-all-requires c κs =
+    let d = c .before .before .before .before .before .before .before in
+    import-fits _ _ _ _ _ _ _ _ _ (ok (d .before .before)) (planned d) (omega arith) (c .before .before .before .put-image .ensures)
+
+returns-3 : tie.Need-returns-3
+returns-3 c =
+    let d = c .before .before .before .before .before .before .before .before .before .before in
+    import-done _ _ _ _ _ _ _ _ _ (ok (d .before .before)) (planned d) (omega arith) (c .before .before .before .before .before .before .put-image .ensures) (c .before .before .put-all .ensures)
+
+pub import-spec : {M : Type 1} → statement M
+import-spec =
+    tie.close
+    (tie.spec
+    (λ c κs. search needs)
+    (λ c. search needs)
+    (λ c. search needs)
+    returns
+    (λ c. search needs)
+    div-count
+    count-stored-requires
+    lay-out-requires
+    (λ c. search needs)
+    returns-2
+    put-image-requires
+    put-all-requires
+    (λ c. search needs)
+    returns-3)
