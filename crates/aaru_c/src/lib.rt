@@ -184,13 +184,13 @@ pub extern "C" fn aaru_import(
     major: u8,
     minor: u8,
     mediaType: u32,
-    created: u64,
-    written: u64,
+    creationTime: u64,
+    lastWrittenTime: u64,
     used: &mut u64,
     index: &mut u64,
     place: &mut u64,
 ) -> u32
-    ensures { λ r. ⌜ record { answer = record { number = r; values = placed (now (used .exit)) (now (index .exit)); place = now (place .exit) }; buffer = now (buffer .exit) } ≡ left (import (now (buffer .entry)) (now (file .entry)) sectorSize (now (application .entry)) major minor mediaType created written) (placed (now (used .entry)) (now (index .entry))) (now (place .entry)) ⌝ }
+    ensures { λ r. ⌜ record { answer = record { number = r; values = placed (now (used .exit)) (now (index .exit)); place = now (place .exit) }; buffer = now (buffer .exit) } ≡ left (import (now (buffer .entry)) (now (file .entry)) sectorSize (now (application .entry)) major minor mediaType creationTime lastWrittenTime) (placed (now (used .entry)) (now (index .entry))) (now (place .entry)) ⌝ }
 {
     let answer = flat::import(
         buffer,
@@ -200,8 +200,8 @@ pub extern "C" fn aaru_import(
         major,
         minor,
         mediaType,
-        created,
-        written,
+        creationTime,
+        lastWrittenTime,
     );
     numbers(answer, used, index, place)
 }

@@ -1,16 +1,14 @@
 -- A call that writes an image to the front of a lent buffer: what is shown of it does not depend on what the buffer held.
-use mathlib.Core.Bool.{true, false}
 use mathlib.Core.List.{List, _++_}
 use mathlib.Core.Path.{_≡_, refl, sym, ap, _∙_}
 use Prim.Native.Nat.{ℕ, _≤_, _<_}
 use native.Mathlib.Omega.{arith}
-use lib.ListN.{length, take, replicate, length-replicate}
+use lib.ListN.{length, take, length-replicate}
 use Rattle.fields.specs.Bytes.{part, overwrite}
 use Rattle.fields.proofs.Overwrite.{part-same}
 use Rattle.format.specs.declared.Refusal.{Refusal}
 use Rattle.format.specs.declared.Verdict.{Verdict}
 use Rattle.format.specs.declared.Verdict.the-variants.{Passes, Refuses}
-use Rattle.format.specs.Tests.{below}
 use Rattle.format.specs.Refusals.{Answer, refused, accepted}
 use Rattle.format.specs.Writing.{Outcome, outcome}
 use Rattle.format.specs.Answers.{answered}

@@ -7,10 +7,9 @@ use native.Mathlib.Omega.{arith}
 use lib.ListN.{length, take, length-map}
 use Rattle.fields.specs.Bytes.{overwrite}
 use Rattle.fields.proofs.Overwrite.{length-overwrite}
-use Rattle.format.specs.declared.Updated.the-variants as update
 use Rattle.format.specs.declared.Pointer.{Pointer}
 use Rattle.format.specs.Lists.{ofEach}
-use Rattle.format.specs.Refusals.{refusal}
+use Rattle.format.specs.Refusals.{refusal, refused, accepted}
 use Rattle.format.specs.Layouts.{indexOffset, entries}
 use Rattle.format.specs.Opening.{Opened, opened}
 use Rattle.format.specs.Writing.{mostAddresses, placed, setHeader}
@@ -131,7 +130,7 @@ module _ (buffer file : List ℕ) (size : ℕ) (application : List ℕ) (major m
 
     -- there is no room
     pub import-full : length buffer < at .end
-        → answered (update.Refused (refusal 35 0)) buffer ≡ import buffer file size application major minor mediaType creationTime lastWrittenTime
+        → answered (refused (refusal 35 0)) buffer ≡ import buffer file size application major minor mediaType creationTime lastWrittenTime
     import-full h =
         outcome-stops buffer _ _ (goes (sym (importable buffer file size application .1 k)) (stop-last (below-true _ _ (omega (arith, used-is)))))
         ∙ sym (import-is buffer file size application major minor mediaType creationTime lastWrittenTime)
@@ -153,7 +152,7 @@ module _ (buffer file : List ℕ) (size : ℕ) (application : List ℕ) (major m
           }
 
       pub import-done : {b₂ : List ℕ} → b₂ ≡ setHeader (overwrite b₁ used (appendedBytes (appendedOf file size count))) (indexStart used (appendedOf file size count)) lastWrittenTime
-          → answered (update.To (placed (at .end) (at .index .0))) b₂ ≡ import buffer file size application major minor mediaType creationTime lastWrittenTime
+          → answered (accepted (placed (at .end) (at .index .0))) b₂ ≡ import buffer file size application major minor mediaType creationTime lastWrittenTime
       import-done e₂ =
           outcome-done buffer (goes (sym (importable buffer file size application .1 k)) (on-last _ (below-iff .1 (omega (arith, used-is)))))
           (sym (λ j. placed (used-is j) (index-is j)))

@@ -13,7 +13,7 @@ ghost use Rattle.format.specs.Writing.{largestSize, mostAddresses, setHeader};
 ghost use Rattle.format.specs.Creating.{createdUsed};
 ghost use Rattle.format.specs.Committing.{newBlock, newTable, indexStart, appendedBytes};
 ghost use Rattle.format.specs.Importing.{import};
-ghost use Rattle.format.specs.Answers.{answered};
+ghost use Rattle.format.specs.Answers.{updated, answered};
 ghost use Rattle.storing.specs.Stores.{tableEntriesBytes};
 ghost use Rattle.importing.specs.Imports.{storedOf, pointersOf, appendedOf, layoutOf, Files, Lays, Fits};
 use format::ByteOffset;
@@ -156,7 +156,7 @@ pub fn import(
     created: u64,
     written: u64,
 ) -> Updated
-    ensures { λ r. ⌜ answered r (now (buffer .exit)) ≡ import (now (buffer .entry)) (now (file .entry)) size (now (application .entry)) major minor mediaType created written ⌝ }
+    ensures { λ r. ⌜ answered (updated r) (now (buffer .exit)) ≡ import (now (buffer .entry)) (now (file .entry)) size (now (application .entry)) major minor mediaType created written ⌝ }
 {
     let v = arguments::import_verdict(buffer, file, size, application);
     if let Verdict::Refuses(r) = v {

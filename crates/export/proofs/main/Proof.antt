@@ -1,6 +1,5 @@
 -- `export::main` is safe: the call answers how many bytes of the array its text has. Assumes nothing.
 use borrow.Author.Needs.{needs}
-use native.Mathlib.Omega.{arith}
 use Rattle.text.proofs.Writes.{prints-count}
 use Rattle.export.proofs.main.Statement.{statement}
 use Rattle.export.proofs.main.Tie as tie

@@ -5,6 +5,7 @@ use mathlib.Core.Path.{sym, _∙_}
 use Prim.Native.Nat.{_/_}
 use denote.Ref.{now}
 use lib.ListN.{length}
+use Rattle.format.specs.Answers.{updated}
 use Rattle.format.proofs.Chains.{by, stops}
 use Rattle.format.proofs.Answers.{outcome-stops}
 use Rattle.format.proofs.Importing.{Importable, importable, file-few, import-is}
@@ -18,6 +19,7 @@ ok : (c : tie.After-enum-told) → (let a = c .before .before .before .before .b
 ok c = importable _ _ _ _ .0 (sym (by (c .enum-told .given .1) (c .before .before .import-verdict .ensures)))
 
 returns : tie.Need-returns
+unfolding updated
 returns c = outcome-stops _ _ _ (stops _ (by (c .before .v .given .1) (c .before .before .before .import-verdict .ensures))) ∙ sym (import-is _ _ _ _ _ _ _ _ _)
 
 div-count : tie.Need-div-count
@@ -38,6 +40,7 @@ planned c = import-plan (ok (c .before .before)) (c .before .count-stored .ensur
 
 -- in what follows d is the place after `lay_out`
 returns-2 : tie.Need-returns-2
+unfolding updated
 returns-2 c =
     let d = c .before .before in
     import-full _ _ _ _ _ _ _ _ _ (ok (d .before .before)) (planned d) (omega arith)
@@ -53,6 +56,7 @@ put-all-requires c κs =
     import-fits _ _ _ _ _ _ _ _ _ (ok (d .before .before)) (planned d) (omega arith) (c .before .before .before .put-image .ensures)
 
 returns-3 : tie.Need-returns-3
+unfolding updated
 returns-3 c =
     let d = c .before .before .before .before .before .before .before .before .before .before in
     import-done _ _ _ _ _ _ _ _ _ (ok (d .before .before)) (planned d) (omega arith) (c .before .before .before .before .before .before .put-image .ensures) (c .before .before .put-all .ensures)

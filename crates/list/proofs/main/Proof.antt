@@ -1,6 +1,5 @@
 -- `list::main` is safe: the listing answers how many bytes of the array its text has. Assumes nothing.
 use borrow.Author.Needs.{needs}
-use native.Mathlib.Omega.{arith}
 use Rattle.text.proofs.Writes.{prints-count}
 use Rattle.list.proofs.main.Statement.{statement}
 use Rattle.list.proofs.main.Tie as tie

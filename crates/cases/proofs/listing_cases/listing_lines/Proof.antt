@@ -1,6 +1,5 @@
 -- `listing_cases::listing_lines` is safe: the listing answers how many bytes of the array its text has. Assumes nothing.
 use borrow.Author.Needs.{needs}
-use native.Mathlib.Omega.{arith}
 use Rattle.text.proofs.Writes.{prints-count}
 use Rattle.cases.proofs.listing_cases.listing_lines.Statement.{statement}
 use Rattle.cases.proofs.listing_cases.listing_lines.Tie as tie
