@@ -1,5 +1,5 @@
-// Flat sector files: all sectors of a disc by rising address, in a plain file. The public calls ask nothing of their caller, refuse by number and place, and a
-// call that is refused changes no byte of what it was lent.
+// Flat sector files: all sectors of a disc by rising address, in a plain file. The public calls, `export` and `import`, ask nothing of their caller, refuse by
+// number and place, and a call that is refused changes no byte of what it was lent.
 //
 // Cost of an export: opening, and the checks of all sectors, in which each block is summed once (see `checking`); then three passes over the table, and one
 // over what is written.
@@ -12,8 +12,7 @@ ghost use Rattle.format.specs.Refusals.{refusal, row, accepted, firstRefusal};
 ghost use Rattle.format.specs.Opening.{opening};
 ghost use Rattle.format.specs.Reading.{pointerAt, placeOf};
 ghost use Rattle.format.specs.Exporting.{sizeAt, flatFile, sizeVerdict, export};
-ghost use Rattle.format.specs.Importing.{import};
-ghost use Rattle.format.specs.Answers.{updated, exported, answered};
+ghost use Rattle.format.specs.Answers.{exported, answered};
 ghost use Rattle.opening.specs.Answers.{contents};
 ghost use Rattle.flat.specs.Exports.{Whole, Uniform};
 use fields::copy;
@@ -25,6 +24,8 @@ use format::Place;
 pub use format::Refusal;
 pub use format::Updated;
 use format::Verdict;
+// an import, with its contract
+pub use importing::import;
 use opening::Opened;
 use opening::Opening;
 
@@ -133,32 +134,4 @@ pub fn export(image: &[u8], out: &mut [u8]) -> Exported
         Opening::Refused(r) => Exported::Refused(r),
         Opening::Opens(t) => export_at(image, t, out),
     }
-}
-
-// Makes an image at the start of the buffer whose sectors are those of a flat file, each of `size` bytes: what a creation and one commit of all sectors at the
-// last time would leave, and that commit's answer. Or says why it can't: 31, 30, 42, 33, 35. Later bytes of the buffer stay as they are.
-pub fn import(
-    buffer: &mut [u8],
-    file: &[u8],
-    size: u64,
-    application: &[u8],
-    major: u8,
-    minor: u8,
-    mediaType: u32,
-    created: u64,
-    written: u64,
-) -> Updated
-    ensures { λ r. ⌜ answered (updated r) (now (buffer .exit)) ≡ import (now (buffer .entry)) (now (file .entry)) size (now (application .entry)) major minor mediaType created written ⌝ }
-{
-    importing::import(
-        buffer,
-        file,
-        size,
-        application,
-        major,
-        minor,
-        mediaType,
-        created,
-        written,
-    )
 }

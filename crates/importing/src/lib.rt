@@ -1,5 +1,5 @@
-// Internal: importing a flat file. No sector of a new disc is written, so only the file itself is searched. Whether there is room, 35, is
-// decided before anything is written, by counting the sectors that equal none before them.
+// Importing a flat file: the public call `import`, which `flat` passes on. No sector of a new disc is written, so only the file itself
+// is searched. Whether there is room, 35, is decided before anything is written, by counting the sectors that equal none before them.
 //
 // Cost: each sector is compared with those before it, up to the first that is equal, once in the file, since which sectors are stored has
 // to be known before anything is written, and once among the stored ones; else linear in what is read and written.
@@ -144,7 +144,8 @@ fn put_all(
 }
 
 // Makes an image at the start of the buffer whose sectors are those of a flat file, each of `size` bytes: what a creation and one commit
-// of all sectors at the last time would leave, and that commit's answer. Or says why it can't: 31, 30, 42, 33, 35.
+// of all sectors at the last time would leave, and that commit's answer. Or says why it can't: 31, 30, 42, 33, 35. Later bytes of the
+// buffer stay as they are.
 pub fn import(
     buffer: &mut [u8],
     file: &[u8],
