@@ -3,6 +3,7 @@ mod checksums; // the checksum, measured
 mod commit; // committing in Rust
 mod committing; // creating and committing, measured
 mod disc; // an image in Rust
+mod flat; // flat files in and out, measured
 mod kinds; // opening and reading the two kinds of table, measured
 mod reading; // opening and reading, measured
 mod rust; // checksums in Rust
@@ -34,4 +35,5 @@ fn main() {
     reading::measure(&mut random);
     kinds::measure(&mut random);
     committing::measure(&mut random);
+    flat::measure(&mut random);
 }

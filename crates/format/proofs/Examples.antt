@@ -12,8 +12,9 @@ use Rattle.format.specs.Reading.{unwritten, unknown}
 use Rattle.format.specs.Writing.{bufferVerdict}
 use Rattle.format.specs.Creating.{createdIndexAt, createdUsed, createVerdict}
 use Rattle.format.specs.Committing.{risingBy, argumentsVerdict}
+use Rattle.format.specs.Importing.{importVerdict}
 use Rattle.format.specs.Examples.{gives, examples}
 
 pub examples-hold : T (allHold examples)
-unfolding allHold examples gives equal same differs _or_ _and_ part field fromLe toLe layout tag headerBytes entryBytes indexHeader indexBytes blockHeader blockBytes tableHeader tableBytes crcOf lacks isType isUserData isTable unwritten unknown entryStatus entryPointer decode row _then_ below lessThan createVerdict createdIndexAt createdUsed bufferVerdict risingBy argumentsVerdict flatten
+unfolding allHold examples gives equal same differs _or_ _and_ part field fromLe toLe layout tag headerBytes entryBytes indexHeader indexBytes blockHeader blockBytes tableHeader tableBytes crcOf lacks isType isUserData isTable unwritten unknown entryStatus entryPointer decode row _then_ below lessThan createVerdict createdIndexAt createdUsed bufferVerdict risingBy argumentsVerdict importVerdict flatten
 examples-hold = tt

@@ -16,6 +16,7 @@ use Rattle.format.specs.Opening.{lacks, isType, isTable}
 use Rattle.format.specs.Reading.{unwritten, unknown}
 use Rattle.format.specs.Creating.{createVerdict}
 use Rattle.format.specs.Committing.{argumentsVerdict}
+use Rattle.format.specs.Importing.{importVerdict}
 
 -- P1's: a name of 64 bytes, versions 2.0 and 1.2, mediaType 3, indexOffset 177, times 4 and 5
 abbrev pub p1Header : List ℕ
@@ -79,4 +80,9 @@ examples =
     ∷ gives 33 (argumentsVerdict [] 0 (pos 0 ∷ []) 2 (7 ∷ 7 ∷ 7 ∷ []))
     ∷ gives 0 (argumentsVerdict [] 0 (negsuc 0 ∷ pos 0 ∷ []) 1 (7 ∷ 7 ∷ [])) ∷ gives 34 (argumentsVerdict [] 0 (pos 0 ∷ pos 0 ∷ []) 1 (7 ∷ 7 ∷ []))
     ∷ gives 34 (argumentsVerdict [] 0 (pos 0 ∷ negsuc 0 ∷ []) 1 (7 ∷ 7 ∷ []))
+    -- importing: 30 by the size, by no bytes, by 65,536 sectors and one byte more; 42; 33; each before the next
+    ∷ gives 30 (importVerdict [] (7 ∷ []) 0 []) ∷ gives 42 (importVerdict [] (7 ∷ []) 65536 []) ∷ gives 30 (importVerdict [] (7 ∷ []) 65537 []) ∷ gives 30 (importVerdict [] [] 1 [])
+    ∷ gives 33 (importVerdict [] (replicate 65536 7) 1 []) ∷ gives 30 (importVerdict [] (replicate 65537 7) 1 [])
+    ∷ gives 42 (importVerdict [] (7 ∷ 7 ∷ 7 ∷ []) 2 []) ∷ gives 33 (importVerdict [] (7 ∷ 7 ∷ []) 2 (replicate 63 7)) ∷ gives 33 (importVerdict [] (7 ∷ 7 ∷ []) 2 (replicate 65 7))
+    ∷ gives 0 (importVerdict [] (7 ∷ 7 ∷ []) 2 name)
     ∷ []
