@@ -13,7 +13,7 @@ use Rattle.format.specs.Layouts.{indexOffset, entries}
 use Rattle.format.specs.Opening.{Opened, opened, opening}
 use Rattle.format.specs.Reading.{sectorVerdict}
 use Rattle.format.specs.Writing.{outcome}
-use Rattle.format.specs.Exporting.{flatFile, sizeVerdict, flatVerdict, exportVerdict, export}
+use Rattle.format.specs.Exporting.{flatFile, sizeVerdict, exportVerdict, export}
 use Rattle.format.specs.Answers.{answered}
 use Rattle.format.proofs.Tests.{below-iff}
 use Rattle.format.proofs.Refusals.{row-iff, then-rest, answer-accepted, answer-refused}
@@ -44,7 +44,7 @@ module _ (img : List ℕ) (t : Opened) (e : opening img ≡ accepted t) (out : L
   room = row (below (length out) (length file)) (refusal 41 0)
 
   whole : outcome out (all then (sizes then room)) (length file) (overwrite out 0 file) ≡ export img out
-  unfolding export exportVerdict flatVerdict opening
+  unfolding export exportVerdict opening
   whole =
       let r = answer-accepted _ _ t e in
       sym (ap (λ (v : Verdict). outcome out v (length (flatFile img (opened img o))) (overwrite out 0 (flatFile img (opened img o)))) (then-rest _ _ (r .0))

@@ -18,7 +18,7 @@ use Rattle.format.specs.Layouts.{indexOffset, entries}
 use Rattle.format.specs.Opening.{Opened, opened, rangeOf, sectorCount}
 use Rattle.format.specs.Reading.{displaced, placeOf, itemBytes, readAt, read}
 use Rattle.format.specs.Committing.{pieces}
-use Rattle.format.specs.Exporting.{sectorAt, sizeAt, flatFile, sizeVerdict, flatVerdict, exportVerdict, export}
+use Rattle.format.specs.Exporting.{sectorAt, sizeAt, flatFile, sizeVerdict, exportVerdict, export}
 use Rattle.format.specs.Demands.{FlatFile, FlatExporting}
 use Rattle.format.proofs.Tests.{on-or-off, below-on, below-iff, differs-iff}
 use Rattle.format.proofs.Refusals.{row-iff, then-iff, firstRefusal-iff, answer-passes, answer-accepted}
@@ -36,7 +36,7 @@ pub record Exportable (img : List ℕ) (o : ℕ) (out : List ℕ) : Type 0 where
   pub room : length (flatFile img (opened img o)) ≤ length out
 
 pub exportable : (img : List ℕ) (o : ℕ) (out : List ℕ) → (exportVerdict img o out ≡ Passes) ↔ Exportable img o out
-unfolding exportVerdict flatVerdict sizeVerdict
+unfolding exportVerdict sizeVerdict
 exportable img o out =
     let t : Opened = opened img o in
     facts
@@ -48,7 +48,7 @@ exportable img o out =
 
 -- of the buffer they look at the length alone
 pub verdict-alike : (img : List ℕ) (o : ℕ) (one other : List ℕ) → length one ≡ length other → exportVerdict img o one ≡ exportVerdict img o other
-unfolding exportVerdict flatVerdict
+unfolding exportVerdict
 verdict-alike img o one other e = rw e refl
 
 -- ---- one sector

@@ -22,7 +22,7 @@ use Rattle.format.specs.Writing.{bufferVerdict, isSecond, writableVerdic
 use Rattle.format.specs.Creating.{createVerdict, create}
 use Rattle.format.specs.Committing.{Appended, argumentsVerdict, anyOutside, otherThan21, sectorsVerdict, discVerdict, commitVerdict, append, commit}
 use Rattle.format.specs.RollingBack.{rollbackVerdict, rollback}
-use Rattle.format.specs.Exporting.{sizeVerdict, flatVerdict, exportVerdict, export}
+use Rattle.format.specs.Exporting.{sizeVerdict, exportVerdict, export}
 use Rattle.format.specs.Importing.{importVerdict}
 use Rattle.format.specs.Demands.{FromTo, openingNumber, readingNumber, creatingNumber, committingNumber, rollingBackNumber, exportingNumber, importingNumber, PlaceFor, atHeader, atIndex, atEntry, atTable, atTableEntry, atBlock, atNone, NoSector, Demand1Refusals, SecondRefused}
 use Rattle.format.specs.Facts.{OpensWith}
@@ -195,7 +195,7 @@ rollback-says buffer used offset =
 
 -- every sector of the disc, 21 too; 40 and 41
 export-says : (img : List ℕ) (o : ℕ) (out : List ℕ) → Says (Listed img o (OnDisc img o) exportingNumber) (exportVerdict img o out)
-unfolding exportVerdict flatVerdict sizeVerdict
+unfolding exportVerdict sizeVerdict
 export-says img o out =
     let t : Opened = opened img o in
     let Exporting : ℕ → ℕ → Type 0 = Listed img o (OnDisc img o) exportingNumber in

@@ -29,17 +29,14 @@ flatFile img t = flatten (ofEach (sectorAt img t) (t .count) 0)
 unfoldable pub sizeVerdict : List ℕ → Opened → ℕ → Verdict
 sizeVerdict img t n = row (differs (sizeAt img t n) (sizeAt img t 0)) (refusal 40 0)
 
--- what is checked of the sectors: "the sectors' by rising address, then 40, .., then 41, buffer too short"
-unfoldable pub flatVerdict : List ℕ → ℕ → List ℕ → Verdict
-flatVerdict img o out =
+-- with o for the index's offset: "on export opening's numbers, then the sectors' by rising address, then 40, sizes differ, then 41, buffer too short"
+unfoldable pub exportVerdict : List ℕ → ℕ → List ℕ → Verdict
+exportVerdict img o out =
     let t = opened img o in
-    firstRefusal (sectorVerdict img (entries img o) t) (t .count) 0
+    openVerdict img o
+    then firstRefusal (sectorVerdict img (entries img o) t) (t .count) 0
     then firstRefusal (sizeVerdict img t) (t .count) 0
     then row (below (length out) (length (flatFile img t))) (refusal 41 0)
-
--- with o for the index's offset: "opening's numbers", then those
-unfoldable pub exportVerdict : List ℕ → ℕ → List ℕ → Verdict
-exportVerdict img o out = openVerdict img o then flatVerdict img o out
 
 -- the answer is the length; later bytes of the buffer stay as they are
 unfoldable pub export : List ℕ → List ℕ → Outcome ℕ
