@@ -12,12 +12,11 @@ use Rattle.format.specs.declared.Verdict.the-variants.{Passes, Refuses}
 use Rattle.format.specs.Refusals.{Answer, refused, accepted}
 use Rattle.format.specs.Writing.{Outcome, outcome}
 use Rattle.format.specs.Answers.{answered}
-use Rattle.format.proofs.Tests.{below-true, below-iff, choose-true, choose-false}
 use Rattle.format.proofs.Buffers.{outcome-accepted, outcome-refused}
 use Rattle.text.specs.Buffer.{Writes, Prints}
 use Rattle.text.specs.Text.{TOO-LONG, NEWLINE, refusedLine, longestInput}
 use Rattle.text.proofs.Decimal.{length-refused}
-use Rattle.text.proofs.Writes.{writes-prints}
+use Rattle.text.proofs.Writes.{unless-long, unless-short, writes-prints}
 use Rattle.converting.specs.Texts.{shown, text, zeros}
 
 -- its checks look at the buffer's length alone, and the image is no longer than that; its refusals have two digits
@@ -33,7 +32,7 @@ pub record Fills {A : Type 0} (size : A → ℕ) (call : List ℕ → Outcome A)
 -- a longer input
 pub long-text : {A : Type 0} (size : A → ℕ) (o : Outcome A) (input : List ℕ) → longestInput < length input → text size input o ≡ TOO-LONG ++ NEWLINE
 unfolding text
-long-text size o input h = choose-true _ _ _ (below-true _ _ h)
+long-text size o input h = unless-long input _ h
 
 module _ {A : Type 0} {size : A → ℕ} {call : List ℕ → Outcome A} (f : Fills size call) (input : List ℕ) (h : length input ≤ longestInput) where
   abbrev blank : List ℕ
@@ -42,7 +41,7 @@ module _ {A : Type 0} {size : A → ℕ} {call : List ℕ → Outcome A} (f : Fi
   text-is : text size input (call blank) ≡ shown size (outcome blank (f .verdict 65536) (f .value) (overwrite blank 0 (f .image)) .result) (outcome blank (f .verdict 65536) (f .value) (overwrite blank 0 (f .image)) .buffer)
   unfolding text
   text-is =
-      choose-false _ _ _ (below-iff .1 h)
+      unless-short input _ h
       ∙ ap (λ (o : Outcome A). shown size (o .result) (o .buffer)) (f .is blank ∙ ap (λ n. outcome blank (f .verdict n) (f .value) (overwrite blank 0 (f .image))) (length-replicate {A = ℕ} 65536 0))
 
   passes-text : f .verdict 65536 ≡ Passes → text size input (call blank) ≡ f .image

@@ -19,10 +19,9 @@ use Rattle.format.specs.Refusals.{refused, accepted}
 use Rattle.format.specs.Answers.{counted, located}
 use Rattle.format.specs.Opening.{sectorCount}
 use Rattle.format.specs.Reading.{locate}
-use Rattle.format.proofs.Tests.{below-true, below-iff, choose-true, choose-false}
 use Rattle.text.specs.Text.{TOO-LONG, NEWLINE, decimal, signed, refusedLine, longestInput}
 use Rattle.text.specs.Buffer.{Writes}
-use Rattle.text.proofs.Writes.{writes-then}
+use Rattle.text.proofs.Writes.{writes-then, unless-long, unless-short}
 use Rattle.listing.specs.Listing.{SECTORS, SPACE, DASH, head, line, linesFrom, lines, imageText, listing}
 
 -- ---- the first line
@@ -75,8 +74,8 @@ module _ {s t : List ℕ} {at p : ℕ} (img : List ℕ) where
 
 pub listing-long : (input : List ℕ) → longestInput < length input → listing input ≡ TOO-LONG ++ NEWLINE
 unfolding listing
-listing-long input h = choose-true _ _ _ (below-true _ _ h)
+listing-long input h = unless-long input (imageText input) h
 
 pub listing-image : (input : List ℕ) → length input ≤ longestInput → listing input ≡ imageText input
 unfolding listing
-listing-image input h = choose-false _ _ _ (below-iff .1 h)
+listing-image input h = unless-short input (imageText input) h

@@ -4,15 +4,13 @@
 -- A text is the list of its bytes.
 use mathlib.Core.List.{List, [], _∷_, _++_}
 use Prim.Native.Nat.{ℕ, zero, suc}
-use lib.ListN.{length}
 use lib.IntN.{ℤ, pos, _+ℤ_}
 use Rattle.format.specs.declared.AddressRange.{AddressRange}
 use Rattle.format.specs.declared.Place.{Place}
-use Rattle.format.specs.Tests.{below, choose}
 use Rattle.format.specs.Refusals.{Answer, refused, accepted}
 use Rattle.format.specs.Opening.{sectorCount}
 use Rattle.format.specs.Reading.{locate}
-use Rattle.text.specs.Text.{TOO-LONG, NEWLINE, decimal, signed, refusedLine, longestInput}
+use Rattle.text.specs.Text.{NEWLINE, decimal, signed, refusedLine, unlessLong}
 
 -- ---- words, by the codes of their characters
 abbrev pub SECTORS : List ℕ
@@ -49,6 +47,5 @@ lines img (refused r) = []
 unfoldable pub imageText : List ℕ → List ℕ
 imageText img = head (sectorCount img) ++ lines img (sectorCount img)
 
--- "A longer input prints `too long`."
 unfoldable pub listing : List ℕ → List ℕ
-listing input = choose (below longestInput (length input)) (TOO-LONG ++ NEWLINE) (imageText input)
+listing input = unlessLong input (imageText input)

@@ -11,7 +11,9 @@ use lib.ListN.{length, take, getD, set, length-append}
 use lib.Seq.{take-suc, take-all, length-take-le}
 use Rattle.fields.specs.Bytes.{overwrite}
 use Rattle.fields.proofs.Overwrite.{length-overwrite, overwrite-out, overwrite-then}
+use Rattle.format.proofs.Tests.{below-true, below-iff, choose-true, choose-false}
 use Rattle.text.specs.Buffer.{Writes, Prints}
+use Rattle.text.specs.Text.{TOO-LONG, NEWLINE, longestInput, unlessLong}
 
 -- two runs of bytes, where the first reaches the end, and the second is written there
 overwrite-end : (s : List ℕ) (at : ℕ) (x y : List ℕ) → length s ≤ at + length x → overwrite (overwrite s at x) (length s) y ≡ overwrite s at (x ++ y)
@@ -57,6 +59,16 @@ module _ {s t : List ℕ} {at p : ℕ} (x : List ℕ) (i : ℕ) (w : Writes s at
 
   pub writes-end : length x ≤ i → Writes s at x t p
   writes-end h = rw take-all at w
+
+-- ---- a program's text, by the length of its input
+module _ (input text : List ℕ) where
+  pub unless-long : longestInput < length input → unlessLong input text ≡ TOO-LONG ++ NEWLINE
+  unfolding unlessLong
+  unless-long h = choose-true _ _ _ (below-true _ _ h)
+
+  pub unless-short : length input ≤ longestInput → unlessLong input text ≡ text
+  unfolding unlessLong
+  unless-short h = choose-false _ _ _ (below-iff .1 h)
 
 -- ---- a text at the front of a buffer that has room for it
 -- is written whole

@@ -2,6 +2,7 @@
 -- A text is the list of its bytes.
 use mathlib.Core.List.{List, [], _∷_, _++_}
 use Prim.Native.Nat.{ℕ, zero, suc, _+_, _/_, _%_}
+use lib.ListN.{length}
 use lib.IntN.{ℤ, pos, negsuc}
 use Rattle.format.specs.Tests.{below, choose}
 
@@ -42,6 +43,9 @@ signed (negsuc n) = MINUS ++ decimal (suc n)
 unfoldable pub refusedLine : ℕ → List ℕ
 refusedLine n = REFUSED ++ decimal n ++ NEWLINE
 
--- ---- the longest input
+-- ---- a program's text for an input of at most 65,536 bytes. "A longer input prints `too long`."
 abbrev pub longestInput : ℕ
 longestInput = 65536
+
+unfoldable pub unlessLong : List ℕ → List ℕ → List ℕ
+unlessLong input text = choose (below longestInput (length input)) (TOO-LONG ++ NEWLINE) text
