@@ -1,41 +1,42 @@
 -- Each call is accepted exactly if its facts hold.
-use mathlib.Core.Bool.{true}
+use mathlib.Core.Bool.{true, false}
 use mathlib.Core.List.{List, [], _∷_, _++_}
-use mathlib.Core.Logic.{_⊎_, inl, inr, ⊎-map, _↔_, Iff·trans, Iff·and}
+use mathlib.Core.Logic.{_≢_, _⊎_, inl, inr, ⊎-elim, ⊎-map, _↔_, Iff·trans, Iff·and}
 use mathlib.Core.Path.{_≡_, refl, sym, ap, _∙_, subst}
 use Prim.Native.Nat.{ℕ, _+_, _*_, _/_, _%_, _≤_, _<_}
-use native.Mathlib.Nat.{pos-of-ne-zero, mul-mod-left, mul-le-mul-right}
+use native.Mathlib.Nat.{pos-of-ne-zero, zero-mul, mul-mod-left, mul-le-mul-right, eq-or-lt-of-le}
 use native.Mathlib.Omega.{arith}
 use lib.ListN.{length, take, length-append}
 use lib.Seq.{length-take-le}
 use lib.IntN.{ℤ, pos, negℤ, _+ℤ_, _-ℤ_, +ℤ-idl, +ℤ-invl, +ℤ-negℤ-cancel}
-use Rattle.fields.specs.Bytes.{field}
 use Rattle.format.specs.declared.AddressRange.{AddressRange}
+use Rattle.format.specs.declared.Flat.{Flat}
 use Rattle.format.specs.declared.Placed.{Placed}
 use Rattle.format.specs.declared.Pointer.{Pointer}
+use Rattle.format.specs.declared.TableKind.{TableKind}
 use Rattle.format.specs.declared.TableKind.the-variants.{First}
 use Rattle.format.specs.Lists.{Any}
 use Rattle.format.specs.Refusals.{accepted}
 use Rattle.format.specs.Layouts.{DDT*, indexOffset, entries, userDataEntry, sectorSize, tableCount, tableNegative}
 use Rattle.format.specs.Opening.{tableAt, kindAt, Opened, openedAs, opened, rangeOf, sectorCount}
-use Rattle.format.specs.Reading.{tableEntry, unwritten, notWritten, placeOf}
+use Rattle.format.specs.Reading.{notWritten, placeOf}
 use Rattle.format.specs.Writing.{Outcome, placed}
 use Rattle.format.specs.Creating.{createdIndexAt, createdUsed, createdEntries, create}
 use Rattle.format.specs.Committing.{entryNumbers, pieces, Appended, appended, indexStart, usedAfter, append, commit}
 use Rattle.format.specs.RollingBack.{rollback}
-use Rattle.format.specs.Exporting.{sizeAt, flatFile, export}
+use Rattle.format.specs.Exporting.{sizeAt, flatSize, flatFile, gapCount, exportExact, flat, export}
 use Rattle.format.specs.Importing.{import}
-use Rattle.format.specs.Facts.{Opens, OpensWith, EntryNames, DiscOk, Stores, all, again, new, Reindexed, replaced, end, blockLengthFor}
-use Rattle.format.specs.Demands.{HasSectors, Held, Additions, newEntries, CommitOk, ExportOk, ImportOk, Demand1Accepted}
-use Rattle.format.proofs.Tests.{same-on, same-true}
-use Rattle.format.proofs.Lists.{all-map, length-ofEach}
+use Rattle.format.specs.Facts.{Opens, OpensWith, NotWritten, EntryNames, DiscOk, Stores, all, again, new, Reindexed, replaced, end, blockLengthFor}
+use Rattle.format.specs.Demands.{HasSectors, Held, Additions, newEntries, CommitOk, ExportExactOk, ExportOk, ImportOk, Demand1Accepted}
+use Rattle.format.proofs.Tests.{on-or-off, off-rest}
+use Rattle.format.proofs.Lists.{all-map, length-ofEach, howMany-most, howMany-all, howMany-counts, counts-is, howMany-none}
 use Rattle.format.proofs.Refusals.{answer-passes, answer-accepted}
-use Rattle.format.proofs.Checks.{open-ok, SectorOk, created-index, created-used, create-ok, WritableOk, Sound, DiscSound, commit-ok, rollback-ok}
+use Rattle.format.proofs.Checks.{open-ok, SectorOk, AddressOk, created-index, created-used, create-ok, WritableOk, Sound, DiscSound, commit-ok, rollback-ok}
 use Rattle.format.proofs.Opens.{opens-forth, opens-back, opened-as, opens-with}
 use Rattle.format.proofs.Addresses.{inside-each, each-inside}
 use Rattle.format.proofs.Buffers.{outcome-accepts}
-use Rattle.format.proofs.Reading.{entry-forth, pointer-is, entry-back, inside-entry, entry-inside, locating}
-use Rattle.format.proofs.Exporting.{exportable, file-length}
+use Rattle.format.proofs.Reading.{not-written, entry-forth, pointer-is, entry-back, inside-entry, entry-inside, locating}
+use Rattle.format.proofs.Exporting.{SizeOk, exact-ok, export-ok, size-or-none, flat-size, file-length}
 use Rattle.format.proofs.Importing.{Importable, verdict-ok, file-whole, file-some, file-few, file-count, addressesOf, made, made-offset, made-sound, made-opened, made-entries, made-empty, made-numbers, added, importedUsed, importedIndex, import-is, import-accepted}
 use Rattle.format.proofs.Created.{length-new}
 use Rattle.format.proofs.Storing.{length-pieces}
@@ -82,9 +83,8 @@ module _ (img : List ℕ) (o t : ℕ) (n : Opens img o First t) where
   opened-is = opened-as img o First t n
 
   -- a table entry
-  first-entry : (m : ℕ) → ((notWritten img u m ≡ true) ⊎ SectorOk img (entries img o) u m) ↔ ((field img (t + 49 + 8 * m) 8 ≡ 0) ⊎ EntryNames img o First t m)
-  unfolding notWritten unwritten tableEntry openedAs
-  first-entry m = (⊎-map (same-on _ _) (entry-forth img o First t m), ⊎-map (same-true _ _) (entry-back img o First t m))
+  first-entry : (m : ℕ) → ((notWritten img u m ≡ true) ⊎ SectorOk img (entries img o) u m) ↔ (NotWritten img First t m ⊎ EntryNames img o First t m)
+  first-entry m = (⊎-map (not-written img First t m .0) (entry-forth img o First t m), ⊎-map (not-written img First t m .1) (entry-back img o First t m))
 
   disc-forth : (addresses : List ℤ) → DiscSound img o addresses → DiscOk img o addresses t
   unfolding openedAs
@@ -144,45 +144,126 @@ module _ (buffer : List ℕ) (used : ℕ) (addresses : List ℤ) (size : ℕ) (s
       (commit-ok buffer used addresses size sectors _ .1 (record { arguments = c .arguments; disc = d; room = rw (← ap (λ (q : Placed). q .used) e) at (c .room) }), e)
 
 -- ---- exporting
-module _ (img out : List ℕ) (n : ℕ) where
+-- the size of a sector whose table entry names an item
+names-size : (img : List ℕ) (o : ℕ) (k : TableKind) (t i : ℕ) (e : EntryNames img o k t i) → sizeAt img (openedAs img k t) i ≡ sectorSize img (e .block)
+unfolding sizeAt placeOf
+names-size img o k t i e = ap (λ (q : Pointer). sectorSize img (q .block .0)) (pointer-is img o k t i e)
+
+module _ (img out : List ℕ) where
   abbrev at : ℕ
   at = indexOffset img
 
-  export-forth : export img out .result ≡ accepted n → ExportOk img out n
-  unfolding export opened openedAs sizeAt placeOf
-  export-forth e =
+  abbrev kind-at : TableKind
+  kind-at = kindAt img (tableAt img at)
+
+  -- what the facts of both rules come to
+  module _ (k : TableKind) (t : ℕ) (opens : Opens img at k t) (size : ℕ)
+      (each : (i : ℕ) → i < tableCount img k t → NotWritten img k t i ⊎ EntryNames img at k t i)
+      (sized : (i : ℕ) → i < tableCount img k t → (e : EntryNames img at k t i) → sectorSize img (e .block) ≡ size) where
+    is : opened img at ≡ openedAs img k t
+    is = opened-as img at k t opens
+
+    addresses : (i : ℕ) → i < opened img at .count → AddressOk img at i
+    unfolding openedAs
+    addresses = rw is (λ i h. ⊎-map (not-written img k t i .1) (entry-back img at k t i) (each i h))
+
+    written-sized : (i : ℕ) → i < opened img at .count → notWritten img (opened img at) i ≡ false → sizeAt img (opened img at) i ≡ size
+    unfolding openedAs
+    written-sized =
+        rw is
+        (λ i h w. let e = off-rest w (⊎-map (not-written img k t i .1) (λ (x : EntryNames img at k t i). x) (each i h)) in names-size img at k t i e ∙ sized i h e)
+
+    sizes : (i : ℕ) → i < opened img at .count → SizeOk img (opened img at) i
+    sizes i h = ⊎-map (λ e. e) (λ w. written-sized i h w ∙ sym (flat-size img (opened img at) size written-sized i h w)) (on-or-off (notWritten img (opened img at) i))
+
+    long-as : (opened img at .count ≡ 0) ⊎ (gapCount img (opened img at) ≢ opened img at .count) → length (flatFile img (opened img at)) ≡ tableCount img k t * size
+    unfolding openedAs gapCount flatSize
+    long-as some =
+        let u : Opened = opened img at in
+        file-length img at addresses sizes
+        ∙ ⊎-elim (λ z. ap (λ n. n * flatSize img u) z ∙ zero-mul _ ∙ sym (ap (λ n. n * size) z ∙ zero-mul _))
+        (λ d. ap (λ n. u .count * n)
+        (⊎-elim (λ q. q) (λ none. absurd (d (howMany-all _ _ 0 none))) (size-or-none img u size (u .count) 0 (λ m l b. written-sized m (omega arith)))))
+        some
+        ∙ ap (λ (v : Opened). v .count * size) is
+
+  -- by 4/13's rule
+  exact-forth : (n : ℕ) → exportExact img out .result ≡ accepted n → ExportExactOk img out n
+  unfolding exportExact opened openedAs
+  exact-forth n e =
       let r = outcome-accepts _ _ _ _ n .0 e in
-      let k = exportable img at out .0 (r .0) in
+      let k = exact-ok img at out .0 (r .0) in
       record {
-        kind = kindAt img (tableAt img at);
+        kind = kind-at;
         table = tableAt img at;
         opens = opens-forth img at (k .opens);
-        names = λ i h. entry-forth img at (kindAt img (tableAt img at)) (tableAt img at) i (k .sectors i h);
-        size = sizeAt img (opened img at) 0;
-        sized = λ i h. sym (ap (λ (q : Pointer). sectorSize img (q .block .0)) (pointer-is img at _ _ i (entry-forth img at _ _ i (k .sectors i h)))) ∙ k .sizes i h;
-        whole = sym (r .1) ∙ file-length img at _ (k .sectors) (k .sizes);
-        room = rw (r .1) at (k .room);
+        names = λ i h. entry-forth img at kind-at (tableAt img at) i (k .sectors i h);
+        size = flatSize img (opened img at);
+        sized = λ i h. sym (names-size img at _ _ i (entry-forth img at _ _ i (k .sectors i h))) ∙ off-rest (k .sectors i h .written) (k .file .sizes i h);
+        whole = sym (r .1) ∙ file-length img at (λ i h. inr (k .sectors i h)) (k .file .sizes);
+        room = rw (r .1) at (k .file .room);
       }
 
-  export-back : ExportOk img out n → export img out .result ≡ accepted n
-  unfolding export openedAs sizeAt placeOf
-  export-back e =
-      let t : Opened = openedAs img (e .kind) (e .table) in
-      let is : opened img at ≡ t = opened-as img at (e .kind) (e .table) (e .opens) in
-      let sized : (i : ℕ) → i < t .count → sizeAt img t i ≡ e .size =
-      λ i h. ap (λ (q : Pointer). sectorSize img (q .block .0)) (pointer-is img at (e .kind) (e .table) i (e .names i h)) ∙ e .sized i h in
-      let sectors : (i : ℕ) → i < opened img at .count → SectorOk img (entries img at) (opened img at) i = rw is (λ i h. entry-back img at (e .kind) (e .table) i (e .names i h)) in
-      let sizes : (i : ℕ) → i < opened img at .count → sizeAt img (opened img at) i ≡ e .size = rw is sized in
-      let l : length (flatFile img (opened img at)) ≡ n = file-length img at (e .size) sectors sizes ∙ ap (λ (u : Opened). u .count * e .size) is ∙ sym (e .whole) in
+  exact-back : (n : ℕ) → ExportExactOk img out n → exportExact img out .result ≡ accepted n
+  unfolding exportExact openedAs gapCount
+  exact-back n e =
+      let u : Opened = opened img at in
+      let is-as : u ≡ openedAs img (e .kind) (e .table) = opened-as img at (e .kind) (e .table) (e .opens) in
+      let sectors : (i : ℕ) → i < u .count → SectorOk img (entries img at) u i = rw is-as (λ i h. entry-back img at (e .kind) (e .table) i (e .names i h)) in
+      let each : (i : ℕ) → i < tableCount img (e .kind) (e .table) → NotWritten img (e .kind) (e .table) i ⊎ EntryNames img at (e .kind) (e .table) i = λ i h. inr (e .names i h) in
+      let sized : (i : ℕ) → i < tableCount img (e .kind) (e .table) → (x : EntryNames img at (e .kind) (e .table) i) → sectorSize img (x .block) ≡ e .size =
+      λ i h x. sym (names-size img at _ _ i x) ∙ names-size img at _ _ i (e .names i h) ∙ e .sized i h in
+      let some : (u .count ≡ 0) ⊎ (gapCount img u ≢ u .count) =
+      ⊎-elim (λ z. inl (sym z)) (λ z. inr (λ q. omega (arith, howMany-none (notWritten img u) (u .count) 0 (λ i l h. sectors i (omega arith) .written)))) (eq-or-lt-of-le (omega arith)) in
+      let l : length (flatFile img u) ≡ n = long-as (e .kind) (e .table) (e .opens) (e .size) each sized some ∙ sym (e .whole) in
       outcome-accepts _ _ _ _ n .1 (
-        exportable img at out .1
+        exact-ok img at out .1
             (record {
               opens = open-ok img at .0 (open-ok img at .1 (opens-back img at (e .kind) (e .table) (e .opens)));
               sectors = sectors;
-              sizes = λ i h. sizes i h ∙ sym (sizes 0 (omega arith));
-              room = rw l (e .room);
+              file = record { sizes = sizes (e .kind) (e .table) (e .opens) (e .size) each sized; room = rw l (e .room) };
             }),
         l,
+      )
+
+  -- by 9/13's
+  export-forth : (n : Flat) → export img out .result ≡ accepted n → ExportOk img out n
+  unfolding export opened openedAs gapCount
+  export-forth n e =
+      let r = outcome-accepts _ _ _ _ n .0 e in
+      let k = export-ok img at out .0 (r .0) in
+      let filled : gapCount img (opened img at) ≡ n .filled = ap (λ (m : Flat). m .filled) (r .1) in
+      let long : length (flatFile img (opened img at)) ≡ n .length = ap (λ (m : Flat). m .length) (r .1) in
+      record {
+        kind = kind-at;
+        table = tableAt img at;
+        opens = opens-forth img at (k .opens);
+        each = λ i h. ⊎-map (not-written img kind-at (tableAt img at) i .0) (entry-forth img at kind-at (tableAt img at) i) (k .sectors i h);
+        filled = rw filled at (howMany-counts (notWritten img (opened img at)) (opened img at .count) 0 (λ i l h. not-written img kind-at (tableAt img at) i));
+        some = ⊎-map (λ z. z) (λ d. omega (arith, howMany-most (notWritten img (opened img at)) (opened img at .count) 0)) (k .some);
+        size = flatSize img (opened img at);
+        sized = λ i h x. sym (names-size img at _ _ i x) ∙ off-rest (entry-back img at _ _ i x .written) (k .file .sizes i h);
+        whole = sym long ∙ file-length img at (k .sectors) (k .file .sizes);
+        room = rw long at (k .file .room);
+      }
+
+  export-back : (n : Flat) → ExportOk img out n → export img out .result ≡ accepted n
+  unfolding export openedAs gapCount
+  export-back n e =
+      let u : Opened = opened img at in
+      let is-as : u ≡ openedAs img (e .kind) (e .table) = opened-as img at (e .kind) (e .table) (e .opens) in
+      let gaps : gapCount img u ≡ n .filled = rw is-as (counts-is _ _ 0 (n .filled) (λ i l h. not-written img (e .kind) (e .table) i) (e .filled)) in
+      let some : (u .count ≡ 0) ⊎ (gapCount img u ≢ u .count) = rw is-as (⊎-map (λ z. z) (λ b q. omega (arith, rw is-as at gaps)) (e .some)) in
+      let l : length (flatFile img u) ≡ n .length = long-as (e .kind) (e .table) (e .opens) (e .size) (e .each) (e .sized) some ∙ sym (e .whole) in
+      outcome-accepts _ _ _ _ n .1 (
+        export-ok img at out .1
+            (record {
+              opens = open-ok img at .0 (open-ok img at .1 (opens-back img at (e .kind) (e .table) (e .opens)));
+              sectors = addresses (e .kind) (e .table) (e .opens) (e .size) (e .each) (e .sized);
+              some = some;
+              file = record { sizes = sizes (e .kind) (e .table) (e .opens) (e .size) (e .each) (e .sized); room = rw l (e .room) };
+            }),
+        λ j. flat (l j) (gaps j),
       )
 
 -- ---- importing
@@ -343,6 +424,7 @@ demand-1-accepted = record {
       (Iff·trans (rollback-ok buffer used offset)
       ((λ k. record { bufferOk = k .bufferOk; opens = writable-with _ offset .0 (k .writable) }), λ k. record { bufferOk = k .bufferOk; writable = writable-with _ offset .1 (k .opens) }))
       (sym, sym));
+  exportingExactly = λ img out n. (exact-forth img out n, exact-back img out n);
   exporting = λ img out n. (export-forth img out n, export-back img out n);
   importing = λ buffer file size application major minor mediaType creationTime lastWrittenTime p.
       (import-forth buffer file size application major minor mediaType creationTime lastWrittenTime p, import-back buffer file size application major minor mediaType creationTime lastWrittenTime p);

@@ -8,6 +8,8 @@ use Rattle.format.specs.declared.Counted.{Counted}
 use Rattle.format.specs.declared.Counted.the-variants as count
 use Rattle.format.specs.declared.Exported.{Exported}
 use Rattle.format.specs.declared.Exported.the-variants as export
+use Rattle.format.specs.declared.ExportedExact.{ExportedExact}
+use Rattle.format.specs.declared.ExportedExact.the-variants as export-exact
 use Rattle.format.specs.declared.Located.{Located}
 use Rattle.format.specs.declared.Located.the-variants as place
 use Rattle.format.specs.declared.Refusal.{Refusal}
@@ -19,7 +21,7 @@ use Rattle.format.specs.Refusals.{refused, accepted}
 use Rattle.format.specs.Opening.{Opened, opening, rangeOf, sectorCount}
 use Rattle.format.specs.Reading.{readVerdict, locate}
 use Rattle.format.specs.Writing.{outcome}
-use Rattle.format.specs.Answers.{counted, located, updated, exported, answered}
+use Rattle.format.specs.Answers.{counted, located, updated, exported, exportedExact, answered}
 use Rattle.format.proofs.Refusals.{answer-passes, answer-refuses, answer-accepted, answer-refused, then-refuses}
 
 pub counted-distinct : (x y : Counted) → counted x ≡ counted y → x ≡ y
@@ -45,10 +47,17 @@ updated-distinct (update.Refused r) (update.Refused q) e = cc
 
 pub exported-distinct : (x y : Exported) → exported x ≡ exported y → x ≡ y
 unfolding exported
-exported-distinct (export.Length n) (export.Length m) e = cc
-exported-distinct (export.Length n) (export.Refused r) e = let z : _≡_ {A = ℕ} 0 1 = cc in absurd (omega arith)
-exported-distinct (export.Refused r) (export.Length m) e = let z : _≡_ {A = ℕ} 0 1 = cc in absurd (omega arith)
+exported-distinct (export.To n) (export.To m) e = cc
+exported-distinct (export.To n) (export.Refused r) e = let z : _≡_ {A = ℕ} 0 1 = cc in absurd (omega arith)
+exported-distinct (export.Refused r) (export.To m) e = let z : _≡_ {A = ℕ} 0 1 = cc in absurd (omega arith)
 exported-distinct (export.Refused r) (export.Refused q) e = cc
+
+pub exportedExact-distinct : (x y : ExportedExact) → exportedExact x ≡ exportedExact y → x ≡ y
+unfolding exportedExact
+exportedExact-distinct (export-exact.Length n) (export-exact.Length m) e = cc
+exportedExact-distinct (export-exact.Length n) (export-exact.Refused r) e = let z : _≡_ {A = ℕ} 0 1 = cc in absurd (omega arith)
+exportedExact-distinct (export-exact.Refused r) (export-exact.Length m) e = let z : _≡_ {A = ℕ} 0 1 = cc in absurd (omega arith)
+exportedExact-distinct (export-exact.Refused r) (export-exact.Refused q) e = cc
 
 -- ---- what a call that writes leaves, by its verdict
 module _ {A : Type 0} (buffer : List ℕ) {v : Verdict} where

@@ -8,14 +8,15 @@ use lib.ListN.{length, take}
 use lib.Seq.{length-take-le}
 use Rattle.fields.specs.Bytes.{overwrite}
 use Rattle.fields.proofs.Overwrite.{length-overwrite, getD-off}
+use Rattle.format.specs.declared.Flat.{Flat}
 use Rattle.format.specs.declared.Placed.{Placed}
 use Rattle.format.specs.Layouts.{headerLength, indexOffset}
 use Rattle.format.specs.Opening.{opened}
 use Rattle.format.specs.Creating.{createdUsed, createdBytes, create}
 use Rattle.format.specs.Committing.{entryNumbers, Appended, appended, indexStart, usedAfter, appendedBytes, append, commit}
 use Rattle.format.specs.RollingBack.{rollback}
-use Rattle.format.specs.Exporting.{flatFile, export}
-use Rattle.format.specs.Demands.{Demand1Unchanged, WritesOnly}
+use Rattle.format.specs.Exporting.{flatFile, exportExact, export}
+use Rattle.format.specs.Demands.{Demand1Unchanged, Leaves, WritesOnly}
 use Rattle.format.proofs.Checks.{create-ok, commit-ok, rollback-ok}
 use Rattle.format.proofs.Buffers.{outcome-accepted, outcome-refused, length-setHeader, setHeader-elsewhere, header-set}
 use Rattle.format.proofs.Appended.{appended-total}
@@ -23,18 +24,23 @@ use Rattle.format.proofs.Created.{length-new}
 use Rattle.format.proofs.Importing.{importedImage, image-length, buffer-front, made-long, import-accepted, import-refused}
 
 pub demand-1-unchanged : Demand1Unchanged
-unfolding create commit append rollback export
+unfolding create commit append rollback exportExact export
 demand-1-unchanged = record {
   creating = λ buffer count application major minor mediaType creationTime lastWrittenTime r e. outcome-refused _ _ _ _ r e .1;
   committing = λ buffer used addresses size sectors time r e. outcome-refused _ _ _ _ r e .1;
   rollingBack = λ buffer used offset time r e. outcome-refused _ _ _ _ r e .1;
+  exportingExactly = λ img out r e. outcome-refused _ _ _ _ r e .1;
   exporting = λ img out r e. outcome-refused _ _ _ _ r e .1;
   importing = λ buffer file size application major minor mediaType creationTime lastWrittenTime r e.
       import-refused buffer file size application major minor mediaType creationTime lastWrittenTime r e .1;
 }
 
+-- all from the end of what stands at the front on
+behind : (out front : List ℕ) (n : ℕ) → length front ≡ n → Leaves out (overwrite out 0 front) (λ i. n ≤ i)
+behind out front n e = record { sameLength = length-overwrite out 0 front; bytes = λ i h. getD-off out 0 front i (inr (omega arith)) }
+
 pub writes-only : WritesOnly
-unfolding create commit append rollback export
+unfolding create commit append rollback exportExact export
 writes-only = record {
   creating = λ buffer count application major minor mediaType creationTime lastWrittenTime p e.
       let r = outcome-accepted _ _ _ _ p e in
@@ -42,7 +48,7 @@ writes-only = record {
       let new : List ℕ = createdBytes count application major minor mediaType creationTime lastWrittenTime in
       let ln : length new ≡ createdUsed count = length-new count application major minor mediaType creationTime lastWrittenTime (k .sized) in
       let u : createdUsed count ≡ p .used = ap (λ (q : Placed). q .used) (r .answer) in
-      record { sameLength = rw (r .buffer) (length-overwrite buffer 0 new); bytes = λ i h. rw (r .buffer) (getD-off buffer 0 new i (inr (omega arith))) };
+      rw (r .buffer) (behind buffer new (p .used) (ln ∙ u));
   committing = λ buffer used addresses size sectors time p e.
       let r = outcome-accepted _ _ _ _ p e in
       let img : List ℕ = take used buffer in
@@ -67,18 +73,19 @@ writes-only = record {
       let low : headerLength ≤ length buffer = omega (arith, k .writable .opens .header .long, length-take-le used buffer (k .bufferOk .inside), k .bufferOk .inside) in
       rw (r .buffer)
       (record { sameLength = length-setHeader buffer offset time; bytes = setHeader-elsewhere buffer offset time }, header-set buffer offset time low);
+  exportingExactly = λ img out n e.
+      let r = outcome-accepted _ _ _ _ n e in
+      rw (r .buffer) (behind out (flatFile img (opened img (indexOffset img))) n (r .answer));
   exporting = λ img out n e.
       let r = outcome-accepted _ _ _ _ n e in
-      let file : List ℕ = flatFile img (opened img (indexOffset img)) in
-      record { sameLength = rw (r .buffer) (length-overwrite out 0 file); bytes = λ i h. rw (r .buffer) (getD-off out 0 file i (inr (omega (arith, r .answer)))) };
+      rw (r .buffer) (behind out (flatFile img (opened img (indexOffset img))) _ (ap (λ (m : Flat). m .length) (r .answer)));
   importing = λ buffer file size application major minor mediaType creationTime lastWrittenTime p e.
       let i = import-accepted buffer file size application major minor mediaType creationTime lastWrittenTime p e in
       let image : List ℕ = importedImage buffer file size application major minor mediaType creationTime lastWrittenTime in
       let l = image-length buffer file size application major minor mediaType creationTime lastWrittenTime (i .checked) in
       let long = made-long buffer file size application major minor mediaType creationTime lastWrittenTime (i .checked) (i .room) in
       rw (← (i .answer)) (
-        rw (i .buffer-is, buffer-front buffer file size application major minor mediaType creationTime lastWrittenTime (i .checked) (i .room)) (
-            record { sameLength = length-overwrite buffer 0 image; bytes = λ j h. getD-off buffer 0 image j (inr (omega arith)) }),
+        rw (i .buffer-is, buffer-front buffer file size application major minor mediaType creationTime lastWrittenTime (i .checked) (i .room)) (behind buffer image _ l),
         rw (i .buffer-is) (header-set _ _ lastWrittenTime long),
       );
 }

@@ -1,11 +1,14 @@
 -- Laws of the lists that the definitions speak of.
+use mathlib.Core.Bool.{Bool, true, false}
 use mathlib.Core.List.{List, [], _∷_, _++_, map, flatten}
+use mathlib.Core.Logic.{⊎-elim, _↔_}
 use mathlib.Core.Path.{_≡_, refl, sym, ap, _∙_}
 use Prim.Native.Nat.{ℕ, zero, suc, _+_, _*_, _≤_, _<_}
-use native.Mathlib.Nat.{add-zero, zero-mul, suc-mul, not-suc-le-zero, le-of-suc-le-suc}
+use native.Mathlib.Nat.{add-zero, zero-mul, suc-mul, not-suc-le-zero, le-of-suc-le-suc, eq-or-lt-of-le}
 use native.Mathlib.Omega.{arith}
 use lib.ListN.{length, take, drop, getD, replicate, length-append}
-use Rattle.format.specs.Lists.{All, done, more, ofEach}
+use Rattle.format.specs.Lists.{All, done, more, ofEach, howMany, Counts, none, one, skipped}
+use Rattle.format.proofs.Tests.{on-or-off, never, choose-true, choose-false, choose-cases}
 
 -- ---- every member
 pub all-append : {A : Type 0} {P : A → Type 0} {a b : List A} → All P a → All P b → All P (a ++ b)
@@ -100,3 +103,51 @@ module _ {A : Type 0} (f : ℕ → A) where
       let es : ofEach f (length l) (suc i) ≡ l =
       ofEach-is d l (suc i) (λ j k. let q : suc i + j ≡ i + suc j = omega arith in ap f q ∙ h (suc j) (omega arith)) in
       λ j. e j ∷ es j
+
+-- ---- how many a test says yes to
+module _ (f : ℕ → Bool) where
+  pub howMany-most : (k i : ℕ) → howMany f k i ≤ k
+  unfolding howMany
+  howMany-most zero i = omega arith
+  howMany-most (suc k) i =
+      choose-cases (λ n. n ≤ suc k) (f i) _ _ (λ e. omega (arith, howMany-most k (suc i))) (λ e. omega (arith, howMany-most k (suc i)))
+
+  -- to all of them
+  pub howMany-all : (k i : ℕ) → ((a : ℕ) → i ≤ a → a < i + k → f a ≡ true) → howMany f k i ≡ k
+  unfolding howMany
+  howMany-all zero i h = refl
+  howMany-all (suc k) i h = choose-true _ _ _ (h i (omega arith) (omega arith)) ∙ ap suc (howMany-all k (suc i) (λ a l b. h a (omega arith) (omega arith)))
+
+  pub howMany-every : (k i : ℕ) → howMany f k i ≡ k → (a : ℕ) → i ≤ a → a < i + k → f a ≡ true
+  unfolding howMany
+  howMany-every zero i e a l b = absurd (omega arith)
+  howMany-every (suc k) i e a l b =
+      ⊎-elim
+      (λ q.
+      ⊎-elim (λ m. ap f (sym m) ∙ q) (λ m. howMany-every k (suc i) (omega (arith, sym (choose-true _ _ _ q) ∙ e)) a m (omega arith)) (eq-or-lt-of-le l))
+      (λ q. absurd (omega (arith, howMany-most k (suc i), sym (choose-false _ _ _ q) ∙ e))) (on-or-off (f i))
+
+  -- the same of what is so exactly if the test says yes
+  module _ {P : ℕ → Type 0} where
+    pub howMany-counts : (k i : ℕ) → ((a : ℕ) → i ≤ a → a < i + k → (f a ≡ true) ↔ P a) → Counts P k i (howMany f k i)
+    unfolding howMany
+    howMany-counts zero i h = none
+    howMany-counts (suc k) i h =
+        let rest = howMany-counts k (suc i) (λ a l b. h a (omega arith) (omega arith)) in
+        let here = h i (omega arith) (omega arith) in
+        choose-cases (Counts P (suc k) i) (f i) _ _ (λ e. one (here .0 e) rest) (λ e. skipped (λ p. never (here .1 p) e) rest)
+
+    pub counts-is : (k i n : ℕ) → ((a : ℕ) → i ≤ a → a < i + k → (f a ≡ true) ↔ P a) → Counts P k i n → howMany f k i ≡ n
+    unfolding howMany
+    counts-is _ i _ h none = refl
+    counts-is _ i _ h (one {k = k} {n = n} p c) =
+        choose-true _ _ _ (h i (omega arith) (omega arith) .1 p) ∙ ap suc (counts-is k (suc i) n (λ a l b. h a (omega arith) (omega arith)) c)
+    counts-is _ i n h (skipped {k = k} p c) =
+        choose-false _ _ _ (⊎-elim (λ e. absurd (p (h i (omega arith) (omega arith) .0 e))) (λ e. e) (on-or-off (f i)))
+        ∙ counts-is k (suc i) n (λ a l b. h a (omega arith) (omega arith)) c
+
+-- to none of them
+pub howMany-none : (f : ℕ → Bool) (k i : ℕ) → ((a : ℕ) → i ≤ a → a < i + k → f a ≡ false) → howMany f k i ≡ 0
+unfolding howMany
+howMany-none f zero i h = refl
+howMany-none f (suc k) i h = choose-false _ _ _ (h i (omega arith) (omega arith)) ∙ howMany-none f k (suc i) (λ a l b. h a (omega arith) (omega arith))

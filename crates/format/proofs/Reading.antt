@@ -1,5 +1,5 @@
 -- An address is located, and its sector given, exactly if it names an intact item, and then it is that item. Demand 2 for reading.
-use mathlib.Core.Bool.{false}
+use mathlib.Core.Bool.{true, false}
 use mathlib.Core.List.{List, []}
 use mathlib.Core.Path.{_≡_, refl, sym, ap, _∙_, subst}
 use mathlib.Core.Logic.{_≢_, _↔_}
@@ -22,9 +22,9 @@ use Rattle.format.specs.Opening.{tableAt, kindAt, Opened, openedAs, open
 use Rattle.format.specs.Reading.{displaced, outside, entryNumber, tableEntry, unwritten, notWritten, unknown, unknownStatus, pointerAt, placeOf, itemBytes, readVerdict, pointerOf, readAt, read, locate}
 use Rattle.format.specs.Answers.{bytesRead}
 use Rattle.format.specs.Committing.{itemOf}
-use Rattle.format.specs.Facts.{PointsWith, written, dumped, HasEntry, EntryNames}
+use Rattle.format.specs.Facts.{PointsWith, written, dumped, NotWritten, HasEntry, EntryNames}
 use Rattle.format.specs.Demands.{NamesItem, ItemIs, Demand2Reading, Demand2Returned, partAt, ReadIsLocated, LocateRefusesAsRead, LocatedInside}
-use Rattle.format.proofs.Tests.{same-iff, differs-iff}
+use Rattle.format.proofs.Tests.{same-on, same-true, same-iff, differs-iff}
 use Rattle.format.proofs.Refusals.{answer-passes, answer-refuses, answer-accepted, answer-refused}
 use Rattle.format.proofs.Checks.{item-inside, read-ok, SectorOk}
 use Rattle.format.proofs.Named.{named}
@@ -51,6 +51,12 @@ points-back First _ _ (written h) = record { here = same-iff .1 h; known = refl;
 points-back Second _ _ (dumped {pointer = p} h) =
     let s : (1 * 2 ^ 28 + p) / 2 ^ 28 ≡ 1 = high 1 28 h in
     record { here = same-iff .1 (λ e. absurd (omega arith)); known = differs-iff .1 s; is = low 1 28 h }
+
+-- ---- a table entry is not written exactly if the test of it says so
+pub not-written : (img : List ℕ) (k : TableKind) (t n : ℕ) → (notWritten img (openedAs img k t) n ≡ true) ↔ NotWritten img k t n
+unfolding notWritten unwritten entryStatus tableEntry openedAs NotWritten
+not-written img First t n = (same-on _ _, same-true _ _)
+not-written img Second t n = ((λ h. let z = same-on _ _ h in omega arith), λ h. same-true _ _ (omega arith))
 
 -- ---- a table entry names an item exactly if its sector's checks pass
 module _ (img : List ℕ) (o : ℕ) (k : TableKind) (t n : ℕ) where

@@ -18,7 +18,7 @@ not-passes h = let z : _≡_ {A = ℕ} 0 1 = cc in absurd (omega arith)
 not-refuses : {r : Refusal} → Passes ≢ Refuses r
 not-refuses h = not-passes (sym h)
 
-passes-or : (v : Verdict) → (v ≡ Passes) ⊎ (v ≢ Passes)
+pub passes-or : (v : Verdict) → (v ≡ Passes) ⊎ (v ≢ Passes)
 passes-or Passes = inl refl
 passes-or (Refuses r) = inr not-passes
 
@@ -41,6 +41,11 @@ firstRefusal-iff {P} n (suc k) i e p =
       (λ h a l b. ⊎-elim (λ q. subst P q (both .0 h .0)) (λ m. both .0 h .1 a m b) (eq-or-lt-of-le l)),
       λ s. both .1 (s i (omega arith) (omega arith), λ a l b. s a (omega arith) b),
     )
+
+pub firstRefusal-same : (f g : ℕ → Verdict) (k i : ℕ) → ((a : ℕ) → i ≤ a → a < i + k → f a ≡ g a) → firstRefusal f k i ≡ firstRefusal g k i
+unfolding firstRefusal
+firstRefusal-same f g zero i h = refl
+firstRefusal-same f g (suc k) i h = rw (h i (omega arith) (omega arith), firstRefusal-same f g k (suc i) (λ a l b. h a (omega arith) (omega arith))) refl
 
 -- ---- the rest of a chain, and none of it
 pub then-rest : (v w : Verdict) → v ≡ Passes → (v then w) ≡ w
@@ -118,7 +123,7 @@ unfoldable pub Gives : ℕ → Verdict → Type 0
 Gives n Passes = ⊥
 Gives n (Refuses r) = r .number ≡ n
 
-gives : (v : Verdict) {r : Refusal} → v ≡ Refuses r → Gives (r .number) v
+pub gives : (v : Verdict) {r : Refusal} → v ≡ Refuses r → Gives (r .number) v
 unfolding Gives
 gives v {r} e = rw e
 

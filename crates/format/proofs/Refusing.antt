@@ -4,7 +4,7 @@ use Prim.{Unit, tt}
 use mathlib.Core.Bool.{Bool, true, true≢false}
 use mathlib.Core.List.{List, [], _∷_}
 use mathlib.Core.Logic.{_≢_, _⊎_, inl, inr, ⊎-elim, _↔_, Iff·rfl, Iff·trans, Iff·and}
-use mathlib.Core.Path.{_≡_, refl, sym, subst}
+use mathlib.Core.Path.{_≡_, refl, sym, _∙_, subst}
 use Prim.Native.Nat.{ℕ, zero, suc, _+_, _*_, _≤_, _<_}
 use native.Mathlib.Nat.{eq-or-lt-of-le}
 use native.Mathlib.Omega.{arith}
@@ -14,23 +14,26 @@ use Rattle.format.specs.declared.TableKind.{TableKind}
 use Rattle.format.specs.declared.TableKind.the-variants.{First, Second}
 use Rattle.format.specs.declared.Verdict.{Verdict}
 use Rattle.format.specs.declared.Verdict.the-variants.{Passes, Refuses}
-use Rattle.format.specs.Refusals.{refusal, row, _then_}
+use Rattle.format.specs.Tests.{same, differs, _and_}
+use Rattle.format.specs.Refusals.{refusal, row, _then_, refused, accepted}
 use Rattle.format.specs.Layouts.{indexOffset, indexHeaderLength, entryCount, entryLength, entries}
-use Rattle.format.specs.Opening.{headerVerdict, indexVerdict, entryVerdict, entriesVerdict, oneOf, oneVerdict, tableAt, extentVerdict, payloadVerdict, tableVerdict, openVerdict, Opened, opened, sectorCount}
-use Rattle.format.specs.Reading.{entryNumber, unknownStatus, pointerVerdict, sectorVerdict, addressVerdict, readVerdict, locate}
+use Rattle.format.specs.Opening.{headerVerdict, indexVerdict, entryVerdict, entriesVerdict, oneOf, oneVerdict, tableAt, extentVerdict, payloadVerdict, tableVerdict, openVerdict, Opened, opened, rangeOf, sectorCount}
+use Rattle.format.specs.Reading.{entryNumber, notWritten, unknownStatus, pointerVerdict, sectorVerdict, addressVerdict, readVerdict, locate}
 use Rattle.format.specs.Writing.{bufferVerdict, isSecond, writableVerdict}
 use Rattle.format.specs.Creating.{createVerdict, create}
 use Rattle.format.specs.Committing.{Appended, argumentsVerdict, anyOutside, otherThan21, sectorsVerdict, discVerdict, commitVerdict, append, commit}
 use Rattle.format.specs.RollingBack.{rollbackVerdict, rollback}
-use Rattle.format.specs.Exporting.{sizeVerdict, exportVerdict, export}
+use Rattle.format.specs.Exporting.{gapCount, sizeVerdict, fileVerdict, exactVerdict, exportVerdict, exportExact, export}
 use Rattle.format.specs.Importing.{importVerdict}
-use Rattle.format.specs.Demands.{FromTo, openingNumber, readingNumber, creatingNumber, committingNumber, rollingBackNumber, exportingNumber, importingNumber, PlaceFor, atHeader, atIndex, atEntry, atTable, atTableEntry, atBlock, atNone, NoSector, Demand1Refusals, SecondRefused}
+use Rattle.format.specs.Demands.{FromTo, openingNumber, readingNumber, creatingNumber, committingNumber, rollingBackNumber, exportingNumber, importingNumber, PlaceFor, atHeader, atIndex, atEntry, atTable, atTableEntry, atBlock, atNone, NoSector, Demand1Refusals, SecondRefused, NothingWritten, UnwrittenRefused}
 use Rattle.format.specs.Facts.{OpensWith}
-use Rattle.format.proofs.Tests.{same-iff, choose-cases}
-use Rattle.format.proofs.Refusals.{Says, row-says, off-says, then-says, after-says, first-says, says-refused, says-also, Gives, says-not, row-gives, then-gives, gives-then, answer-refused}
-use Rattle.format.proofs.Checks.{first-second, item-says, buffer-ok, arguments-ok, writable-ok, first-known}
+use Rattle.format.proofs.Tests.{never, same-on, same-true, same-iff, differs-true, differs-iff, and-on, and-true, choose-cases}
+use Rattle.format.proofs.Refusals.{firstRefusal-iff, Says, row-says, off-says, then-says, after-says, first-says, says-refused, says-also, Gives, says-not, row-gives, then-gives, gives-then, answer-passes, answer-refused}
+use Rattle.format.proofs.Lists.{howMany-all, howMany-every}
+use Rattle.format.proofs.Checks.{OpenOk, open-ok, first-second, item-says, address-ok, buffer-ok, arguments-ok, writable-ok, first-known}
 use Rattle.format.proofs.Buffers.{outcome-refused, outcome-refuses}
 use Rattle.format.proofs.Opens.{opens-with}
+use Rattle.format.proofs.Exporting.{missing-iff, range-opens, range-count, range-read}
 use Rattle.format.proofs.Importing.{import-refused}
 
 -- a number of these, at its place
@@ -193,19 +196,37 @@ unfolding rollbackVerdict
 rollback-says buffer used offset =
     then-says _ _ _ (buffer-says _ _ _ _ (inr (inr (omega arith))) (inr (inr (omega arith))) buffer used) (writable-says _ offset _ _)
 
--- every sector of the disc, 21 too; 40 and 41
-export-says : (img : List ℕ) (o : ℕ) (out : List ℕ) → Says (Listed img o (OnDisc img o) exportingNumber) (exportVerdict img o out)
-unfolding exportVerdict sizeVerdict
-export-says img o out =
-    let t : Opened = opened img o in
-    let Exporting : ℕ → ℕ → Type 0 = Listed img o (OnDisc img o) exportingNumber in
-    then-says Exporting _ _ (open-also img o (OnDisc img o) _)
-    (then-says Exporting _ _
-    (first-says Exporting _ (t .count) _ 0 (omega arith) (λ i h.
-    sector-says img o (OnDisc img o) exportingNumber (λ n f. inr (inl f)) i h (row-says Exporting _ (refusal 73 0) (inr (inr (inl refl)), atNone (inr (inr (inr (omega arith))))))))
-    (then-says Exporting _ _
-    (first-says Exporting _ (t .count) _ 0 (omega arith) (λ i h. row-says Exporting _ (refusal 40 0) (inr (inr (inr (omega arith))), atNone (inr (inr (inl (omega arith)))))))
-    (row-says Exporting _ (refusal 41 0) (inr (inr (inr (omega arith))), atNone (inr (inr (inl (omega arith))))))))
+-- every sector of the disc, and what is behind them: 40 and 41, by 9/13's rule 21 before them
+module _ (img : List ℕ) (o : ℕ) (out : List ℕ) where
+  abbrev Exporting : ℕ → ℕ → Type 0
+  Exporting = Listed img o (OnDisc img o) exportingNumber
+
+  on-disc-says : (i : ℕ) → OnDisc img o i → Says Exporting (sectorVerdict img (entries img o) (opened img o) i)
+  on-disc-says i h =
+      sector-says img o (OnDisc img o) exportingNumber (λ n f. inr (inl f)) i h (row-says Exporting _ (refusal 73 0) (inr (inr (inl refl)), atNone (inr (inr (inr (omega arith))))))
+
+  file-says : Says (λ n p. FromTo 40 41 n × (p ≡ 0)) (fileVerdict img (opened img o) out)
+  unfolding fileVerdict sizeVerdict
+  file-says =
+      then-says _ _ _ (first-says _ _ (opened img o .count) _ 0 (omega arith) (λ i h. row-says _ _ (refusal 40 0) (omega arith, refl)))
+      (row-says _ _ (refusal 41 0) (omega arith, refl))
+
+  file-also : Says Exporting (fileVerdict img (opened img o) out)
+  file-also = says-also _ (λ n p (f, e). (inr (inr (inr f)), rw e (atNone {n = n} (inr (inr (inl (omega arith))))))) file-says
+
+  exact-says : Says Exporting (exactVerdict img o out)
+  unfolding exactVerdict
+  exact-says =
+      then-says Exporting _ _ (open-also img o (OnDisc img o) _)
+      (then-says Exporting _ _ (first-says Exporting _ (opened img o .count) _ 0 (omega arith) on-disc-says) file-also)
+
+  export-says : Says Exporting (exportVerdict img o out)
+  unfolding exportVerdict sectorsVerdict
+  export-says =
+      then-says Exporting _ _ (open-also img o (OnDisc img o) _)
+      (then-says Exporting _ _
+      (first-says Exporting _ (opened img o .count) _ 0 (omega arith) (λ i h. other-says Exporting _ (says-also _ (λ n p s d. s) (on-disc-says i h))))
+      (then-says Exporting _ _ (row-says Exporting _ (refusal 21 0) (inr (inl (omega arith)), atNone (inl (omega arith)))) file-also))
 
 import-says : (buffer file : List ℕ) (size : ℕ) (application : List ℕ) (full : Bool)
     → Says (λ n p. importingNumber n × (p ≡ 0)) (importVerdict buffer file size application then row full (refusal 35 0))
@@ -218,24 +239,29 @@ import-says buffer file size application full =
     (row-says _ _ (refusal 35 0) (inr (inr (inr refl)), refl))
 
 pub demand-1-refusals : Demand1Refusals
-unfolding sectorCount locate create commit append rollback export
+unfolding sectorCount locate create commit append rollback exportExact export
 demand-1-refusals = record {
   counting = λ img r e. says-refused _ _ r (open-says img _ NoSector) (answer-refused _ _ r e);
   locating = λ img a r e. says-refused _ _ r (read-says img _ a) (answer-refused _ _ r e);
   creating = λ buffer count application major minor mediaType creationTime lastWrittenTime r e. says-refused _ _ r (create-says buffer count application) (outcome-refused _ _ _ _ r e .0);
   committing = λ buffer used addresses size sectors time r e. says-refused _ _ r (commit-says buffer used addresses size sectors _) (outcome-refused _ _ _ _ r e .0);
   rollingBack = λ buffer used offset time r e. says-refused _ _ r (rollback-says buffer used offset) (outcome-refused _ _ _ _ r e .0);
+  exportingExactly = λ img out r e. says-refused _ _ r (exact-says img _ out) (outcome-refused _ _ _ _ r e .0);
   exporting = λ img out r e. says-refused _ _ r (export-says img _ out) (outcome-refused _ _ _ _ r e .0);
   importing = λ buffer file size application major minor mediaType creationTime lastWrittenTime r e.
       says-refused _ _ r (import-says buffer file size application _) (import-refused buffer file size application major minor mediaType creationTime lastWrittenTime r e .0);
 }
 
+-- ---- a number that is none of a verdict's
+apart-from : (m : ℕ) {P : ℕ → ℕ → Type 0} (v : Verdict) (N : ℕ → Type 0) → ((n p : ℕ) → P n p → N n) → ¬ N m → Says P v → ¬ Gives m v
+apart-from m v N f apart s = says-not m v (says-also v (λ n p k e. apart (subst N e (f n p k))) s)
+
+open-not : (m : ℕ) → ¬ openingNumber m → (img : List ℕ) (o : ℕ) → ¬ Gives m (openVerdict img o)
+open-not m apart img o = apart-from m _ openingNumber (λ n p k. k .0) apart (open-says img o NoSector)
+
 -- ---- 74: no check before it gives it, and none behind it
 abbrev Not-74 : ℕ → ℕ → Type 0
 Not-74 n p = n ≢ 74
-
-apart-from : {P : ℕ → ℕ → Type 0} (v : Verdict) (N : ℕ → Type 0) → ((n p : ℕ) → P n p → N n) → ¬ N 74 → Says P v → ¬ Gives 74 v
-apart-from v N f m s = says-not 74 v (says-also v (λ n p k e. m (subst N e (f n p k))) s)
 
 second-iff : (k : TableKind) → (isSecond k ≡ true) ↔ (k ≡ Second)
 unfolding isSecond
@@ -243,14 +269,11 @@ second-iff First = (λ h. absurd (true≢false (sym h)), λ h. absurd (first-sec
 second-iff Second = (λ h. refl, λ h. refl)
 
 module _ (img : List ℕ) (o : ℕ) where
-  open-not-74 : ¬ Gives 74 (openVerdict img o)
-  open-not-74 = apart-from _ openingNumber (λ n p k. k .0) (⊎-elim (λ f. omega arith) (λ f. omega arith)) (open-says img o NoSector)
-
   writable-74 : (writableVerdict img o ≡ Refuses (refusal 74 0)) ↔ OpensWith img o Second
   unfolding writableVerdict
   writable-74 =
       let w = Iff·trans (row-gives (isSecond (opened img o .kind)) (refusal 74 0)) (second-iff _) in
-      Iff·trans (then-gives (openVerdict img o) _ (refusal 74 0) open-not-74) (Iff·trans (Iff·and Iff·rfl w) (opens-with img o Second))
+      Iff·trans (then-gives (openVerdict img o) _ (refusal 74 0) (open-not 74 (⊎-elim (λ f. omega arith) (λ f. omega arith)) img o)) (Iff·trans (Iff·and Iff·rfl w) (opens-with img o Second))
 
   -- 20, and the sectors' numbers
   rest-not-74 : (addresses : List ℤ) → ¬ Gives 74 (row (anyOutside (opened img o) addresses) (refusal 20 0) then sectorsVerdict img (entries img o) (opened img o))
@@ -271,11 +294,66 @@ pub second-refused : SecondRefused
 unfolding commit append commitVerdict rollback rollbackVerdict
 second-refused = record {
   committing = λ buffer used addresses size sectors time.
-      let u : ¬ Gives 74 (argumentsVerdict buffer used addresses size sectors) = apart-from _ (FromTo 30 35) (λ n p k. k .0) (λ f. omega arith) (arguments-say [] 0 NoSector _ (λ n f. f) buffer used addresses size sectors) in
+      let u : ¬ Gives 74 (argumentsVerdict buffer used addresses size sectors) = apart-from 74 _ (FromTo 30 35) (λ n p k. k .0) (λ f. omega arith) (arguments-say [] 0 NoSector _ (λ n f. f) buffer used addresses size sectors) in
       Iff·trans (outcome-refuses _ _ _ _ (refusal 74 0))
       (Iff·trans (then-gives _ _ (refusal 74 0) u)
       (Iff·and (arguments-ok buffer used addresses size sectors) (Iff·trans (gives-then _ _ (refusal 74 0) (says-not 74 _ (row-says _ _ (refusal 35 0) (λ e. omega arith)))) (disc-74 _ _ addresses))));
   rollingBack = λ buffer used offset time.
-      let u : ¬ Gives 74 (bufferVerdict buffer used) = apart-from _ (FromTo 30 35) (λ n p k. k .0) (λ f. omega arith) (buffer-says [] 0 NoSector _ (omega arith) (omega arith) buffer used) in
+      let u : ¬ Gives 74 (bufferVerdict buffer used) = apart-from 74 _ (FromTo 30 35) (λ n p k. k .0) (λ f. omega arith) (buffer-says [] 0 NoSector _ (omega arith) (omega arith) buffer used) in
       Iff·trans (outcome-refuses _ _ _ _ (refusal 74 0)) (Iff·trans (then-gives _ _ (refusal 74 0) u) (Iff·and (buffer-ok buffer used) (writable-74 _ offset)));
 }
+
+-- ---- 21, by 9/13's rule: no check before it gives it, and none behind it
+nothing-test : (count gaps : ℕ) → ((differs count 0 and same gaps count) ≡ true) ↔ ((count ≢ 0) × (gaps ≡ count))
+nothing-test count gaps = (
+  (λ h. let k = and-on _ _ h in ((λ z. never (k .0) (differs-iff .1 z)), same-on _ _ (k .1))),
+  λ k. and-true _ _ (differs-true _ _ (k .0)) (same-true _ _ (k .1)),
+)
+
+module _ (img out : List ℕ) where
+  abbrev i : ℕ
+  i = indexOffset img
+
+  abbrev u : Opened
+  u = opened img i
+
+  export-21 : (exportVerdict img i out ≡ Refuses (refusal 21 0))
+      ↔ (OpenOk img i × ((sectorsVerdict img (entries img i) u ≡ Passes) × ((u .count ≢ 0) × (gapCount img u ≡ u .count))))
+  unfolding exportVerdict sectorsVerdict
+  export-21 =
+      let sectors : ¬ Gives 21 (sectorsVerdict img (entries img i) u) =
+      says-not 21 _ (first-says _ _ (u .count) _ 0 (omega arith) (λ n h. other-says _ _ (says-also _ (λ n p s d. d) (on-disc-says img i out n h)))) in
+      Iff·trans (then-gives _ _ (refusal 21 0) (open-not 21 (⊎-elim (λ f. omega arith) (λ f. omega arith)) img i))
+      (Iff·and (open-ok img i)
+      (Iff·trans (then-gives _ _ (refusal 21 0) sectors)
+      (Iff·and Iff·rfl
+      (Iff·trans (gives-then _ _ (refusal 21 0) (apart-from 21 _ (FromTo 40 41) (λ n p k. k .0) (λ f. omega arith) (file-says img i out)))
+      (Iff·trans (row-gives _ (refusal 21 0)) (nothing-test _ _))))))
+
+  unwritten-forth : export img out .result ≡ refused (refusal 21 0) → NothingWritten img
+  unfolding export sectorCount rangeOf gapCount
+  unwritten-forth e =
+      let k = export-21 .0 (outcome-refuses _ _ _ _ (refusal 21 0) .0 e) in
+      let counted : sectorCount img ≡ accepted (rangeOf u) = answer-passes _ _ (open-ok img i .1 (k .0)) in
+      record {
+        range = rangeOf u;
+        sectors = counted;
+        some = k .1 .1 .0;
+        each = λ n h. sym (range-read img (rangeOf u) counted n h) ∙ missing-iff img i n .0 (howMany-every _ _ 0 (k .1 .1 .1) n (omega arith) (omega arith));
+      }
+
+  unwritten-back : NothingWritten img → export img out .result ≡ refused (refusal 21 0)
+  unfolding export gapCount sectorsVerdict
+  unwritten-back n =
+      let c : u .count ≡ n .range .count = range-count img (n .range) (n .sectors) in
+      let each : (m : ℕ) → m < u .count → notWritten img u m ≡ true =
+      λ m h. missing-iff img i m .1 (range-read img (n .range) (n .sectors) m h ∙ n .each m (omega arith)) in
+      outcome-refuses _ _ _ _ (refusal 21 0) .1
+      (export-21 .1 (
+        range-opens img (n .range) (n .sectors),
+        (firstRefusal-iff (u .count) _ 0 (omega arith) (λ m h. address-ok img (entries img i) u m) .1 (λ m l h. inl (each m h)),
+        ((λ z. n .some (sym c ∙ z)), howMany-all _ _ 0 (λ m l h. each m (omega arith)))),
+      ))
+
+pub unwritten-refused : UnwrittenRefused
+unwritten-refused img out = (unwritten-forth img out, unwritten-back img out)

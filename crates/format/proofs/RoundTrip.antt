@@ -8,7 +8,7 @@ use native.Mathlib.Omega.{arith}
 use lib.ListN.{take}
 use lib.IntN.{ℤ, _+ℤ_, +ℤ-idl}
 use Rattle.format.specs.Reading.{read}
-use Rattle.format.specs.Exporting.{export}
+use Rattle.format.specs.Exporting.{exportExact}
 use Rattle.format.specs.Importing.{import}
 use Rattle.format.specs.Demands.{ImportedExported, ExportedImported}
 use Rattle.format.proofs.Exporting.{flat-back, flat-alike, flat-sized}
@@ -22,7 +22,7 @@ imported-exported buffer bb file size application ba major minor mediaType creat
 -- ---- exported, then imported
 pub exported-imported : ExportedImported
 exported-imported img out n e size f count small buffer bb long application ba sized major minor mediaType creationTime lastWrittenTime room =
-    let file : List ℕ = take n (export img out .buffer) in
+    let file : List ℕ = take n (exportExact img out .buffer) in
     let k : Importable buffer file size application =
     record {
       long = long;

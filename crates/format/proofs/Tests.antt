@@ -21,6 +21,10 @@ on-iff false = (λ h. absurd (true≢false (sym h)), λ h. absurd h)
 pub never : {b : Bool} → b ≡ true → b ≡ false → ⊥
 never p q = true≢false (sym p ∙ q)
 
+-- where it says no, what else may be so is so
+pub off-rest : {b : Bool} {P : Type 0} → b ≡ false → (b ≡ true) ⊎ P → P
+off-rest e = ⊎-elim (λ q. absurd (never q e)) (λ q. q)
+
 pub not-iff : {b : Bool} → (not b ≡ false) ↔ (b ≡ true)
 not-iff = (not-false _, ap not)
 

@@ -7,6 +7,9 @@ use Rattle.format.specs.declared.Counted.{Counted}
 use Rattle.format.specs.declared.Counted.the-variants as count
 use Rattle.format.specs.declared.Exported.{Exported}
 use Rattle.format.specs.declared.Exported.the-variants as export
+use Rattle.format.specs.declared.ExportedExact.{ExportedExact}
+use Rattle.format.specs.declared.ExportedExact.the-variants as export-exact
+use Rattle.format.specs.declared.Flat.{Flat}
 use Rattle.format.specs.declared.Located.{Located}
 use Rattle.format.specs.declared.Located.the-variants as locate
 use Rattle.format.specs.declared.Place.{Place}
@@ -34,9 +37,13 @@ unfoldable pub updated : Updated → Answer Placed
 updated (update.To p) = accepted p
 updated (update.Refused r) = refused r
 
-unfoldable pub exported : Exported → Answer ℕ
-exported (export.Length n) = accepted n
+unfoldable pub exported : Exported → Answer Flat
+exported (export.To n) = accepted n
 exported (export.Refused r) = refused r
+
+unfoldable pub exportedExact : ExportedExact → Answer ℕ
+exportedExact (export-exact.Length n) = accepted n
+exportedExact (export-exact.Refused r) = refused r
 
 -- a call that writes: its answer, and every byte of the buffer afterwards
 unfoldable pub answered : {A : Type 0} → Answer A → List ℕ → Outcome A

@@ -4,17 +4,18 @@ use mathlib.Core.List.{List, [], _∷_, _++_}
 use mathlib.Core.Logic.{_≢_, _⊎_, _↔_}
 use mathlib.Core.Path.{_≡_}
 use Prim.Native.Nat.{ℕ, _+_, _*_, _≤_, _<_}
-use lib.ListN.{length, take, getD}
+use lib.ListN.{length, take, getD, replicate}
 use lib.IntN.{ℤ, pos, _+ℤ_}
 use Rattle.fields.specs.Bytes.{part, toLe, overwrite}
 use Rattle.format.specs.declared.AddressRange.{AddressRange}
 use Rattle.format.specs.declared.Entry.{Entry}
+use Rattle.format.specs.declared.Flat.{Flat}
 use Rattle.format.specs.declared.Place.{Place}
 use Rattle.format.specs.declared.Placed.{Placed}
 use Rattle.format.specs.declared.Refusal.{Refusal}
 use Rattle.format.specs.declared.TableKind.{TableKind}
 use Rattle.format.specs.declared.TableKind.the-variants.{First, Second}
-use Rattle.format.specs.Lists.{All, IsBytes}
+use Rattle.format.specs.Lists.{All, Counts, IsBytes}
 use Rattle.format.specs.Refusals.{refusal, Answer, refused, accepted}
 use Rattle.format.specs.Layouts.{indexOffset, indexHeaderLength, entryCount, entryLength, entryAt, entries, blockHeaderLength, sectorSize, tableCount, tableNegative}
 use Rattle.format.specs.Opening.{lacks, isType, tableAt, opened, sectorCount}
@@ -24,10 +25,10 @@ use Rattle.format.specs.Writing.{Outcome, placed}
 use Rattle.format.specs.Creating.{create}
 use Rattle.format.specs.Committing.{pieces, commit}
 use Rattle.format.specs.RollingBack.{rollback}
-use Rattle.format.specs.Exporting.{export}
+use Rattle.format.specs.Exporting.{exportExact, flat, export}
 use Rattle.format.specs.Importing.{import}
 use Rattle.format.specs.Histories.{Start, startOn, OfBytes, Call, commits, rollsBack, Point, Moment, reads, ReadTheSame, started, outcomeOf, after, atEnd, Throughout, Permitted}
-use Rattle.format.specs.Facts.{Opens, OpensWith, HasEntry, EntryNames, CreateOk, BufferOk, ArgumentsOk, DiscOk, Stores, Reindexed, blockLengthFor, blockEntry}
+use Rattle.format.specs.Facts.{Opens, OpensWith, NotWritten, HasEntry, EntryNames, CreateOk, BufferOk, ArgumentsOk, DiscOk, Stores, Reindexed, blockLengthFor, blockEntry}
 
 -- ---- Demand 1: every call refuses by 01's numbers, and says where: "number and place". (That they are given in 01's order, and exactly when their
 -- check applies, is how the calls are defined.) These are the numbers that each call gives; none is 0, so that an interface can answer 0 for "accepted".
@@ -91,6 +92,8 @@ pub record Demand1Refusals : Type 0 where
       RefusesBy committingNumber (PlaceFor img (indexOffset img) (λ a. a < opened img (indexOffset img) .count)) (commit buffer used addresses size sectors time .result)
   pub rollingBack : (buffer : List ℕ) (used offset time : ℕ)
       → RefusesBy rollingBackNumber (PlaceFor (take used buffer) offset NoSector) (rollback buffer used offset time .result)
+  pub exportingExactly : (img out : List ℕ)
+      → RefusesBy exportingNumber (PlaceFor img (indexOffset img) (λ n. n < opened img (indexOffset img) .count)) (exportExact img out .result)
   pub exporting : (img out : List ℕ)
       → RefusesBy exportingNumber (PlaceFor img (indexOffset img) (λ n. n < opened img (indexOffset img) .count)) (export img out .result)
   pub importing : (buffer file : List ℕ) (size : ℕ) (application : List ℕ) (major minor mediaType creationTime lastWrittenTime : ℕ)
@@ -105,6 +108,7 @@ pub record Demand1Unchanged : Type 0 where
       → commit buffer used addresses size sectors time .result ≡ refused r → commit buffer used addresses size sectors time .buffer ≡ buffer
   pub rollingBack : (buffer : List ℕ) (used offset time : ℕ) (r : Refusal)
       → rollback buffer used offset time .result ≡ refused r → rollback buffer used offset time .buffer ≡ buffer
+  pub exportingExactly : (img out : List ℕ) (r : Refusal) → exportExact img out .result ≡ refused r → exportExact img out .buffer ≡ out
   pub exporting : (img out : List ℕ) (r : Refusal) → export img out .result ≡ refused r → export img out .buffer ≡ out
   pub importing : (buffer file : List ℕ) (size : ℕ) (application : List ℕ) (major minor mediaType creationTime lastWrittenTime : ℕ) (r : Refusal)
       → import buffer file size application major minor mediaType creationTime lastWrittenTime .result ≡ refused r
@@ -161,8 +165,8 @@ pub record RollbackOk (buffer : List ℕ) (used offset : ℕ) : Type 0 where
   pub bufferOk : BufferOk buffer used
   pub opens : OpensWith (take used buffer) offset First
 
--- exporting: each table entry names an item, all are of one size, and n is the length of all
-pub record ExportOk (img out : List ℕ) (n : ℕ) : Type 0 where
+-- exporting by 4/13's rule: each table entry names an item, all are of one size, and n is the length of all
+pub record ExportExactOk (img out : List ℕ) (n : ℕ) : Type 0 where
   pub kind : TableKind
   pub table : ℕ
   pub opens : Opens img (indexOffset img) kind table
@@ -171,6 +175,19 @@ pub record ExportOk (img out : List ℕ) (n : ℕ) : Type 0 where
   pub sized : (i : ℕ) (h : i < tableCount img kind table) → sectorSize img (names i h .block) ≡ size
   pub whole : n ≡ tableCount img kind table * size
   pub room : n ≤ length out
+
+-- exporting: each table entry names an item or is not written, not all of them the latter unless there is none, and the items are of one size
+pub record ExportOk (img out : List ℕ) (n : Flat) : Type 0 where
+  pub kind : TableKind
+  pub table : ℕ
+  pub opens : Opens img (indexOffset img) kind table
+  pub each : (i : ℕ) → i < tableCount img kind table → NotWritten img kind table i ⊎ EntryNames img (indexOffset img) kind table i
+  pub filled : Counts (NotWritten img kind table) (tableCount img kind table) 0 (n .filled)
+  pub some : (tableCount img kind table ≡ 0) ⊎ (n .filled < tableCount img kind table)
+  pub size : ℕ
+  pub sized : (i : ℕ) → i < tableCount img kind table → (e : EntryNames img (indexOffset img) kind table i) → sectorSize img (e .block) ≡ size
+  pub whole : n .length ≡ tableCount img kind table * size
+  pub room : n .length ≤ length out
 
 -- importing: 1 to 65,536 whole sectors, and the image has room: a new one, then a block of the sectors that are stored, of which none is on the new disc,
 -- a table, and an index of two entries
@@ -198,7 +215,8 @@ pub record Demand1Accepted : Type 0 where
       → (commit buffer used addresses size sectors time .result ≡ accepted p) ↔ CommitOk buffer used addresses size sectors p
   pub rollingBack : (buffer : List ℕ) (used offset time : ℕ) (p : Placed)
       → (rollback buffer used offset time .result ≡ accepted p) ↔ (RollbackOk buffer used offset × (p ≡ placed used offset))
-  pub exporting : (img out : List ℕ) (n : ℕ) → (export img out .result ≡ accepted n) ↔ ExportOk img out n
+  pub exportingExactly : (img out : List ℕ) (n : ℕ) → (exportExact img out .result ≡ accepted n) ↔ ExportExactOk img out n
+  pub exporting : (img out : List ℕ) (n : Flat) → (export img out .result ≡ accepted n) ↔ ExportOk img out n
   pub importing : (buffer file : List ℕ) (size : ℕ) (application : List ℕ) (major minor mediaType creationTime lastWrittenTime : ℕ) (p : Placed)
       → (import buffer file size application major minor mediaType creationTime lastWrittenTime .result ≡ accepted p) ↔ ImportOk buffer file size application p
 
@@ -230,7 +248,8 @@ pub record WritesOnly : Type 0 where
       → rollback buffer used offset time .result ≡ accepted p
       → let after = rollback buffer used offset time .buffer in
       Leaves buffer after Elsewhere × HeaderSet after offset time
-  pub exporting : (img out : List ℕ) (n : ℕ) → export img out .result ≡ accepted n → Leaves out (export img out .buffer) (λ i. n ≤ i)
+  pub exportingExactly : (img out : List ℕ) (n : ℕ) → exportExact img out .result ≡ accepted n → Leaves out (exportExact img out .buffer) (λ i. n ≤ i)
+  pub exporting : (img out : List ℕ) (n : Flat) → export img out .result ≡ accepted n → Leaves out (export img out .buffer) (λ i. n .length ≤ i)
   pub importing : (buffer file : List ℕ) (size : ℕ) (application : List ℕ) (major minor mediaType creationTime lastWrittenTime : ℕ) (p : Placed)
       → import buffer file size application major minor mediaType creationTime lastWrittenTime .result ≡ accepted p
       → let after = import buffer file size application major minor mediaType creationTime lastWrittenTime .buffer in
@@ -316,20 +335,25 @@ Demand2Committing =
     → commit buffer used addresses size sectors time .result ≡ accepted p
     → CommitKept buffer used addresses size sectors p (commit buffer used addresses size sectors time .buffer)
 
--- ---- 4/13, flat sector files. `file` is the flat file of an image, whose sectors have this size: "all sectors by rising address"
-pub record FlatFile (img file : List ℕ) (size : ℕ) : Type 0 where
+-- ---- 4/13, flat sector files. `file` has a piece of this size for each address of an image, by rising address; what a read of the address answers, the piece
+-- stands for
+pub record FlatBy (Stands : Answer (List ℕ) → List ℕ → Type 0) (img file : List ℕ) (size : ℕ) : Type 0 where
   pub range : AddressRange
   pub sectors : sectorCount img ≡ accepted range
   pub whole : length file ≡ range .count * size
-  pub each : (i : ℕ) → i < range .count → read img (range .lowest .0 +ℤ pos i) ≡ accepted (part file (i * size) size)
+  pub each : (i : ℕ) → i < range .count → Stands (read img (range .lowest .0 +ℤ pos i)) (part file (i * size) size)
 
--- an accepted export that answered n: the first n bytes are the flat file
+-- the flat file of an image, whose sectors have this size: "all sectors by rising address"
+abbrev pub FlatFile : List ℕ → List ℕ → ℕ → Type 0
+FlatFile img file size = FlatBy (λ answer piece. answer ≡ accepted piece) img file size
+
+-- an accepted export by 4/13's rule that answered n: the first n bytes are the flat file
 pub record ExportedFile (img : List ℕ) (n : ℕ) (after : List ℕ) : Type 0 where
   pub size : ℕ
   pub file : FlatFile img (take n after) size
 
 abbrev pub FlatExporting : Type 0
-FlatExporting = (img out : List ℕ) (n : ℕ) → export img out .result ≡ accepted n → ExportedFile img n (export img out .buffer)
+FlatExporting = (img out : List ℕ) (n : ℕ) → exportExact img out .result ≡ accepted n → ExportedFile img n (exportExact img out .buffer)
 
 -- an accepted import of a flat file: the image is one whose flat file it is, from address 0 on
 pub record ImportedDisc (file : List ℕ) (size : ℕ) (img : List ℕ) : Type 0 where
@@ -350,7 +374,7 @@ ImportedExported =
     → (major minor mediaType creationTime lastWrittenTime : ℕ) (p : Placed)
     → let imported = import buffer file size application major minor mediaType creationTime lastWrittenTime in
     imported .result ≡ accepted p → (out : List ℕ) → length file ≤ length out
-    → export (take (p .used) (imported .buffer)) out ≡ record { result = accepted (length file); buffer = overwrite out 0 file }
+    → exportExact (take (p .used) (imported .buffer)) out ≡ record { result = accepted (length file); buffer = overwrite out 0 file }
 
 -- an import is accepted, and every address reads as in img, the lowest as 0: 11/13, "such a disc comes back with its lowest address as 0 and the others
 -- following"
@@ -363,13 +387,52 @@ pub record ImportedBack (img : List ℕ) (lowest : ℤ) (imported : Outcome Plac
 -- that is, where the import is not refused with 35
 abbrev pub ExportedImported : Type 0
 ExportedImported =
-    (img out : List ℕ) (n : ℕ) → export img out .result ≡ accepted n
-    → let file = take n (export img out .buffer) in
+    (img out : List ℕ) (n : ℕ) → exportExact img out .result ≡ accepted n
+    → let file = take n (exportExact img out .buffer) in
     (size : ℕ) (f : FlatFile img file size) → FromTo 1 65536 (f .range .count) → size ≤ 65536
     → (buffer : List ℕ) → IsBytes buffer → length buffer ≤ 4294967296 → (application : List ℕ) → IsBytes application → length application ≡ 64
     → (major minor mediaType creationTime lastWrittenTime : ℕ)
     → let imported = import buffer file size application major minor mediaType creationTime lastWrittenTime in
     imported .result ≢ refused (refusal 35 0) → ImportedBack img (f .range .lowest .0) imported
+
+-- ---- 9/13, the export that fills gaps.
+-- an address reads as 21: it is not written
+abbrev pub Missing : Answer (List ℕ) → Type 0
+Missing answer = answer ≡ refused (refusal 21 0)
+
+-- a piece of so many bytes stands for a sector: it is what a read gives, or zeros where the address is not written
+abbrev pub SectorOrZeros : ℕ → Answer (List ℕ) → List ℕ → Type 0
+SectorOrZeros size answer piece = (answer ≡ accepted piece) ⊎ (Missing answer × (piece ≡ replicate size 0))
+
+-- an accepted export that answered n: the first bytes are this file (so its pieces have the size of every written sector, the lowest too), and "how many it
+-- filled .. equals the number of addresses reading as 21"
+pub record FilledFile (img : List ℕ) (n : Flat) (after : List ℕ) : Type 0 where
+  pub size : ℕ
+  pub file : FlatBy (SectorOrZeros size) img (take (n .length) after) size
+  pub filled : Counts (λ i. Missing (read img (file .range .lowest .0 +ℤ pos i))) (file .range .count) 0 (n .filled)
+
+abbrev pub FilledExporting : Type 0
+FilledExporting = (img out : List ℕ) (n : Flat) → export img out .result ≡ accepted n → FilledFile img n (export img out .buffer)
+
+-- "A disc with nothing written still refuses with 21": it has sectors, and each address is not written. No other disc is refused so
+pub record NothingWritten (img : List ℕ) : Type 0 where
+  pub range : AddressRange
+  pub sectors : sectorCount img ≡ accepted range
+  pub some : range .count ≢ 0
+  pub each : (i : ℕ) → i < range .count → Missing (read img (range .lowest .0 +ℤ pos i))
+
+abbrev pub UnwrittenRefused : Type 0
+UnwrittenRefused = (img out : List ℕ) → (export img out .result ≡ refused (refusal 21 0)) ↔ NothingWritten img
+
+-- where nothing is missing both rules come to the same: the same bytes, none filled, or the same refusal, number and place
+unfoldable pub noneFilled : Answer ℕ → Answer Flat
+noneFilled (accepted n) = accepted (flat n 0)
+noneFilled (refused r) = refused r
+
+abbrev pub RulesAgree : Type 0
+RulesAgree =
+    (img out : List ℕ) → ((a : ℤ) → ¬ Missing (read img a))
+    → export img out ≡ record { result = noneFilled (exportExact img out .result); buffer = exportExact img out .buffer }
 
 -- ---- Demand 3: one claim over the whole list.
 -- (a) A rollback, made at m, to the offset of a point: it is accepted, it answers `used` and the offset, and right after it every address

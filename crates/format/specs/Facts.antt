@@ -99,6 +99,11 @@ pub data PointsWith : TableKind → ℕ → ℕ → Type 0 where
   written : {entry : ℕ} → entry ≢ 0 → PointsWith First entry entry
   dumped : {pointer : ℕ} → pointer < 2 ^ 28 → PointsWith Second (1 * 2 ^ 28 + pointer) pointer
 
+-- entry n of the table at t, of kind k, is not written: of the first kind it is 0, of the second its status, the upper four bits, is 0
+unfoldable pub NotWritten : List ℕ → TableKind → ℕ → ℕ → Type 0
+NotWritten img First t n = field img (t + 49 + 8 * n) 8 ≡ 0
+NotWritten img Second t n = field img (t + 82 + 4 * n) 4 < 2 ^ 28
+
 -- the data block at b, but for its checksums: checks 23 to 25. Its identifier is its index entry's fact
 pub record BlockOk (img : List ℕ) (b : ℕ) : Type 0 where
   pub head : b + blockHeaderLength ≤ length img
@@ -169,7 +174,7 @@ pub record ArgumentsOk (buffer : List ℕ) (used : ℕ) (addresses : List ℤ) (
 pub record DiscOk (img : List ℕ) (o : ℕ) (addresses : List ℤ) (t : ℕ) : Type 0 where
   pub opens : Opens img o First t
   pub inside : All (HasEntry img First t) addresses
-  pub sectors : (n : ℕ) → n < tableCount img First t → (field img (t + 49 + 8 * n) 8 ≡ 0) ⊎ EntryNames img o First t n
+  pub sectors : (n : ℕ) → n < tableCount img First t → NotWritten img First t n ⊎ EntryNames img o First t n
 
 -- which sectors are stored, behind those that are stored already, of those handed in: each that neither the old disc nor a stored one holds
 pub data Stores (Held : List ℕ → Type 0) : List (List ℕ) → List (List ℕ) → List (List ℕ) → Type 0 where

@@ -1,6 +1,8 @@
 -- Lists, as the definitions speak of them.
+use mathlib.Core.Bool.{Bool}
 use mathlib.Core.List.{List, [], _∷_}
 use Prim.Native.Nat.{ℕ, zero, suc, _<_}
+use Rattle.format.specs.Tests.{choose}
 
 -- every member of a list is so
 pub data All {A : Type 0} (P : A → Type 0) : List A → Type 0 where
@@ -21,6 +23,17 @@ pub data Only {A : Type 0} (P : A → Type 0) (a : A) : List A → Type 0 where
 unfoldable pub ofEach : {A : Type 0} → (ℕ → A) → ℕ → ℕ → List A
 ofEach f zero i = []
 ofEach f (suc k) i = f i ∷ ofEach f k (suc i)
+
+-- how many of the k numbers from i on a test says yes to
+unfoldable pub howMany : (ℕ → Bool) → ℕ → ℕ → ℕ
+howMany f zero i = 0
+howMany f (suc k) i = choose (f i) (suc (howMany f k (suc i))) (howMany f k (suc i))
+
+-- n of the k numbers from i on are so
+pub data Counts (P : ℕ → Type 0) : ℕ → ℕ → ℕ → Type 0 where
+  none : {i : ℕ} → Counts P zero i zero
+  one : {k i n : ℕ} → P i → Counts P k (suc i) n → Counts P (suc k) i (suc n)
+  skipped : {k i n : ℕ} → ¬ P i → Counts P k (suc i) n → Counts P (suc k) i n
 
 -- what a lent slice of bytes holds
 abbrev pub IsBytes : List ℕ → Type 0

@@ -80,8 +80,20 @@ pub enum Updated {
     Refused(Refusal),
 }
 
-// What exporting answers: how many bytes it wrote.
+// The flat file that an export wrote: how many bytes it has, and how many sectors of it are filled with zeros (9/13).
+pub struct Flat {
+    pub length: u64,
+    pub filled: u64,
+}
+
+// What exporting answers.
 pub enum Exported {
+    To(Flat),
+    Refused(Refusal),
+}
+
+// What exporting by 4/13's rule, which fills nothing, answers: how many bytes it wrote.
+pub enum ExportedExact {
     Length(u64),
     Refused(Refusal),
 }
