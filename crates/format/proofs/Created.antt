@@ -1,13 +1,13 @@
 -- An accepted creation: the disc is sound, and no sector of it is written.
 use mathlib.Core.Bool.{true}
 use mathlib.Core.List.{List, [], _∷_, _++_}
-use mathlib.Core.Logic.{_≢_, inl, ⊎-elim}
+use mathlib.Core.Logic.{inl}
 use mathlib.Core.Path.{_≡_, refl, ap, _∙_, subst}
 use Prim.Native.Nat.{ℕ, _+_, _*_, _≤_, _<_, zero-le}
 use native.Mathlib.Omega.{arith}
 use lib.Dec.{lit<, lit≤}
 use lib.ListN.{length, take, replicate, length-replicate, length-append}
-use lib.IntN.{ℤ, pos, +ℤ-idr}
+use lib.IntN.{pos, +ℤ-idl, +ℤ-idr}
 use Rattle.fields.specs.Bytes.{part, fromLe, field, overwrite}
 use Rattle.fields.proofs.Overwrite.{length-overwrite}
 use Rattle.fields.proofs.Holds.{Holds, holds-take, holds-overwrite, holds-part, holds-left, holds-right}
@@ -17,20 +17,21 @@ use Rattle.format.specs.Lists.{All, done, more, IsBytes}
 use Rattle.format.specs.Refusals.{accepted}
 use Rattle.format.specs.Layouts.{AARUFRMT, DDT*, tag, headerLength, applicationLength, imageMajorAt, indexOffsetAt, indexOffset, entries, headerBytes, indexBytes, tableBytes, tableHeaderLength, tableEntryLength}
 use Rattle.format.specs.Opening.{offsetsWith, isTable, Opened, opened, rangeOf, sectorCount}
-use Rattle.format.specs.Reading.{displaced, outside, entryNumber, tableEntry, unwritten, notWritten, read}
+use Rattle.format.specs.Reading.{displaced, tableEntry, unwritten, notWritten, read}
 use Rattle.format.specs.Writing.{mostSectors, longestBuffer}
 use Rattle.format.specs.Creating.{createdIndexAt, createdUsed, createdEntries, createdBytes, create}
 use Rattle.format.specs.Facts.{Identified, HeaderOk, EntryOk, CreateOk}
 use Rattle.format.specs.Demands.{FreshDisc, Demand2Creating}
-use Rattle.format.proofs.Tests.{on-or-off, same-true}
+use Rattle.format.proofs.Tests.{same-true}
 use Rattle.format.proofs.Lists.{all-take, all-drop, all-replicate}
 use Rattle.format.proofs.Refusals.{answer-passes}
-use Rattle.format.proofs.Numbers.{Numbered, inside-number, inside-flat}
-use Rattle.format.proofs.Checks.{OpenOk, open-ok, entry-21, read-20, read-numbered, Sound, created-used, create-ok}
+use Rattle.format.proofs.Numbers.{Numbered}
+use Rattle.format.proofs.Checks.{OpenOk, open-ok, entry-21, read-numbered, Sound, created-used, create-ok}
 use Rattle.format.proofs.Named.{identified-number, table-iff, offsets-yes}
 use Rattle.format.proofs.Written.{EntryFits, length-headerBytes, length-tableBytes, table-identified, table-entries, length-indexBytes, openedFirst, Opens, opens-written}
 use Rattle.format.proofs.Bytes.{bytes-overwrite, bytes-created, tag-bytes}
 use Rattle.format.proofs.Buffers.{outcome-accepted}
+use Rattle.format.proofs.Reading.{outside-refused}
 
 fromLe-zeros : (l : List ℕ) → All (λ (b : ℕ). b ≡ 0) l → fromLe l ≡ 0
 unfolding fromLe
@@ -149,20 +150,19 @@ module _ (count : ℕ) (application : List ℕ) (major minor mediaType creationT
     open-new : OpenOk y (indexOffset y)
     open-new = rw created-offset (opens .ok)
 
-    outside-new : (a : ℤ) → ((n : ℕ) → n < count → a ≢ pos n) → outside newOpened a ≡ true
-    outside-new a h =
-        ⊎-elim (λ e. e) (λ e. absurd (h (entryNumber newOpened a) (inside-number newOpened a e .inside) (inside-flat newOpened refl a e)))
-        (on-or-off (outside newOpened a))
+    sectors-new : sectorCount y ≡ accepted (record { count = count; lowest = record { 0 = pos 0 } })
+    unfolding sectorCount rangeOf
+    sectors-new = answer-passes _ _ (open-ok y _ .1 open-new) ∙ ap (λ (t : Opened). accepted (rangeOf t)) opened-new
 
     fresh : FreshDisc y count
-    unfolding sectorCount rangeOf read displaced
+    unfolding read displaced
     fresh =
         record {
-          sectors = answer-passes _ _ (open-ok y _ .1 open-new) ∙ ap (λ (t : Opened). accepted (rangeOf t)) opened-new;
+          sectors = sectors-new;
           inside = λ n k.
               let m : Numbered newOpened (pos n) n = record { is = +ℤ-idr (pos n); inside = k } in
               read-numbered y _ open-new (pos n) n (rw opened-new m) ∙ entry-21 y _ n (rw opened-new (nothing-written n k));
-          outside = λ a h. read-20 y _ open-new a (rw opened-new (outside-new a h));
+          outside = λ a h. outside-refused y _ sectors-new a (λ n k e. h n k (e ∙ +ℤ-idl (pos n)));
         }
 
 -- ---- an accepted creation, or an accepted import (Importing), that answered p and left `after`

@@ -2,15 +2,16 @@
 use mathlib.Core.Bool.{true, false}
 use mathlib.Core.List.{List, []}
 use mathlib.Core.Path.{_≡_, refl, sym, ap, _∙_, subst}
-use mathlib.Core.Logic.{_≢_, _↔_}
+use mathlib.Core.Logic.{_≢_, ⊎-elim, _↔_}
 use Prim.Native.Nat.{ℕ, _+_, _*_, _/_, _%_, _^_, _≤_}
 use native.Mathlib.Nat.{mod-lt}
 use native.Mathlib.Omega.{arith}
 use lib.ListN.{length}
-use lib.IntN.{ℤ}
+use lib.IntN.{ℤ, pos, _+ℤ_}
 use lib.Pow.{pow-pos, high, low}
 use Rattle.fields.specs.Bytes.{part}
 use Rattle.fields.proofs.Overwrite.{length-part}
+use Rattle.format.specs.declared.AddressRange.{AddressRange}
 use Rattle.format.specs.declared.Place.{Place}
 use Rattle.format.specs.declared.TableKind.{TableKind}
 use Rattle.format.specs.declared.TableKind.the-variants.{First, Second}
@@ -18,18 +19,18 @@ use Rattle.format.specs.declared.Verdict.{Verdict}
 use Rattle.format.specs.declared.Verdict.the-variants.{Passes, Refuses}
 use Rattle.format.specs.Refusals.{Answer, refused, accepted, answer}
 use Rattle.format.specs.Layouts.{DBLK, indexOffset, entries, entryStatus, entryPointer, decode, tableShift, tableAlignment}
-use Rattle.format.specs.Opening.{tableAt, kindAt, Opened, openedAs, opened}
+use Rattle.format.specs.Opening.{tableAt, kindAt, Opened, openedAs, opened, rangeOf, sectorCount}
 use Rattle.format.specs.Reading.{displaced, outside, entryNumber, tableEntry, unwritten, notWritten, unknown, unknownStatus, pointerAt, placeOf, itemBytes, readVerdict, pointerOf, readAt, read, locate}
 use Rattle.format.specs.Answers.{bytesRead}
 use Rattle.format.specs.Committing.{itemOf}
 use Rattle.format.specs.Facts.{PointsWith, written, dumped, NotWritten, HasEntry, EntryNames}
-use Rattle.format.specs.Demands.{NamesItem, ItemIs, Demand2Reading, Demand2Returned, partAt, ReadIsLocated, LocateRefusesAsRead, LocatedInside}
-use Rattle.format.proofs.Tests.{same-on, same-true, same-iff, differs-iff}
+use Rattle.format.specs.Demands.{NamesItem, ItemIs, Demand2Reading, Demand2Returned, partAt, ReadIsLocated, LocateRefusesAsRead, LocatedInside, OutsideRefused}
+use Rattle.format.proofs.Tests.{on-or-off, same-on, same-true, same-iff, differs-iff}
 use Rattle.format.proofs.Refusals.{answer-passes, answer-refuses, answer-accepted, answer-refused}
-use Rattle.format.proofs.Checks.{item-inside, read-ok, SectorOk}
+use Rattle.format.proofs.Checks.{item-inside, open-ok, read-20, read-ok, SectorOk}
 use Rattle.format.proofs.Named.{named}
 use Rattle.format.proofs.Opens.{opens-forth, opens-back, opened-as}
-use Rattle.format.proofs.Numbers.{Numbered, inside-number, number-inside, number-is}
+use Rattle.format.proofs.Numbers.{Numbered, inside-number, number-inside, number-is, address-displaced, displaced-same}
 
 -- ---- the pointer of a table entry, which is neither not written nor of another status, and the other way round
 points-forth : (k : TableKind) (entry : ℕ) → unwritten k entry ≡ false → unknown k entry ≡ false → PointsWith k entry (entryPointer k entry)
@@ -227,3 +228,21 @@ locate-refuses-as-read img a r = (
 -- ---- which lies in the image
 pub located-inside : LocatedInside
 located-inside img a p e = item-fits img a p (locating img a p .0 e)
+
+-- ---- an address that is none of the disc's
+pub outside-refused : OutsideRefused
+unfolding sectorCount read rangeOf
+outside-refused img range e a h =
+    let o : ℕ = indexOffset img in
+    let t : Opened = opened img o in
+    let r = answer-accepted _ _ range e in
+    read-20 img o (open-ok img o .0 (r .0)) a
+    (⊎-elim (λ q. q)
+    (λ q.
+    let m = inside-number t a q in
+    let count : t .count ≡ range .count = ap (λ (g : AddressRange). g .count) (r .1) in
+    let low : range .lowest .0 ≡ rangeOf t .lowest .0 = ap (λ (g : AddressRange). g .lowest .0) (sym (r .1)) in
+    absurd
+    (h (entryNumber t a) (omega (arith, m .inside))
+    (displaced-same t a _ (m .is ∙ sym (address-displaced t _ (pos (entryNumber t a)) (ap (λ (z : ℤ). z +ℤ pos (entryNumber t a)) low))))))
+    (on-or-off (outside t a)))

@@ -303,6 +303,12 @@ LocateRefusesAsRead = (img : List ℕ) (a : ℤ) (r : Refusal) → (locate img a
 abbrev pub LocatedInside : Type 0
 LocatedInside = (img : List ℕ) (a : ℤ) (p : Place) → locate img a ≡ accepted p → p .start .0 + p .size ≤ length img
 
+-- ---- the addresses of a disc: every other than those is refused with 20
+abbrev pub OutsideRefused : Type 0
+OutsideRefused =
+    (img : List ℕ) (range : AddressRange) → sectorCount img ≡ accepted range
+    → (a : ℤ) → ((n : ℕ) → n < range .count → a ≢ range .lowest .0 +ℤ pos n) → read img a ≡ refused (refusal 20 0)
+
 -- ---- a new disc: so many sectors, from address 0 on, none of them written
 pub record FreshDisc (img : List ℕ) (count : ℕ) : Type 0 where
   pub sectors : sectorCount img ≡ accepted (record { count = count; lowest = record { 0 = pos 0 } })
@@ -405,7 +411,7 @@ abbrev pub SectorOrZeros : ℕ → Answer (List ℕ) → List ℕ → Type 0
 SectorOrZeros size answer piece = (answer ≡ accepted piece) ⊎ (Missing answer × (piece ≡ replicate size 0))
 
 -- an accepted export that answered n: the first bytes are this file (so its pieces have the size of every written sector, the lowest too), and "how many it
--- filled .. equals the number of addresses reading as 21"
+-- filled .. equals the number of addresses reading as 21" (no other address reads so: `OutsideRefused`)
 pub record FilledFile (img : List ℕ) (n : Flat) (after : List ℕ) : Type 0 where
   pub size : ℕ
   pub file : FlatBy (SectorOrZeros size) img (take (n .length) after) size
