@@ -1,5 +1,5 @@
 // Internal: the checks of all sectors of an opened disc by rising address. A commit makes 74 of its table (11/13) and 20 of its addresses before them, and
-// leaves out 21; an export (4/13) gives 21 too.
+// leaves out 21, as an export does (9/13); one by 4/13's rule gives 21 too.
 //
 // Cost, with E table entries and I index entries: each data block that the index names is summed once at most, however often it is named. To
 // look blocks up takes at most E times I comparisons of numbers, and E plus I for each run of neighbours where neighbouring entries share
@@ -196,7 +196,7 @@ fn first_refused(s: &[u8], t: Opened) -> First
 }
 
 // Its refusal.
-fn sectors_verdict(s: &[u8], t: Opened) -> Verdict
+pub fn sectors_verdict(s: &[u8], t: Opened) -> Verdict
     requires { ⌜ opening (now s) ≡ accepted (contents t) ⌝ }
     ensures { λ r. ⌜ r ≡ sectorsVerdict (now (s .entry)) (entries (now (s .entry)) (indexOffset (now (s .entry)))) (contents t) ⌝ }
 {

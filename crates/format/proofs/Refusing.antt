@@ -351,8 +351,10 @@ module _ (img out : List ℕ) where
       outcome-refuses _ _ _ _ (refusal 21 0) .1
       (export-21 .1 (
         range-opens img (n .range) (n .sectors),
-        (firstRefusal-iff (u .count) _ 0 (omega arith) (λ m h. address-ok img (entries img i) u m) .1 (λ m l h. inl (each m h)),
-        ((λ z. n .some (sym c ∙ z)), howMany-all _ _ 0 (λ m l h. each m (omega arith)))),
+        (
+          firstRefusal-iff (u .count) _ 0 (omega arith) (λ m h. address-ok img (entries img i) u m) .1 (λ m l h. inl (each m h)),
+          ((λ z. n .some (sym c ∙ z)), howMany-all _ _ 0 (λ m l h. each m (omega arith))),
+        ),
       ))
 
 pub unwritten-refused : UnwrittenRefused

@@ -58,6 +58,10 @@ is-sector true p q e = let z : _≡_ {A = ℕ} 0 1 = cc in absurd (omega arith)
 is-sector false p q e = (refl, cc)
 
 module _ (img : List ℕ) (t : Opened) (a : ℕ) where
+  pub slot-gap : slot.Empty ≡ slotAt img t a → notWritten img t a ≡ true
+  unfolding slotAt
+  slot-gap e = is-empty _ _ e
+
   module _ (p : Place) (e : slot.Sector p ≡ slotAt img t a) where
     pub slot-written : notWritten img t a ≡ false
     unfolding slotAt
@@ -75,8 +79,8 @@ module _ (img : List ℕ) (t : Opened) (a : ℕ) where
 
 module _ (img : List ℕ) (t : Opened) (sector : List ℕ) (a : ℕ) where
   pub empty-other : slot.Empty ≡ slotAt img t a → holdsSector img t sector a ≡ false
-  unfolding slotAt holdsSector _and_
-  empty-other e = rw (is-empty _ _ e)
+  unfolding holdsSector _and_
+  empty-other e = rw (slot-gap img t a e)
 
   module _ (p : Place) (k : Checked img t) (h : a < t .count) (e : slot.Sector p ≡ slotAt img t a) where
     inside : p .start .0 + p .size ≤ length img

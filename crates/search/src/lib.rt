@@ -28,13 +28,13 @@ pub enum Item {
 }
 
 // What a table entry of a disc has: nothing, or a sector.
-enum Slot {
+pub enum Slot {
     Empty,
     Sector(Place),
 }
 
 // What table entry a has. It is read once.
-fn slot_at(s: &[u8], t: Opened, a: EntryNumber) -> Slot
+pub fn slot_at(s: &[u8], t: Opened, a: EntryNumber) -> Slot
     requires { ⌜ Checked (now s) (contents t) × (a .0 < contents t .count) ⌝ }
     ensures { λ r. ⌜ r ≡ slotAt (now (s .entry)) (contents t) (a .0) ⌝ }
 {

@@ -1,64 +1,56 @@
 -- `flat::export_at` meets its contract. Assumes nothing.
-use mathlib.Core.Path.{_≡_, sym}
+use mathlib.Core.Bool.{false}
+use mathlib.Core.Path.{_≡_, sym, ap, _∙_}
 use borrow.Author.Needs.{needs}
 use denote.Ref.{now}
 use Rattle.format.specs.declared.Verdict.the-variants.{Passes}
-use Rattle.format.specs.Refusals.{firstRefusal}
-use Rattle.format.specs.Exporting.{sizeVerdict}
-use Rattle.format.specs.Answers.{exported}
-use Rattle.format.proofs.Chains.{by}
+use Rattle.format.specs.Tests.{same, differs, _and_}
+use Rattle.format.specs.Refusals.{refusal}
+use Rattle.format.specs.Layouts.{indexOffset, entries}
+use Rattle.format.specs.Committing.{sectorsVerdict}
+use Rattle.format.specs.Exporting.{gapCount}
+use Rattle.format.specs.Answers.{exported, exportedExact, answered}
+use Rattle.format.proofs.Chains.{by, stop, stops, goes, on-last}
+use Rattle.format.proofs.Answers.{outcome-stops}
 use Rattle.opening.specs.Answers.{contents}
-use Rattle.flat.specs.Exports.{Whole, Uniform}
-use Rattle.flat.proofs.Sectors.{one-size}
-use Rattle.flat.proofs.Whole.{sectors-refuse, sizes-refuse, room-refuses, fits, exports}
+use Rattle.flat.proofs.Whole.{export-opened, file-refused, file-exported}
 use Rattle.flat.proofs.export_at.Statement.{statement}
 use Rattle.flat.proofs.export_at.Tie as tie
 
--- all sectors passed
-whole : (c : tie.After-enum-told) → let a = c .before .before .before .before .before .args in Whole (now (a .s)) (contents (a .t))
-whole c = (c .before .before .before .before .before .pre, sym (by (c .enum-told .given .1) (c .before .before .every-verdict .ensures)))
+-- the sectors pass, but for 21
+sectors : (c : tie.After-enum-told)
+    → let a = c .before .before .before .before .before .args in
+    Passes ≡ sectorsVerdict (now (a .s)) (entries (now (a .s)) (indexOffset (now (a .s)))) (contents (a .t))
+sectors c = by (c .enum-told .given .1) (c .before .before .sectors-verdict .ensures)
 
--- and have one size
-sized : (c : tie.After-enum-told2)
-    → let a = c .before .before .before .before .before .before .before .before .before .args in
-    Passes ≡ firstRefusal (sizeVerdict (now (a .s)) (contents (a .t))) (contents (a .t) .count) 0
-sized c = by (c .enum-told2 .given .1) (c .before .before .sizes-verdict .ensures)
-
-uniform : (c : tie.After-enum-told2) → let a = c .before .before .before .before .before .before .before .before .before .args in Uniform (now (a .s)) (contents (a .t)) (c .before .before .before .first-size .result)
-uniform c = one-size _ _ _ (whole (c .before .before .before .before)) (c .before .before .before .first-size .ensures) (sym (sized c))
+-- what the test of 21 asks
+blank : (c : tie.After-is-blank)
+    → let a = c .before .before .before .before .before .before .before .before .args in
+    c .is-blank .result ≡ (differs (contents (a .t) .count) 0 and same (gapCount (now (a .s)) (contents (a .t))) (contents (a .t) .count))
+blank c = rw (← (c .before .before .count-gaps .ensures), ← (c .before .count .ensures)) (c .is-blank .ensures)
 
 returns : tie.Need-returns
 unfolding exported
-returns c = sectors-refuse _ _ (c .before .before .before .before .before .before .pre) _ (by (c .before .v .given .1) (c .before .before .before .every-verdict .ensures))
-
-sizes-verdict-requires : tie.Need-sizes-verdict-requires
-sizes-verdict-requires c κs = (whole (c .before), c .first-size .ensures)
+returns c = outcome-stops _ _ _ (stops _ (by (c .before .v .given .1) (c .before .before .before .sectors-verdict .ensures))) ∙ export-opened _ _ (c .before .before .before .before .before .before .pre) _
 
 returns-2 : tie.Need-returns-2
 unfolding exported
-returns-2 c =
-    let w = whole (c .before .before .before .before .before) in
-    sizes-refuse _ _ (w .0) _ (sym (w .1)) (by (c .before .w .given .1) (c .before .before .before .sizes-verdict .ensures))
+returns-2 c = outcome-stops _ _ _ (goes (sectors (c .before .before .before .before)) (stop _ (by (blank (c .before)) (c .if1 .taken)))) ∙ export-opened _ _ (c .before .before .before .before .before .before .before .before .before .pre) _
+
+export-file-requires : tie.Need-export-file-requires
+export-file-requires c κs = (c .before .before .before .before .before .before .before .before .before .before .pre, sym (sectors (c .before .before .before .before .before)))
 
 returns-3 : tie.Need-returns-3
-unfolding exported
+unfolding exported exportedExact
 returns-3 c =
-    let d = c .before .before .before .before .before .before in
-    let w = whole (d .before .before .before .before) in
-    room-refuses _ _ (w .0) _ (sym (w .1)) (sized d) (uniform d) (c .before .before .before .before .before .count .ensures) (by (c .before .x .given .1) (c .before .before .before .room-verdict .ensures))
-
-put-sectors-requires : tie.Need-put-sectors-requires
-put-sectors-requires c κs =
-    let d = c .before .before .before .before .before .before in
-    (uniform d, fits _ _ (c .before .before .before .before .before .count .ensures) (by (c .before .enum-told3 .given .1) (c .before .before .before .room-verdict .ensures)))
+    file-refused _ _ (c .before .before .before .before .before .before .before .before .before .before .before .before .before .before .before .before .pre) _ (sectors (c .before .before .before .before .before .before .before .before .before .before .before)) (on-last (refusal 21 0) (by (blank (c .before .before .before .before .before .before .before .before)) (c .before .before .before .before .before .before .before .if1 .left))) _ _
+    (rw (c .before .answer .given .1) at (c .before .before .before .before .before .export-file .ensures))
 
 returns-4 : tie.Need-returns-4
-unfolding exported
+unfolding exported exportedExact
 returns-4 c =
-    let d = c .before .before .before .before .before .before .before .before .before in
-    let w = whole (d .before .before .before .before) in
-    exports _ _ (w .0) _ (sym (w .1)) (sized d) (uniform d) (c .before .before .before .before .before .before .before .before .count .ensures)
-    (by (c .before .before .before .before .enum-told3 .given .1) (c .before .before .before .before .before .before .room-verdict .ensures)) (c .before .before .put-sectors .ensures .0) (c .before .before .put-sectors .ensures .1)
+    file-exported _ _ (c .before .before .before .before .before .before .before .before .before .before .before .before .before .before .before .before .pre) _ (sectors (c .before .before .before .before .before .before .before .before .before .before .before)) (on-last (refusal 21 0) (by (blank (c .before .before .before .before .before .before .before .before)) (c .before .before .before .before .before .before .before .if1 .left))) _ _ (c .before .before .before .before .before .before .before .before .before .before .count-gaps .ensures)
+    (rw (c .before .answer2 .given .1) at (c .before .before .before .before .before .export-file .ensures))
 
 pub export-at-spec : {M : Type 1} → statement M
 export-at-spec =
@@ -68,17 +60,14 @@ export-at-spec =
     (λ c. search needs)
     returns
     (λ c. search needs)
-    (λ c κs. whole c)
-    sizes-verdict-requires
-    (λ c. search needs)
+    (λ c κs. search needs)
+    (λ c κs. search needs)
+    (λ c κs. search needs)
     returns-2
+    export-file-requires
     (λ c. search needs)
-    (λ c κs. search needs)
-    (λ c κs. search needs)
     (λ c. search needs)
     (λ c. search needs)
     returns-3
-    (λ c. search needs)
-    put-sectors-requires
     (λ c. search needs)
     returns-4)

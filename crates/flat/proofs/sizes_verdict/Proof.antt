@@ -1,4 +1,4 @@
--- `flat::sizes_verdict` meets its contract. The invariant: the sectors so far have the first one's size. Assumes nothing.
+-- `flat::sizes_verdict` meets its contract. The invariant: the written sectors so far have the lowest one's size. Assumes nothing.
 use mathlib.Core.Path.{_≡_, sym}
 use Prim.Native.Nat.{ℕ, _-_, _≤_, _<_}
 use native.Mathlib.Omega.{arith}
@@ -6,9 +6,10 @@ use borrow.Author.Count.{below-more}
 use borrow.Author.Needs.{needs}
 use Rattle.format.specs.declared.Verdict.the-variants.{Passes}
 use Rattle.format.specs.Exporting.{sizeVerdict}
+use Rattle.format.proofs.Chains.{by}
 use Rattle.opening.specs.Answers.{contents}
 use Rattle.checking.proofs.Firsts.{refused-at, refused-none}
-use Rattle.flat.proofs.Sectors.{size-same, size-other}
+use Rattle.flat.proofs.Sectors.{size-gap, size-same, size-other}
 use Rattle.flat.proofs.sizes_verdict.Statement.{statement}
 use Rattle.flat.proofs.sizes_verdict.Tie as tie
 
@@ -21,18 +22,27 @@ abbrev μ-loop : tie.MeasureT-loop
 loop-holds : tie.Need-loop-holds Inv-loop μ-loop
 loop-holds c = (omega arith, λ i l. absurd (omega arith))
 
-place-at-requires : tie.Need-place-at-requires Inv-loop μ-loop
-place-at-requires c κs = (c .before .before .before .before .pre .0, omega arith)
+slot-at-requires : tie.Need-slot-at-requires Inv-loop μ-loop
+slot-at-requires c κs = (c .before .before .before .before .pre .0, omega arith)
 
+-- in what follows d is the place at the loop's head
 returns : tie.Need-returns Inv-loop μ-loop
 returns c =
-    let d = c .before .before .before .before in
-    sym (refused-at _ _ _ _ (omega arith) (d .loop .inv .1) (size-other _ _ _ (c .before .before .place-at .ensures) (d .before .before .before .pre .1 (omega arith)) (c .if1 .taken)))
+    let d = c .before .before .before .before .before .before .before in
+    sym (refused-at _ _ _ _ (omega arith) (d .loop .inv .1)
+    (size-other _ _ _ (by (c .before .before .before .slot .given .1) (c .before .before .before .before .before .slot-at .ensures)) (d .before .before .before .pre .1) (c .if1 .taken)))
 
 loop-again : tie.Need-loop-again Inv-loop μ-loop
 loop-again c =
-    let d = c .before .before .before .before in
-    (omega arith, below-more _ _ (d .loop .inv .1) (size-same _ _ _ (c .before .before .place-at .ensures) (d .before .before .before .pre .1 (omega arith)) (c .if1 .left)))
+    let d = c .before .before .before .before .before .before .before in (
+      omega arith,
+      below-more _ _ (d .loop .inv .1)
+          (size-same _ _ _ (by (c .before .before .before .slot .given .1) (c .before .before .before .before .before .slot-at .ensures)) (d .before .before .before .pre .1) (c .if1 .left)),
+    )
+
+loop-again-2 : tie.Need-loop-again-2 Inv-loop μ-loop
+loop-again-2 c =
+    (omega arith, below-more _ _ (c .before .before .before .before .loop .inv .1) (size-gap _ _ _ (by (c .enum-told .given .1) (c .before .before .slot-at .ensures))))
 
 returns-2 : tie.Need-returns-2 Inv-loop μ-loop
 returns-2 c = sym (refused-none _ _ (λ i h. c .before .loop .inv .1 i (omega arith)))
@@ -45,9 +55,13 @@ sizes-verdict-spec =
     μ-loop
     (λ c κs. search needs)
     loop-holds
-    place-at-requires
+    slot-at-requires
+    (λ c. omega arith)
+    (λ c. search needs)
     returns
     (λ c. omega arith)
-    (λ c. omega arith)
     loop-again
+    (λ c. search needs)
+    (λ c. omega arith)
+    loop-again-2
     returns-2)
