@@ -15,7 +15,7 @@
  *     const, written. Where the length is 0 the pointer is not followed and may be null;
  *   - every other pointer points to a number of its own;
  *   - pointers to numbers, and `addresses`, are aligned as their type asks;
- *   - what a call may write, the buffer, aaru_export's `out` and the numbers behind its last pointers, overlaps nothing
+ *   - what a call may write, the buffer, an export's `out` and the numbers behind its last pointers, overlaps nothing
  *     else that it is handed, and nobody else reads or writes it during the call. What it only reads may overlap, but
  *     nobody may write it during the call.
  * The library has no heap and no state of its own; calls on different buffers may run at the same time. Compiled for
@@ -147,9 +147,24 @@ uint32_t aaru_rollback(uint8_t *buffer, size_t length, uint64_t used, uint64_t o
                        uint64_t *new_used, uint64_t *index, uint64_t *place);
 
 /*
- * Writes the image's flat file to the start of `out`: all its sectors, from the lowest address on. Later bytes of `out`
- * stay as they are. `*written` is the file's length: the size of a sector x the number of sectors, so 0 for an image of
- * no sectors.
+ * Writes the image's flat file to the start of `out`: all its sectors, from the lowest address on, and for each that is
+ * not written zeros, as many as the lowest written one has bytes. Later bytes of `out` stay as they are. `*written` is
+ * the file's length, the size of a sector x the number of sectors. `*filled` is for how many sectors zeros stand: the
+ * number of addresses that aaru_locate refuses with 21. Both are 0 for an image of no sectors.
+ * Refused with, in this order:
+ *    1 to 14 and 70 to 72, as above
+ *   22 to 27 and 73, as above: every sector of the disc is checked, by rising address, and the first that is refused
+ *      other than with 21 gives its number and place
+ *   21  the image has sectors, and none of them is written
+ *   40  the written sectors differ in size
+ *   41  the flat file is longer than `length`
+ */
+uint32_t aaru_export(const uint8_t *image, size_t used, uint8_t *out, size_t length, uint64_t *written,
+                     uint64_t *filled, uint64_t *place);
+
+/*
+ * The same where no sector may be missing: one that is not written refuses. What is accepted here, aaru_export accepts
+ * too, with the same bytes and none filled.
  * Refused with, in this order:
  *    1 to 14 and 70 to 72, as above
  *   21 to 27 and 73, as above: every sector of the disc is checked, by rising address, and the first that is refused,
@@ -157,8 +172,8 @@ uint32_t aaru_rollback(uint8_t *buffer, size_t length, uint64_t used, uint64_t o
  *   40  the sectors differ in size
  *   41  the flat file is longer than `length`
  */
-uint32_t aaru_export(const uint8_t *image, size_t used, uint8_t *out, size_t length, uint64_t *written,
-                     uint64_t *place);
+uint32_t aaru_export_exact(const uint8_t *image, size_t used, uint8_t *out, size_t length, uint64_t *written,
+                           uint64_t *place);
 
 /*
  * Makes a new image of a flat file at the start of the buffer: its sectors, of `sector_size` bytes each, at the

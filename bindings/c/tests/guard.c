@@ -140,13 +140,17 @@ struct point {
     size_t opens;
 };
 
+/* What an export does about a sector that is not written: it writes zeros, or is refused. */
+enum rule { PLAIN, EXACT, RULES };
+
 struct image {
     const char *name;
     uint64_t sectors;
     int64_t lowest;
     size_t blocks;          /* how many its index names */
     uint32_t commit;        /* how a commit is answered that has room enough */
-    uint32_t export;        /* how an export is */
+    uint32_t export[RULES]; /* how an export is, by each rule */
+    uint64_t gaps;          /* of a built image, how many sectors are not written */
     struct point points[3]; /* the one that the header names, then earlier ones */
     size_t length;
     uint8_t bytes[MOST];
@@ -156,10 +160,10 @@ struct image {
  * gets far; in the others, which are built, the index stands first and a table or a block ends the image. Payloads from
  * 128 bytes on are summed in another way than shorter ones. */
 static struct image images[] = {
-    {.name = "samples/takes.aaruf", .sectors = 16, .blocks = 4, .commit = 27, .export = 21},
-    {.name = "samples/second-table.aaruf", .sectors = 12, .lowest = -3, .blocks = 3, .commit = 74, .export = 21},
-    {.name = "a created disc", .sectors = 16, .export = 21},
-    {.name = "a disc of two takes", .sectors = 16, .blocks = 2, .export = 21},
+    {.name = "samples/takes.aaruf", .sectors = 16, .blocks = 4, .commit = 27, .export = {27, 21}},
+    {.name = "samples/second-table.aaruf", .sectors = 12, .lowest = -3, .blocks = 3, .commit = 74, .export = {73, 21}},
+    {.name = "a created disc", .sectors = 16, .export = {21, 21}},
+    {.name = "a disc of two takes", .sectors = 16, .blocks = 2, .export = {40, 21}},
     {.name = "'DDT*', a table last", .sectors = 6, .blocks = 1},
     {.name = "'DDT*', a block last", .sectors = 6, .blocks = 1},
     {.name = "'DDT*', a long table last", .sectors = 33, .blocks = 1},
@@ -168,6 +172,12 @@ static struct image images[] = {
     {.name = "'DDT2', a block last", .sectors = 8, .lowest = -2, .blocks = 1, .commit = 74},
     {.name = "'DDT2', a long table last", .sectors = 33, .lowest = -2, .blocks = 1, .commit = 74},
     {.name = "'DDT2', a long block last", .sectors = 33, .lowest = -2, .blocks = 1, .commit = 74},
+    {.name = "'DDT*', gaps, a table last", .sectors = 6, .blocks = 1, .export = {0, 21}, .gaps = 2},
+    {.name = "'DDT*', gaps, a long block last", .sectors = 33, .blocks = 1, .export = {0, 21}, .gaps = 9},
+    {.name = "'DDT2', gaps, a long table last", .sectors = 33, .lowest = -2, .blocks = 1, .commit = 74,
+     .export = {0, 21}, .gaps = 9},
+    {.name = "'DDT2', gaps, a block last", .sectors = 8, .lowest = -2, .blocks = 1, .commit = 74, .export = {0, 21},
+     .gaps = 2},
 };
 
 static const uint8_t application[NAME] = "g\0u\0a\0r\0d";
@@ -266,7 +276,22 @@ static size_t table_length(const struct image *image)
     return image->lowest == 0 ? 49 + 8 * image->sectors : 82 + 4 * image->sectors;
 }
 
-/* A table, of the second kind if the image has negative addresses, each entry of which names its item of a block. */
+/* Whether a built image's sector is not written: if it has gaps, every fourth from the lowest on. */
+static int is_gap(const struct image *image, uint64_t entry)
+{
+    return image->gaps > 0 && entry % 4 == 0;
+}
+
+/* The entry with a pointer, or one of a gap. 'DDT2' has a status beside the pointer, of which 0 makes a gap. */
+static uint64_t entry_of(const struct image *image, uint64_t entry, uint64_t pointer)
+{
+    if (image->lowest == 0)
+        return is_gap(image, entry) ? 0 : pointer;
+    return is_gap(image, entry) ? pointer : pointer + (1u << 28);
+}
+
+/* A table, of the second kind if the image has negative addresses, each entry of which names its item of a block, but
+ * for gaps. */
 static void put_table(uint8_t *at, const struct image *image, size_t block)
 {
     int second = image->lowest != 0;
@@ -285,7 +310,7 @@ static void put_table(uint8_t *at, const struct image *image, size_t block)
     put(at + header - 32, 8, length);
     put(at + header - 24, 8, length);
     for (uint64_t entry = 0; entry < image->sectors; entry++)
-        put(at + header + width * entry, width, (second ? 1u << 28 : 0) + (block << shift) + entry);
+        put(at + header + width * entry, width, entry_of(image, entry, (block << shift) + entry));
     put_sums(at + header, length);
 }
 
@@ -363,27 +388,44 @@ static void locate(const struct image *image, size_t length)
     }
 }
 
-/* The flat file of a built image is its block's payload: every entry names its item. */
+/* The flat file of a built image is its block's payload, with zeros in gaps: every other entry names its item. */
 static size_t flat_length(const struct image *image)
 {
     return SIZE * image->sectors;
 }
 
+static uint8_t flat_byte(const struct image *image, size_t at)
+{
+    return is_gap(image, at / SIZE) ? 0 : (uint8_t)at;
+}
+
+/* The exact one answers one number. */
+static uint32_t call_export(enum rule rule, const uint8_t *image, size_t used, uint8_t *out, size_t room,
+                            struct numbers numbers)
+{
+    if (rule == EXACT) {
+        call = "aaru_export_exact";
+        return aaru_export_exact(image, used, out, room, numbers.first, numbers.place);
+    }
+    call = "aaru_export";
+    return aaru_export(image, used, out, room, numbers.first, numbers.second, numbers.place);
+}
+
 /* An export of the image's first bytes to so many others. */
-static void export_to(const struct image *image, size_t length, size_t room)
+static void export_by(enum rule rule, const struct image *image, size_t length, size_t room)
 {
     static uint8_t before[MOST];
     const uint8_t *lent = lend(&image_pages, image->bytes, length, 1);
     struct numbers numbers = lend_numbers();
     size_t file = flat_length(image);
     uint8_t *out;
-    uint32_t number, whole = image->export != 0 ? image->export : room < file ? 41 : 0;
+    uint32_t number, whole = image->export[rule] != 0 ? image->export[rule] : room < file ? 41 : 0;
 
     memset(before, 0xA5, room);
     out = lend(&sector_pages, before, room, 1);
-    numbers.second = NULL;
-    call = "aaru_export";
-    number = aaru_export(lent, length, out, room, numbers.first, numbers.place);
+    if (rule == EXACT)
+        numbers.second = NULL;
+    number = call_export(rule, lent, length, out, room, numbers);
     answered(number, numbers);
     if (length == image->length)
         expect(number == whole, "as the image and the room are");
@@ -391,11 +433,18 @@ static void export_to(const struct image *image, size_t length, size_t room)
         expect(number != 0 && number != 41, "refused for the image if it is cut");
     if (number == 0) {
         expect(*numbers.first == file, "the file's length");
+        expect(rule == EXACT || *numbers.second == image->gaps, "as many filled as there are gaps");
         for (size_t i = 0; i < file; i++)
-            expect(out[i] == (uint8_t)i, "the sectors one after another");
+            expect(out[i] == flat_byte(image, i), "the sectors one after another, with zeros in gaps");
     }
     expect(same(out, before, number == 0 ? file : 0, room), "bytes behind the file, or all, left as they were");
     expect(same(lent, image->bytes, 0, length), "an image left as it was");
+}
+
+static void export_to(const struct image *image, size_t length, size_t room)
+{
+    export_by(PLAIN, image, length, room);
+    export_by(EXACT, image, length, room);
 }
 
 static void export(const struct image *image, size_t length)

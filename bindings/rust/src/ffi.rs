@@ -60,6 +60,15 @@ extern "C" {
         out: *mut u8,
         length: usize,
         written: *mut u64,
+        filled: *mut u64,
+        place: *mut u64,
+    ) -> u32;
+    pub fn aaru_export_exact(
+        image: *const u8,
+        used: usize,
+        out: *mut u8,
+        length: usize,
+        written: *mut u64,
         place: *mut u64,
     ) -> u32;
     pub fn aaru_import(

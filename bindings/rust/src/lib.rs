@@ -14,6 +14,9 @@
 //! assert_eq!(aaru::sector_count(image)?.count, 16);
 //! assert_eq!(aaru::read(image, 5)?.bytes, b"BBBB");
 //! assert_eq!(aaru::read(image, 1).unwrap_err().number, 21); // not written
+//! let mut out = [7; 64];
+//! assert_eq!(aaru::export(image, &mut out)?, aaru::Flat { length: 64, filled: 14 });
+//! assert_eq!(out[12..28], *b"\0\0\0\0\0\0\0\0BBBB\0\0\0\0");
 //! let refusal = aaru::rollback(&mut buffer, take.used, 104, 2).unwrap_err();
 //! assert_eq!((refusal.number, refusal.place), (5, 104)); // a table there, no index
 //!
@@ -21,8 +24,7 @@
 //! let (major, minor, media_type) = (1, 0, 3);
 //! let about = aaru::Import { flat, sector_size: 4, application, major, minor, media_type, created: 0, written: 2 };
 //! let made = aaru::import(&mut buffer, &about)?;
-//! let mut out = [0; 20];
-//! assert_eq!(aaru::export(&buffer[..made.used as usize], &mut out)?, 12);
+//! assert_eq!(aaru::export_exact(&buffer[..made.used as usize], &mut out)?, 12);
 //! assert_eq!(out[..12], flat[..]);
 //! # Ok::<(), aaru::Refusal>(())
 //! ```
@@ -217,13 +219,45 @@ pub fn rollback(buffer: &mut [u8], used: u64, offset: u64, time: u64) -> Result<
     answer(number, place, placed)
 }
 
-/// Writes all sectors, by rising address, to the start of `out`, and answers how many bytes they are. Refused with
-/// 1 to 14, 70 to 72, 21 to 27, 73, 40, 41.
-pub fn export(image: &[u8], out: &mut [u8]) -> Result<u64, Refusal> {
-    let (mut written, mut place) = (0, 0);
+/// A flat file as it was written: its length in bytes, and how many sectors zeros stand in for.
+#[derive(Clone, Copy, Debug, PartialEq, Eq)]
+pub struct Flat {
+    pub length: u64,
+    pub filled: u64,
+}
+
+/// Writes all sectors, by rising address, to the start of `out`, with zeros for each that is not written. Refused with
+/// 1 to 14, 70 to 72, 22 to 27, 73, 21, 40, 41.
+pub fn export(image: &[u8], out: &mut [u8]) -> Result<Flat, Refusal> {
+    let (mut flat, mut place) = (
+        Flat {
+            length: 0,
+            filled: 0,
+        },
+        0,
+    );
     // SAFETY: both slices are valid for their lengths, `out` is borrowed alone, and the numbers are parts of neither.
     let number = unsafe {
         ffi::aaru_export(
+            image.as_ptr(),
+            image.len(),
+            out.as_mut_ptr(),
+            out.len(),
+            &mut flat.length,
+            &mut flat.filled,
+            &mut place,
+        )
+    };
+    answer(number, place, flat)
+}
+
+/// The same where every sector has to be written, and answers how many bytes they are. Refused with 1 to 14, 70 to 72,
+/// 21 to 27, 73, 40, 41.
+pub fn export_exact(image: &[u8], out: &mut [u8]) -> Result<u64, Refusal> {
+    let (mut written, mut place) = (0, 0);
+    // SAFETY: as for `export`.
+    let number = unsafe {
+        ffi::aaru_export_exact(
             image.as_ptr(),
             image.len(),
             out.as_mut_ptr(),

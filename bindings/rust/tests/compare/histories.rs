@@ -2,14 +2,15 @@
 //! the comparison, what each call promises about the disc is checked from outside.
 
 use crate::arguments::{self, outside, with_room, SIZES};
+use crate::exports::{as_it_reads, Read};
 use crate::images::Description;
 use crate::layout::{Kind, Layout, CREATED, INDEX, INDEX_ENTRY};
 use crate::random::Random;
 use crate::sides::{refused, Answer, Call, Commit, Sides};
 use aaru::Refusal;
 
-/// How a disc reads: for every address and some that no disc has, the bytes or the refusal.
-type Reading = Vec<Result<Vec<u8>, Refusal>>;
+/// How a disc reads, at every address and some that no disc has.
+type Reading = Vec<Read>;
 
 fn reading(image: &[u8]) -> Reading {
     let range = aaru::sector_count(image).expect("a disc of a history opens");
@@ -214,28 +215,10 @@ impl History<'_> {
         assert_eq!(self.now, then);
     }
 
-    /// Into the room behind the image. Must give the sectors as they read, one after another, or what
-    /// refuses first: a sector by rising address, sizes that differ, too little room.
+    /// Into the room behind the image.
     fn export(&mut self) {
-        let answer = self.sides.run(&self.buffer, self.used, &Call::Export);
-        let reads = self.now[..self.count as usize].iter().cloned();
-        let sectors: Vec<Vec<u8>> = match reads.collect() {
-            Ok(sectors) => sectors,
-            Err(refusal) => return assert_eq!(answer, Err(refusal)),
-        };
-        let flat = sectors.concat();
-        let room = self.buffer.len() - self.used as usize;
-        let even = sectors
-            .iter()
-            .all(|sector| sector.len() == sectors[0].len());
-        match even {
-            false => assert_eq!(answer, refused(40)),
-            true if flat.len() > room => assert_eq!(answer, refused(41)),
-            true => {
-                assert_eq!(answer, Ok((flat.len() as u64, 0)));
-                assert!(self.sides.left()[self.used as usize..].starts_with(&flat));
-            }
-        }
+        let reads = &self.now[..self.count as usize];
+        as_it_reads(self.sides, &self.buffer, self.used, reads);
     }
 
     fn go_everywhere(&mut self, random: &mut Random) {

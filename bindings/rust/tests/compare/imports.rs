@@ -6,7 +6,7 @@ use crate::arguments::{self, with_room, SIZES};
 use crate::exports;
 use crate::layout::{APPLICATION, CREATED};
 use crate::random::Random;
-use crate::sides::{raw, refused, Call, Commit, Create, Import, Sides};
+use crate::sides::{raw, refused, Call, Commit, Create, Import, Sides, RULES};
 
 pub fn run(sides: &mut Sides, seed: u64, files: usize) {
     let mut random = Random::new(seed);
@@ -91,10 +91,12 @@ pub fn in_every_buffer(sides: &mut Sides, import: &Import, buffer: &[u8], random
     assert_eq!(sides.run(&buffer[..needed], 0, &call), answer);
 
     let buffer = with_room(&image, length + 3, random);
-    let answer = exports::in_every_room(sides, &buffer, used);
-    assert_eq!(answer, Ok((length as u64, 0)));
-    sides.compare(&buffer, used, &Call::Export);
-    assert!(sides.left()[needed..].starts_with(&import.flat));
+    let answers = exports::in_every_room(sides, &buffer, used);
+    assert_eq!(answers, [Ok((length as u64, 0)); 2]);
+    for rule in RULES {
+        sides.compare(&buffer, used, &Call::Export(rule));
+        assert!(sides.left()[needed..].starts_with(&import.flat));
+    }
 }
 
 fn every_buffer(sides: &mut Sides, size: usize, random: &mut Random) {

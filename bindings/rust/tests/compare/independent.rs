@@ -1,10 +1,10 @@
 //! Document 01 in plain Rust, in the paper's order: layouts, checksum, opening, reading, creating,
-//! committing, rolling back; then the flat files of 4/13. Each refusal carries the place that
+//! committing, rolling back; then the flat files of 4/13 and 9/13. Each refusal carries the place that
 //! request 1/13 gives it; the header is that of 2/13; tables are of both kinds of 11/13, and
 //! addresses are signed. All is written from the papers alone and shares no code with the library;
 //! it is there to compare the library with.
 
-use aaru::{AddressRange, Creation, Import, Refusal};
+use aaru::{AddressRange, Creation, Flat, Import, Refusal};
 use std::collections::BTreeMap;
 
 // Layouts.
@@ -764,22 +764,52 @@ fn set_header(buffer: &mut [u8], index_offset: u64, time: u64) {
     buffer[LAST_WRITTEN_TIME..LAST_WRITTEN_TIME + 8].copy_from_slice(&time.to_le_bytes());
 }
 
-// Flat sector files in and out (4/13).
+// Flat sector files in and out (4/13, with the filled gaps of 9/13).
 
-/// "Export fills the front of a lent buffer and reports the length; an unwritten sector refuses with
-/// 21." Order: "opening's numbers, then the sectors' by rising address, then 40, sizes differ, then
-/// 41, buffer too short".
-pub fn export(image: &[u8], out: &mut [u8]) -> Result<u64, Refusal> {
+/// "The plain call now writes zeros of the size of the lowest written sector for each unwritten one
+/// and reports how many it filled" (9/13). Order: opening's numbers, the sectors' other than 21; "a
+/// disc with nothing written still refuses with 21"; 40, 41.
+pub fn export(image: &[u8], out: &mut [u8]) -> Result<Flat, Refusal> {
+    let reads = sectors_of(image)?.into_iter();
+    let sectors = reads.map(|read| match read {
+        Err(refused) if refused.number == 21 => Ok(None),
+        read => read.map(Some),
+    });
+    let sectors: Vec<Option<&[u8]>> = sectors.collect::<Result<_, _>>()?;
+    let unwritten = sectors.iter().filter(|sector| sector.is_none()).count();
+    if unwritten > 0 && unwritten == sectors.len() {
+        return Err(refusal(21));
+    }
+    Ok(Flat {
+        length: write_flat(&sectors, out)?,
+        filled: unwritten as u64,
+    })
+}
+
+/// The former rule: "an unwritten sector refuses with 21". Order: "opening's numbers, then the
+/// sectors' by rising address, then 40, sizes differ, then 41, buffer too short". Gives the length.
+pub fn export_exact(image: &[u8], out: &mut [u8]) -> Result<u64, Refusal> {
+    let reads = sectors_of(image)?.into_iter();
+    let sectors: Vec<Option<&[u8]>> = reads.map(|read| read.map(Some)).collect::<Result<_, _>>()?;
+    write_flat(&sectors, out)
+}
+
+/// What a read of each address gives, by rising address: entry 0 is that of the lowest.
+fn sectors_of(image: &[u8]) -> Result<Vec<Result<&[u8], Refusal>>, Refusal> {
     let disc = open_disc(image)?;
     let mut right = BTreeMap::new();
-    // Entry 0 is that of the lowest address.
     let sectors = (0..disc.table.count).map(|number| {
         let (place, size) = read(&disc, number, &mut right)?;
         Ok(&image[place as usize..(place + size) as usize])
     });
-    let sectors: Vec<&[u8]> = sectors.collect::<Result<_, _>>()?;
-    let mut sizes = sectors.iter().map(|sector| sector.len());
-    // With no sector at all there is no size, and nothing to write.
+    Ok(sectors.collect())
+}
+
+/// Checks 40 and 41, then "fills the front of a lent buffer" with the sectors, zeros where there is
+/// none, "and reports the length".
+fn write_flat(sectors: &[Option<&[u8]>], out: &mut [u8]) -> Result<u64, Refusal> {
+    let mut sizes = sectors.iter().flatten().map(|sector| sector.len());
+    // "A disc of no sectors gives length 0": there is no size, and nothing to write.
     let Some(size) = sizes.next() else {
         return Ok(0);
     };
@@ -790,7 +820,10 @@ pub fn export(image: &[u8], out: &mut [u8]) -> Result<u64, Refusal> {
         return Err(refusal(41));
     }
     for (sector, room) in sectors.iter().zip(out.chunks_exact_mut(size)) {
-        room.copy_from_slice(sector);
+        match sector {
+            Some(sector) => room.copy_from_slice(sector),
+            None => room.fill(0),
+        }
     }
     Ok((size * sectors.len()) as u64)
 }
@@ -1488,7 +1521,7 @@ mod tests {
         assert_eq!(table(image), (1, vec![426, 427, 426]));
 
         let mut out = [0xEE; 15];
-        assert_eq!(export(image, &mut out), Ok(12));
+        assert_eq!(export_by_both(image, &mut out), Ok(12));
         assert_eq!(&out, b"AAAABBBBAAAA\xEE\xEE\xEE");
         for length in [381, 382] {
             let mut buffer = vec![0xEE; length];
@@ -1527,10 +1560,26 @@ mod tests {
         }
     }
 
+    fn flat(length: u64, filled: u64) -> Flat {
+        Flat { length, filled }
+    }
+
+    /// An export where both rules have to give the same.
+    fn export_by_both(image: &[u8], out: &mut [u8]) -> Result<u64, Refusal> {
+        let mut exact = out.to_vec();
+        let result = export_exact(image, &mut exact);
+        let plain = export(image, out);
+        assert_eq!(plain, result.map(|length| flat(length, 0)));
+        assert_eq!(out, exact);
+        result
+    }
+
     #[test]
     fn refused_exports() {
         let mut out = [0xEE; 20];
-        assert_eq!(export(&p2()[..382], &mut out), Err(refusal(21)));
+        let export = export_by_both;
+        assert_eq!(export(&p1()[..213], &mut out), Err(refusal(21)));
+        assert_eq!(export(&p1()[..213], &mut []), Err(refusal(21)));
         assert_eq!(export(&p3()[..507], &mut out[..11]), Err(refusal(41)));
         assert_eq!(export(&p3()[..507], &mut []), Err(refusal(41)));
         // Another size at the last address, then its first sector's block damaged as well.
@@ -1555,31 +1604,73 @@ mod tests {
         put_index(&mut image, &[user_data(DDT, HEADER)]);
         set_header(&mut image, HEADER + 49, 4);
         let mut out = [0xEE; 3];
-        assert_eq!(export(&image, &mut out), Ok(0));
+        assert_eq!(export_by_both(&image, &mut out), Ok(0));
         assert_eq!(out, [0xEE; 3]);
-        assert_eq!(export(&image, &mut []), Ok(0));
+        assert_eq!(export_by_both(&image, &mut []), Ok(0));
     }
 
-    /// What is refused is mended by rising address, from the lowest on.
+    /// Gaps in the middle (P2), then at both ends, which a damaged block leaves refused.
+    #[test]
+    fn filled_gaps() {
+        let mut out = [0xEE; 14];
+        let image = &p2()[..382];
+        assert_eq!(export_exact(image, &mut out), Err(refusal(21)));
+        assert_eq!(export(image, &mut out[..11]), Err(refusal(41)));
+        assert_eq!(out, [0xEE; 14]);
+        assert_eq!(export(image, &mut out), Ok(flat(12, 1)));
+        assert_eq!(&out, b"AAAA\0\0\0\0BBBB\xEE\xEE");
+
+        let mut out = [0xEE; 10];
+        let mut buffer = p1();
+        let (used, _) = commit(&mut buffer, 213, &[1], 3, b"CCC", 7).unwrap();
+        let image = &mut buffer[..used as usize];
+        assert_eq!(export(image, &mut out), Ok(flat(9, 2)));
+        assert_eq!(&out, b"\0\0\0CCC\0\0\0\xEE");
+        image[213 + 28] ^= 1;
+        assert_eq!(export(image, &mut []), Err(refusal_at(27, 213)));
+        assert_eq!(export_exact(image, &mut []), Err(refusal(21)));
+    }
+
+    /// The lowest written sector has 3 bytes, the other one 4.
+    #[test]
+    fn gap_and_sizes() {
+        let mut buffer = p1();
+        let (used, _) = commit(&mut buffer, 213, &[1], 3, b"CCC", 7).unwrap();
+        let (used, _) = commit(&mut buffer, used, &[2], 4, b"BBBB", 8).unwrap();
+        let (image, mut out) = (&buffer[..used as usize], [0xEE; 14]);
+        assert_eq!(export(image, &mut out), Err(refusal(40)));
+        assert_eq!(export(image, &mut []), Err(refusal(40)));
+        assert_eq!(export_exact(image, &mut out), Err(refusal(21)));
+        assert_eq!(out, [0xEE; 14]);
+    }
+
+    /// What the plain rule refuses is mended first, then what it fills; the exact one meets that
+    /// before.
     #[test]
     fn export_of_second_kind() {
         let mut image = second();
         let entries = SECOND_TABLE + 82;
         let mut out = [0xEE; 20];
-        for (entry, mended, refused) in [
-            (1, 0x1000_0021u32, refusal(21)),
-            (3, 0x1000_0022, refusal(73)),
-            (4, 0x1000_0020, refusal(40)),
+        for (entry, mended, plain) in [
+            (3, 0x1000_0022u32, Err(refusal(73))),
+            (4, 0x1000_0020, Err(refusal(40))),
+            (1, 0x1000_0021, Ok(flat(20, 1))),
         ] {
-            assert_eq!(export(&image, &mut out), Err(refused));
+            assert_eq!(export_exact(&image, &mut out), Err(refusal(21)));
+            assert_eq!(out, [0xEE; 20]);
+            assert_eq!(export(&image, &mut out), plain);
+            if plain.is_ok() {
+                assert_eq!(&out, b"AAAA\0\0\0\0CCCCCCCCAAAA");
+                out = [0xEE; 20];
+            }
             let at = entries + 4 * entry;
             image[at..at + 4].copy_from_slice(&mended.to_le_bytes());
             let sum = checksum(&image[entries..entries + 20]).to_le_bytes();
             image[entries - 16..entries].copy_from_slice(&[sum, sum].concat());
         }
-        assert_eq!(export(&image, &mut out[..19]), Err(refusal(41)));
+        assert_eq!(export_by_both(&image, &mut out[..19]), Err(refusal(41)));
         assert_eq!(out, [0xEE; 20]);
-        assert_eq!(export(&image, &mut out), Ok(20));
+        assert_eq!(export_by_both(&image, &mut out), Ok(20));
         assert_eq!(&out, b"AAAABBBBCCCCCCCCAAAA");
     }
 }

@@ -7,7 +7,7 @@ use crate::images::Description;
 use crate::imports;
 use crate::layout::{get, Kind, Layout};
 use crate::random::Random;
-use crate::sides::{refused, Call, Commit, Sides};
+use crate::sides::{refused, Call, Commit, Rule, Sides};
 
 pub fn run(sides: &mut Sides, seed: u64) {
     let mut random = Random::new(seed);
@@ -154,8 +154,8 @@ fn most_imported(sides: &mut Sides, random: &mut Random) {
     }
 }
 
-/// A disc of 65,537 sectors that are all one of 65,536 bytes: its length has more than 32 bits, of
-/// which the lower ones name less than the room.
+/// A disc of 65,537 sectors, the first of 65,536 bytes and the others not written, then all the same
+/// one: its length has more than 32 bits, of which the lower ones name less than the room.
 fn longest_export(sides: &mut Sides, random: &mut Random) {
     let size = 65_536;
     let (mut buffer, used) = created(sides, 1_300_000, size as u64 + 1, random);
@@ -167,13 +167,16 @@ fn longest_export(sides: &mut Sides, random: &mut Random) {
     });
     let answer = sides.run_on(&mut buffer, used, &commit);
     let (used, _) = answer.expect("room enough");
+    assert!(buffer.len() - used as usize > size);
+    let answers = in_every_room(sides, &buffer, used);
+    assert_eq!(answers, [refused(41), refused(21)]);
+
     let image = &mut buffer[..used as usize];
     let layout = Layout::of(image);
     let entry = get(image, layout.table_entry(0), 8);
     let entries = (0..layout.count).map(|number| Field(layout.table_entry(number), 8, entry));
     edit_image(image, &layout, &entries.collect::<Vec<_>>());
-    assert!(buffer.len() - used as usize > size);
-    assert_eq!(in_every_room(sides, &buffer, used), refused(41));
+    assert_eq!(in_every_room(sides, &buffer, used), [refused(41); 2]);
 }
 
 /// Sectors that are longer than an import's, made of two each.
@@ -197,10 +200,10 @@ fn longer_sectors(sides: &mut Sides, random: &mut Random) {
     ];
     edit_image(image, &layout, &fault);
     let length = 4 * size;
-    let answer = in_every_room(sides, &buffer, used);
-    assert_eq!(answer, Ok((length as u64, 0)));
+    let answers = in_every_room(sides, &buffer, used);
+    assert_eq!(answers, [Ok((length as u64, 0)); 2]);
 
-    sides.compare(&buffer, used, &Call::Export);
+    sides.compare(&buffer, used, &Call::Export(Rule::Exact));
     let mut import = arguments::import(random, 0, 2 * size);
     import.flat = sides.left()[used as usize..][..length].to_vec();
     assert_eq!(sides.run(&buffer, 0, &Call::Import(import)), refused(30));
@@ -222,19 +225,40 @@ fn more_than_imported(sides: &mut Sides, random: &mut Random) {
     let size = read(0).bytes.len();
     let length = size * layout.count;
     let buffer = with_room(&image, length + 5, random);
-    let answer = in_every_room(sides, &buffer, used);
-    assert_eq!(answer, Ok((length as u64, 0)));
+    let answers = in_every_room(sides, &buffer, used);
+    assert_eq!(answers, [Ok((length as u64, 0)); 2]);
 
-    sides.compare(&buffer, used, &Call::Export);
+    sides.compare(&buffer, used, &Call::Export(Rule::Exact));
     let flat = sides.left()[image.len()..][..length].to_vec();
     let any: Vec<usize> = (0..30).map(|_| random.below(layout.count)).collect();
     for number in [0, 1, 65_534, 65_535, 65_536].into_iter().chain(any) {
         assert_eq!(flat[size * number..][..size], *read(number).bytes);
     }
+    one_left(sides, &buffer, &flat, &layout, random);
     if kind == Kind::Old {
         let mut import = arguments::import(random, 0, size);
         import.flat = flat;
         let call = Call::Import(import);
         assert_eq!(sides.run(&buffer, 0, &call), refused(30));
+    }
+}
+
+/// All sectors of a disc with this flat file but one become not written: more than 16 bits can count.
+fn one_left(sides: &mut Sides, disc: &[u8], flat: &[u8], layout: &Layout, random: &mut Random) {
+    let (used, size) = (layout.length, flat.len() / layout.count);
+    for left in [0, 1 + random.below(layout.count - 2), layout.count - 1] {
+        let mut buffer = disc.to_vec();
+        let missing = (0..layout.count).filter(|&number| number != left);
+        let edits = missing.map(|number| Field(layout.table_entry(number), layout.kind.width(), 0));
+        edit_image(&mut buffer[..used], layout, &edits.collect::<Vec<_>>());
+        let filled = Ok((flat.len() as u64, layout.count as u64 - 1));
+        let answers = in_every_room(sides, &buffer, used as u64);
+        assert_eq!(answers, [filled, refused(21)]);
+
+        sides.compare(&buffer, used as u64, &Call::Export(Rule::Plain));
+        let mut zeros = vec![0; flat.len()];
+        let sector = size * left..size * (left + 1);
+        zeros[sector.clone()].copy_from_slice(&flat[sector]);
+        assert!(sides.left()[used..].starts_with(&zeros));
     }
 }

@@ -47,7 +47,7 @@ fn cut_everywhere(sides: &mut Sides, image: &[u8], random: &mut Random) {
         sides.compare(&buffer[..image.len()], used, &commit);
         let time = random.number();
         sides.compare(&buffer, used, &Call::Rollback { offset, time });
-        sides.compare(&buffer, used, &Call::Export);
+        exports::compare(sides, &buffer, used);
     }
 }
 

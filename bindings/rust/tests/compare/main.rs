@@ -98,7 +98,7 @@ fn null_pointers_to_nothing() {
     let (start, length) = (buffer.as_mut_ptr(), buffer.len());
     let (mut a, mut b) = (0, 0);
     // One for each call: a refused one sets it.
-    let mut places = [7; 7];
+    let mut places = [7; 8];
     // SAFETY: those pointers that are not null are valid for their lengths and apart from others.
     unsafe {
         let mut lowest = 0;
@@ -139,8 +139,10 @@ fn null_pointers_to_nothing() {
             &mut places[4],
         );
         assert_eq!((no_sectors, a), (0, used + 109));
-        let export = aaru_export(nothing.0, 0, nothing.1, 0, &mut a, &mut places[5]);
+        let export = aaru_export(nothing.0, 0, nothing.1, 0, &mut a, &mut b, &mut places[5]);
         assert_eq!(export, 1);
+        let exact = aaru_export_exact(nothing.0, 0, nothing.1, 0, &mut a, &mut places[6]);
+        assert_eq!(exact, 1);
         let import = aaru_import(
             nothing.1,
             0,
@@ -156,9 +158,9 @@ fn null_pointers_to_nothing() {
             0,
             &mut a,
             &mut b,
-            &mut places[6],
+            &mut places[7],
         );
         assert_eq!(import, 30);
     }
-    assert_eq!(places, [0, 0, 0, 0, 7, 0, 0]);
+    assert_eq!(places, [0, 0, 0, 0, 7, 0, 0, 0]);
 }

@@ -6,7 +6,7 @@ use crate::faults::{self, clash, with, Edit::*, Fault, Input};
 use crate::images::{self, spare_entry, Description};
 use crate::layout::{Kind, Layout, CREATED, HEADER};
 use crate::random::Random;
-use crate::sides::{Answer, Call, Sides};
+use crate::sides::{Answer, Call, Rule, Sides, RULES};
 use aaru::Refusal;
 
 pub fn run(sides: &mut Sides, seed: u64, images: usize) {
@@ -22,7 +22,9 @@ pub fn run(sides: &mut Sides, seed: u64, images: usize) {
         locate(sides, &image, &layout, &mut random);
         commit(sides, &image, &layout, &mut random);
         rollback(sides, &image, &layout, &mut random);
-        export(sides, &mut random);
+        for rule in RULES {
+            export(sides, rule, &mut random);
+        }
         if kind == Kind::Old {
             create(sides, &mut random);
             import(sides, &mut random);
@@ -30,11 +32,22 @@ pub fn run(sides: &mut Sides, seed: u64, images: usize) {
     }
 }
 
-/// The order of checks, which is the same for all calls as far as they have them.
+/// The order of checks, which is the same for all calls as far as they have them, but for 21 of a
+/// plain export.
 const ORDER: [u32; 36] = [
     31, 32, 30, 42, 33, 34, 1, 2, 3, 4, 5, 6, 7, 8, 9, 10, 11, 13, 70, 71, 72, 12, 14, 74, 20, 21,
     73, 22, 23, 24, 25, 26, 27, 40, 41, 35,
 ];
+
+fn order_of(call: &Call) -> Vec<u32> {
+    let mut order = ORDER.to_vec();
+    if let Call::Export(Rule::Plain) = call {
+        order.retain(|&number| number != 21);
+        let sizes = order.iter().position(|&number| number == 40);
+        order.insert(sizes.unwrap(), 21);
+    }
+    order
+}
 
 /// Runs the base, every fault alone, and two of them with different numbers or places at once:
 /// those that are near each other in the order of checks always, the rest sometimes. The base is
@@ -55,8 +68,8 @@ fn pairs(
             refused.push((refusal, fault));
         }
     }
-    let met = |number: &&u32| refused.iter().any(|(met, _)| met.number == **number);
-    let order: Vec<u32> = ORDER.iter().filter(met).copied().collect();
+    let mut order = order_of(&base.call);
+    order.retain(|number| refused.iter().any(|(met, _)| met.number == *number));
     let rank = |refusal: &Refusal| order.iter().position(|met| *met == refusal.number).unwrap();
     for (second, (refusal, fault)) in refused.iter().enumerate() {
         for (other_refusal, other) in &refused[..second] {
@@ -203,14 +216,15 @@ fn create(sides: &mut Sides, random: &mut Random) {
     pairs(sides, &base, &Layout::default(), faults, random);
 }
 
-/// Of a disc that can be exported, with faults of its first and its last sector.
-fn export(sides: &mut Sides, random: &mut Random) {
+/// Of a disc that can be exported, with faults of its first and its last sector, or with no sector
+/// written.
+fn export(sides: &mut Sides, rule: Rule, random: &mut Random) {
     let image = Description::even(sides.tally.kind, random).build(random);
     let layout = Layout::of(&image);
     let mut base = Input {
         buffer: with_room(&image, 300, random),
         used: image.len() as u64,
-        call: Call::Export,
+        call: Call::Export(rule),
     };
     let (length, _) = run_input(sides, &base).expect("it is even");
     let needed = image.len() + length as usize;
@@ -229,6 +243,9 @@ fn export(sides: &mut Sides, random: &mut Random) {
         let (at, width) = (layout.table_entry(number), layout.kind.width());
         faults.push(vec![Field(at, width, spare_entry(&image, &layout))]);
     }
+    let width = layout.kind.width();
+    let unwritten = (0..layout.count).map(|number| Field(layout.table_entry(number), width, 0));
+    faults.push(unwritten.collect());
     faults.extend([needed - 1, image.len()].map(|length| vec![BufferLength(length)]));
     pairs(sides, &base, &layout, faults, random);
 }

@@ -6,7 +6,7 @@ use crate::independent;
 use crate::layout::{get, Kind, Layout, INDEX, INDEX_OFFSET};
 use crate::random::Random;
 use crate::tally::Tally;
-use aaru::{ffi, AddressRange, Creation, Placed, Refusal};
+use aaru::{ffi, AddressRange, Creation, Flat, Placed, Refusal};
 use std::ops::Range;
 
 /// A call without its buffer. For opening, reading and exporting the image is the buffer's first
@@ -18,9 +18,19 @@ pub enum Call {
     Create(Create),
     Commit(Commit),
     Rollback { offset: u64, time: u64 },
-    Export,
+    Export(Rule),
     Import(Import),
 }
+
+/// What an export does about a sector that is not written.
+#[derive(Clone, Copy, Debug, PartialEq)]
+pub enum Rule {
+    /// It writes zeros.
+    Plain,
+    /// It is refused with 21.
+    Exact,
+}
+pub const RULES: [Rule; 2] = [Rule::Plain, Rule::Exact];
 
 #[derive(Clone, Debug)]
 pub struct Create {
@@ -99,14 +109,15 @@ impl Call {
             Call::Create(_) => 2,
             Call::Commit(_) => 3,
             Call::Rollback { .. } => 4,
-            Call::Export => 5,
-            Call::Import(_) => 6,
+            Call::Export(Rule::Plain) => 5,
+            Call::Export(Rule::Exact) => 6,
+            Call::Import(_) => 7,
         }
     }
 
     /// Whether it writes an image.
     pub fn writes(&self) -> bool {
-        !matches!(self, Call::SectorCount | Call::Locate(_) | Call::Export)
+        !matches!(self, Call::SectorCount | Call::Locate(_) | Call::Export(_))
     }
 
     /// Whether it makes a new image, whatever stands in the buffer.
@@ -116,12 +127,17 @@ impl Call {
 }
 
 /// Count and lowest address (its 64 bits), start and size, `used` and index offset, or a flat file's
-/// length and 0; or the refusal.
+/// length and how many of its sectors are filled; or the refusal.
 pub type Answer = Result<(u64, u64), Refusal>;
 
-/// The answer where the refusal is about no record of the image.
+/// A refusal that is about no record of the image.
+pub fn refusal(number: u32) -> Refusal {
+    Refusal { number, place: 0 }
+}
+
+/// The same as an answer.
 pub fn refused(number: u32) -> Answer {
-    Err(Refusal { number, place: 0 })
+    Err(refusal(number))
 }
 
 /// What the library must leave behind the pointers for its answer when it refuses.
@@ -196,21 +212,29 @@ pub fn raw(buffer: &mut [u8], used: u64, call: &Call) -> Answer {
                 &mut second,
                 &mut place,
             ),
-            Call::Export => {
+            Call::Export(rule) => {
                 let image = used as usize;
-                let number = ffi::aaru_export(
-                    start,
-                    image,
-                    start.add(image),
-                    length - image,
-                    &mut first,
-                    &mut place,
-                );
-                // It answers one number.
-                if number == 0 {
-                    second = 0;
+                let (out, room) = (start.add(image), length - image);
+                match rule {
+                    Rule::Plain => ffi::aaru_export(
+                        start,
+                        image,
+                        out,
+                        room,
+                        &mut first,
+                        &mut second,
+                        &mut place,
+                    ),
+                    Rule::Exact => {
+                        let number =
+                            ffi::aaru_export_exact(start, image, out, room, &mut first, &mut place);
+                        // It answers one number, and fills none.
+                        if number == 0 {
+                            second = 0;
+                        }
+                        number
+                    }
                 }
-                number
             }
             Call::Import(import) => ffi::aaru_import(
                 start,
@@ -243,6 +267,10 @@ fn pair_of(range: AddressRange) -> (u64, u64) {
     (range.count, range.lowest.cast_unsigned())
 }
 
+fn flat_pair(flat: Flat) -> (u64, u64) {
+    (flat.length, flat.filled)
+}
+
 /// The addresses of a disc whose opening was answered with this pair.
 pub fn addresses_of((count, lowest): (u64, u64)) -> Range<i64> {
     let lowest = lowest.cast_signed();
@@ -272,9 +300,12 @@ pub fn safe(buffer: &mut [u8], used: u64, call: &Call) -> Answer {
         )
         .map(pair),
         Call::Rollback { offset, time } => aaru::rollback(buffer, used, *offset, *time).map(pair),
-        Call::Export => {
+        Call::Export(rule) => {
             let (image, out) = buffer.split_at_mut(used as usize);
-            aaru::export(image, out).map(|length| (length, 0))
+            match rule {
+                Rule::Plain => aaru::export(image, out).map(flat_pair),
+                Rule::Exact => aaru::export_exact(image, out).map(|length| (length, 0)),
+            }
         }
         Call::Import(import) => aaru::import(buffer, &import.lent()).map(pair),
     }
@@ -295,9 +326,12 @@ pub fn other(buffer: &mut [u8], used: u64, call: &Call) -> Answer {
             commit.time,
         ),
         Call::Rollback { offset, time } => independent::rollback(buffer, used, *offset, *time),
-        Call::Export => {
+        Call::Export(rule) => {
             let (image, out) = buffer.split_at_mut(used as usize);
-            independent::export(image, out).map(|length| (length, 0))
+            match rule {
+                Rule::Plain => independent::export(image, out).map(flat_pair),
+                Rule::Exact => independent::export_exact(image, out).map(|length| (length, 0)),
+            }
         }
         Call::Import(import) => independent::import(buffer, &import.lent()),
     }
@@ -339,7 +373,7 @@ impl Sides {
         let answers = [safe(second, used, call), other(third, used, call)];
         let same_answers = answers == [answer; 2];
         let same_bytes = first == second && first == third;
-        let may_change = call.writes() || matches!(call, Call::Export);
+        let may_change = call.writes() || matches!(call, Call::Export(_));
         let kept = first == buffer || answer.is_ok() && may_change;
         if !(same_answers && same_bytes && kept) {
             println!("{call:?} used {used} of {}", buffer.len());

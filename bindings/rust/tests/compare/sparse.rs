@@ -1,12 +1,13 @@
 //! Buffers of 4 GiB and a little more, of which only a few pages are ever there.
 
 use crate::arguments;
-use crate::faults::{self, read_addresses};
+use crate::exports;
+use crate::faults::{self, read_addresses, Edit::Field};
 use crate::images::Description;
 use crate::independent;
 use crate::layout::{get, put, Kind, Layout, ALIGNMENT, HEADER, INDEX_OFFSET};
 use crate::random::Random;
-use crate::sides::{other, raw, refused, safe, Answer, Call, Commit, Sides};
+use crate::sides::{other, raw, refused, safe, Answer, Call, Commit, Rule, Sides, RULES};
 use std::ffi::c_void;
 use std::slice;
 
@@ -194,21 +195,30 @@ fn export_into(sides: &mut Sides, long: &mut [u8], random: &mut Random) {
     buffer[..image.len()].fill(0);
 }
 
-/// An export by every side, one after another in one buffer.
+/// Exports of an even disc, then of the same without its first sector.
 fn export_by_each(sides: &mut Sides, buffer: &mut [u8], used: usize) {
-    let image = &buffer[..used];
-    let all = Layout::of(image).addresses();
-    let read = |address| aaru::read(image, address).expect("it is even").bytes;
-    let flat = all.map(read).collect::<Vec<_>>().concat();
-    let answer = Ok((flat.len() as u64, 0));
+    let answer = by_each(sides, buffer, used, Rule::Exact);
+    assert_eq!(by_each(sides, buffer, used, Rule::Plain), answer);
+    let layout = Layout::of(&buffer[..used]);
+    let gap = Field(layout.table_entry(0), layout.kind.width(), 0);
+    faults::edit_image(&mut buffer[..used], &layout, &[gap]);
+    assert_eq!(by_each(sides, buffer, used, Rule::Exact), refused(21));
+    let (length, _) = answer.expect("it is even");
+    assert_eq!(by_each(sides, buffer, used, Rule::Plain), Ok((length, 1)));
+}
+
+/// An export by every side, one after another in one buffer.
+fn by_each(sides: &mut Sides, buffer: &mut [u8], used: usize, rule: Rule) -> Answer {
+    let call = Call::Export(rule);
     let before = buffer[used..used + ROOM].to_vec();
-    let after = [&flat, &before[flat.len()..]].concat();
+    let (answer, after) = exports::expected(&exports::reads(&buffer[..used]), rule, &before);
     for side in [raw, safe, other] {
-        assert_eq!(side(buffer, used as u64, &Call::Export), answer);
+        assert_eq!(side(buffer, used as u64, &call), answer);
         assert!(buffer[used..used + ROOM] == after);
         buffer[used..used + ROOM].copy_from_slice(&before);
     }
-    sides.tally.count(&Call::Export, answer);
+    sides.tally.count(&call, answer);
+    answer
 }
 
 /// Flat files of 4 GiB and around, of zeros.
@@ -245,7 +255,7 @@ fn far_behind(sides: &mut Sides, buffer: &mut [u8], layout: &Layout, random: &mu
         assert!(answer.is_ok() || [refused(20), refused(21)].contains(&answer));
     }
     let address = read_addresses(buffer, layout)[0];
-    let calls = [
+    let mut calls = vec![
         Call::SectorCount,
         Call::Locate(address),
         Call::Commit(arguments::commit(random, all)),
@@ -253,8 +263,8 @@ fn far_behind(sides: &mut Sides, buffer: &mut [u8], layout: &Layout, random: &mu
             offset: layout.index as u64,
             time: 8,
         },
-        Call::Export,
     ];
+    calls.extend(RULES.map(Call::Export));
     let mut faults = faults::of_opening(buffer, layout);
     faults.extend(faults::of_reading(buffer, layout, address));
     let far = buffer.len() - FRONT;

@@ -2,6 +2,7 @@
 //! any displacement.
 
 use crate::arguments::{self, telling_addresses, with_room};
+use crate::exports;
 use crate::images::{self, fill_table, Description, Entries};
 use crate::layout::Layout;
 use crate::random::Random;
@@ -54,6 +55,6 @@ fn reads(sides: &mut Sides, image: &[u8], layout: &Layout, random: &mut Random) 
         let commit = Call::Commit(arguments::commit(random, all));
         sides.compare(image, used, &commit);
         let buffer = with_room(image, 200, random);
-        sides.compare(&buffer, used, &Call::Export);
+        exports::compare(sides, &buffer, used);
     }
 }

@@ -1,18 +1,19 @@
 //! What was tried and how it was answered.
 
 use crate::layout::Kind;
-use crate::sides::{Answer, Call};
+use crate::sides::{Answer, Call, Rule};
 use aaru::Refusal;
 use std::collections::{BTreeMap, HashMap, HashSet};
 use std::hash::{DefaultHasher, Hasher};
 
-pub const CALLS: [&str; 7] = [
+pub const CALLS: [&str; 8] = [
     "sector_count",
     "locate",
     "create",
     "commit",
     "rollback",
     "export",
+    "export_exact",
     "import",
 ];
 const NUMBERS: usize = 75;
@@ -28,9 +29,9 @@ fn possible(kind: Kind, call: usize, number: usize) -> bool {
         ("commit", 0 | 20 | 22..=27 | 35) => old,
         ("commit", 30..=34) => true,
         ("rollback", 31 | 32 | 70..=72 | 74) => true,
-        ("locate", 20..=27) | ("export", 21..=27 | 40 | 41) => true,
+        ("locate", 20..=27) | ("export" | "export_exact", 21..=27 | 40 | 41) => true,
         (_, 0..=14) => true,
-        (_, 70..=72) | ("locate" | "export", 73) | ("commit", 74) => !old,
+        (_, 70..=72) | ("locate" | "export" | "export_exact", 73) | ("commit", 74) => !old,
         _ => false,
     }
 }
@@ -79,7 +80,7 @@ impl Met {
         assert!(enough, "{name} met {number} at few telling places");
         // A buffer that is written can't be so long.
         let far = places.iter().any(|&place| place >= 1 << 32);
-        let enough = far || !matches!(name, "sector_count" | "locate" | "export");
+        let enough = far || matches!(name, "create" | "commit" | "rollback" | "import");
         assert!(enough, "{name} met {number} at no place above 4 GiB");
         let enough = number != 4 || places.contains(&u64::MAX);
         assert!(enough, "{name} never met the last offset");
@@ -101,6 +102,8 @@ pub struct Tally {
     pub reads: u64,
     /// By call, how often a negative address was refused with 20.
     negative: [u64; CALLS.len()],
+    /// Exports that filled gaps.
+    filled: u64,
 }
 
 impl Tally {
@@ -117,6 +120,8 @@ impl Tally {
             Call::Commit(commit) => commit.addresses.first(),
             _ => None,
         };
+        let fills = matches!((call, answer), (Call::Export(Rule::Plain), Ok((_, 1..))));
+        self.filled += u64::from(fills);
         let call = call.column();
         let (number, place) = match answer {
             Ok(_) => (0, 0),
@@ -155,6 +160,7 @@ impl Tally {
         self.images.extend(other.images);
         self.two_faults += other.two_faults;
         self.reads += other.reads;
+        self.filled += other.filled;
         for (times, more) in self.negative.iter_mut().zip(other.negative) {
             *times += more;
         }
@@ -198,6 +204,7 @@ impl Tally {
             self.opened()
         );
         println!("{:>9} reads after calls that write", self.reads);
+        println!("{:>9} exports that fill gaps", self.filled);
     }
 
     fn print_row(&self, number: usize) {
@@ -232,6 +239,7 @@ impl Tally {
                 met.check_places(call, number);
             }
         }
+        assert!(self.filled >= least(0), "few exports filled gaps");
         assert!(self.inputs() >= 100_000);
         assert!(10 * self.two_faults >= self.inputs());
         assert!(2 * self.opened() >= self.images.len());
