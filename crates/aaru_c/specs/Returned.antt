@@ -24,7 +24,8 @@ returned (refused r) values place = record { number = r .number; values = values
 abbrev pub countAndLowest : ℕ → ℤ → AddressRange
 countAndLowest count lowest = record { count = count; lowest = record { 0 = lowest } }
 
--- the values of aaru_locate; aaru_export has one, and those of the other calls that write are `placed` of format/specs/Writing
+-- the values of aaru_locate; aaru_export_exact has one, those of aaru_export are `flat` of format/specs/Exporting, and those of the other calls that write are
+-- `placed` of format/specs/Writing
 abbrev pub startAndSize : ℕ → ℕ → Place
 startAndSize start size = record { start = record { 0 = start }; size = size }
 

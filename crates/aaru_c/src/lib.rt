@@ -8,7 +8,7 @@ ghost use Rattle.format.specs.Reading.{locate};
 ghost use Rattle.format.specs.Creating.{create};
 ghost use Rattle.format.specs.Committing.{commit};
 ghost use Rattle.format.specs.RollingBack.{rollback};
-ghost use Rattle.format.specs.Exporting.{export};
+ghost use Rattle.format.specs.Exporting.{exportExact, flat, export};
 ghost use Rattle.format.specs.Importing.{import};
 ghost use Rattle.format.specs.Writing.{placed};
 ghost use Rattle.format.specs.Answers.{updated};
@@ -20,6 +20,7 @@ use aaru::Refusal;
 use aaru::SectorAddress;
 use aaru::Updated;
 use flat::Exported;
+use flat::ExportedExact;
 
 // What a refused call returns, and sets.
 fn refused(r: Refusal, place: &mut u64) -> u32
@@ -154,23 +155,45 @@ pub extern "C" fn aaru_rollback(
     numbers(answer, newUsed, index, place)
 }
 
-// Fills the front of `out` with all sectors of the image by rising address.
+// Fills the front of `out` with all sectors of the image by rising address, zeros in place of those that are not written.
 #[no_mangle]
 pub extern "C" fn aaru_export(
     image: &[u8],
     out: &mut [u8],
     written: &mut u64,
+    filled: &mut u64,
     place: &mut u64,
 ) -> u32
-    ensures { λ r. ⌜ record { answer = record { number = r; values = now (written .exit); place = now (place .exit) }; buffer = now (out .exit) } ≡ left (export (now (image .entry)) (now (out .entry))) (now (written .entry)) (now (place .entry)) ⌝ }
+    ensures { λ r. ⌜ record { answer = record { number = r; values = flat (now (written .exit)) (now (filled .exit)); place = now (place .exit) }; buffer = now (out .exit) } ≡ left (export (now (image .entry)) (now (out .entry))) (flat (now (written .entry)) (now (filled .entry))) (now (place .entry)) ⌝ }
 {
     let answer = flat::export(image, out);
     match answer {
-        Exported::Length(n) => {
-            *written = n;
+        Exported::To(file) => {
+            *written = file.length;
+            *filled = file.filled;
             0
         }
         Exported::Refused(r) => refused(r, place),
+    }
+}
+
+// The same, where every sector is written.
+#[no_mangle]
+pub extern "C" fn aaru_export_exact(
+    image: &[u8],
+    out: &mut [u8],
+    written: &mut u64,
+    place: &mut u64,
+) -> u32
+    ensures { λ r. ⌜ record { answer = record { number = r; values = now (written .exit); place = now (place .exit) }; buffer = now (out .exit) } ≡ left (exportExact (now (image .entry)) (now (out .entry))) (now (written .entry)) (now (place .entry)) ⌝ }
+{
+    let answer = flat::export_exact(image, out);
+    match answer {
+        ExportedExact::Length(n) => {
+            *written = n;
+            0
+        }
+        ExportedExact::Refused(r) => refused(r, place),
     }
 }
 

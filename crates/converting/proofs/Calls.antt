@@ -11,7 +11,7 @@ use Rattle.format.specs.declared.Verdict.{Verdict}
 use Rattle.format.specs.Layouts.{indexOffset}
 use Rattle.format.specs.Opening.{opened}
 use Rattle.format.specs.Writing.{Outcome, outcome, placed}
-use Rattle.format.specs.Exporting.{flatFile, exportVerdict, export}
+use Rattle.format.specs.Exporting.{flatFile, exactVerdict, exportExact}
 use Rattle.format.specs.Importing.{import}
 use Rattle.format.specs.Demands.{openingNumber, exportingNumber, importingNumber}
 use Rattle.format.proofs.Buffers.{outcome-refuses}
@@ -36,19 +36,19 @@ blank-long : (n : ℕ) → length {A = ℕ} (replicate n 0) ≡ n
 blank-long n = length-replicate {A = ℕ} n 0
 
 -- ---- the calls
-pub export-fills : (img : List ℕ) → Fills (λ n. n) (export img)
-unfolding export
+pub export-fills : (img : List ℕ) → Fills (λ n. n) (exportExact img)
+unfolding exportExact
 export-fills img =
     let o : ℕ = indexOffset img in
     let file : List ℕ = flatFile img (opened img o) in
     record {
-      verdict = λ n. exportVerdict img o (replicate n 0);
+      verdict = λ n. exactVerdict img o (replicate n 0);
       value = length file;
       image = file;
       is = λ b. ap (λ (v : Verdict). outcome b v (length file) (overwrite b 0 file)) (exporting.verdict-alike img o b (replicate (length b) 0) (sym (blank-long (length b))));
       sized = λ n v. refl;
-      room = λ n v. rw blank-long at (exporting.exportable img o (replicate n 0) .0 v .room);
-      few = λ n r v. exporting-small _ (demand-1-refusals .exporting img (replicate n 0) r (outcome-refuses _ _ _ _ r .1 v) .0);
+      room = λ n v. rw blank-long at (exporting.exact-ok img o (replicate n 0) .0 v .file .room);
+      few = λ n r v. exporting-small _ (demand-1-refusals .exportingExactly img (replicate n 0) r (outcome-refuses _ _ _ _ r .1 v) .0);
     }
 
 pub import-fills : (file : List ℕ) (size : ℕ) (application : List ℕ) (major minor mediaType creationTime lastWrittenTime : ℕ)

@@ -1,13 +1,13 @@
 -- What the programs `export` and `import` print. 4/13: "A program for each, from standard input to standard output through buffers of 65,536 bytes, prints
 -- `too long` for a longer input and, for every refusal, 35 and 41 too, `refused` as the listing does; the importing one takes size 2,048 and zeros for
--- creating's other arguments."
+-- creating's other arguments." 9/13: "The former rule stays under its own name; 4/13's program and round trip ask for it."
 use mathlib.Core.List.{List}
 use Prim.Native.Nat.{ℕ}
 use lib.ListN.{take, replicate}
 use Rattle.format.specs.declared.Placed.{Placed}
 use Rattle.format.specs.Refusals.{Answer, refused, accepted}
 use Rattle.format.specs.Writing.{Outcome}
-use Rattle.format.specs.Exporting.{export}
+use Rattle.format.specs.Exporting.{exportExact}
 use Rattle.format.specs.Importing.{import}
 use Rattle.text.specs.Text.{refusedLine, unlessLong}
 
@@ -23,7 +23,7 @@ abbrev pub zeros : ℕ → List ℕ
 zeros n = replicate n 0
 
 unfoldable pub exportText : List ℕ → List ℕ
-exportText input = text (λ n. n) input (export input (zeros 65536))
+exportText input = text (λ n. n) input (exportExact input (zeros 65536))
 
 unfoldable pub importText : List ℕ → List ℕ
 importText input = text (λ (p : Placed). p .used) input (import (zeros 65536) input 2048 (zeros 64) 0 0 0 0 0)

@@ -2,7 +2,7 @@
 use mathlib.Core.Path.{ap}
 use native.Mathlib.Omega.{arith}
 use borrow.Author.Needs.{needs}
-use Rattle.format.specs.Answers.{exported}
+use Rattle.format.specs.Answers.{exportedExact}
 use Rattle.text.proofs.Writes.{writes-prints}
 use Rattle.converting.specs.Texts.{exportText}
 use Rattle.converting.proofs.Fills.{prints-image, prints-refusal}
@@ -14,16 +14,16 @@ returns : tie.Need-returns
 returns c = rw (export-long _ (c .before .before .before .if1 .taken)) (writes-prints (omega arith) (c .write .ensures))
 
 returns-2 : tie.Need-returns-2
-unfolding exportText exported
+unfolding exportText exportedExact
 returns-2 c =
     let e = c .before .before .before in
-    prints-image (export-fills _) _ (omega arith) (omega arith) _ (ap exported (c .before .answer .given .1)) (e .export .ensures)
+    prints-image (export-fills _) _ (omega arith) (omega arith) _ (ap exportedExact (c .before .answer .given .1)) (e .export-exact .ensures)
 
 returns-3 : tie.Need-returns-3
-unfolding exportText exported
+unfolding exportText exportedExact
 returns-3 c =
     let e = c .before .before .before .before .before .before in
-    prints-refusal (export-fills _) _ (omega arith) (omega arith) _ (ap exported (c .before .before .before .before .answer2 .given .1)) (e .export .ensures) (c .refused .ensures)
+    prints-refusal (export-fills _) _ (omega arith) (omega arith) _ (ap exportedExact (c .before .before .before .before .answer2 .given .1)) (e .export-exact .ensures) (c .refused .ensures)
 
 pub export-spec : {M : Type 1} → statement M
 export-spec =
