@@ -14,11 +14,11 @@ use Rattle.format.specs.Writing.{bufferVerdict, isSecond, writableVerdict, outc
 use Rattle.format.specs.Creating.{createdIndexAt, createdUsed, createdBytes, createVerdict, create}
 use Rattle.format.specs.Committing.{pieces, firstWith, given, holdsSector, onDisc, amongStored, stepFor, storeOne, storeAll, oldPointer, newPointer, newPointers, itemOrZero, largestItem, shiftFrom, shiftFor, tableEntryBytes, newTable, keptEntry, keptEntries, newBlock, newBlockEntry, appendedFor, storedFor, pointersFor, appended, tableStart, indexStart, usedAfter, appendedBytes, risingBy, argumentsVerdict, anyOutside, entryNumbers, otherThan21, sectorsVerdict, discVerdict, append, commitVerdict, commit}
 use Rattle.format.specs.Lists.{ofEach}
-use Rattle.format.specs.Exporting.{sectorAt, sizeAt, flatFile, sizeVerdict, exportVerdict, export}
+use Rattle.format.specs.Exporting.{sizeAt, sizeFrom, flatSize, pieceAt, flatFile, sizeVerdict, fileVerdict, exactVerdict, exportExact}
 use Rattle.format.specs.Importing.{importVerdict, orLeaves, andThen, import}
 use Rattle.worked_disc.specs.WorkedDisc.{leaves, refusedWith, hasTable}
 use Rattle.worked_disc.specs.FlatDisc.{exports, flatDisc}
 
 pub flat-disc : T (allHold flatDisc)
-unfolding allHold leaves refusedWith hasTable exports flatDisc ofEach sectorAt sizeAt flatFile sizeVerdict exportVerdict export importVerdict orLeaves andThen import bufferVerdict crcOf part fromLe toLe field overwrite equal layout same differs below atLeast _or_ _and_ choose flatten pieces firstWith given row _then_ firstRefusal answer tag lacks indexOffset headerBytes entryCount entryAt entriesFrom entries isType isUserData entryBytes indexHeader indexBytes blockHeader blockBytes tableHeader tableBytes decode encode headerVerdict indexVerdict entryVerdict entriesVerdict oneOf oneVerdict tableAt tableMalformed sumsDiffer tableVerdict openVerdict opened tableEntry notWritten pointerAt has blockMalformed blockVerdict itemVerdict pointerVerdict sectorVerdict placeOf itemBytes outcome setHeader createdIndexAt createdUsed createdBytes createVerdict create holdsSector onDisc amongStored stepFor storeOne storeAll oldPointer orElse newPointer newPointers itemOrZero largestItem shiftFrom shiftFor tableEntryBytes newTable keptEntry keptEntries newBlock newBlockEntry appendedFor storedFor pointersFor appended tableStart indexStart usedAfter appendedBytes argumentsVerdict anyOutside otherThan21 sectorsVerdict discVerdict append commitVerdict commit lessThan tableAlignment tableNegative entryStatus entryPointer offsetsWith isTable kindBy kindAt extentVerdict payloadVerdict openedAs displaced outside entryNumber unwritten unknown unknownStatus isSecond writableVerdict risingBy entryNumbers
+unfolding allHold leaves refusedWith hasTable exports flatDisc ofEach sizeAt sizeFrom flatSize pieceAt flatFile sizeVerdict fileVerdict exactVerdict exportExact importVerdict orLeaves andThen import bufferVerdict crcOf part fromLe toLe field overwrite equal layout same differs below atLeast _or_ _and_ choose flatten pieces firstWith given row _then_ firstRefusal answer tag lacks indexOffset headerBytes entryCount entryAt entriesFrom entries isType isUserData entryBytes indexHeader indexBytes blockHeader blockBytes tableHeader tableBytes decode encode headerVerdict indexVerdict entryVerdict entriesVerdict oneOf oneVerdict tableAt tableMalformed sumsDiffer tableVerdict openVerdict opened tableEntry notWritten pointerAt has blockMalformed blockVerdict itemVerdict pointerVerdict sectorVerdict placeOf itemBytes outcome setHeader createdIndexAt createdUsed createdBytes createVerdict create holdsSector onDisc amongStored stepFor storeOne storeAll oldPointer orElse newPointer newPointers itemOrZero largestItem shiftFrom shiftFor tableEntryBytes newTable keptEntry keptEntries newBlock newBlockEntry appendedFor storedFor pointersFor appended tableStart indexStart usedAfter appendedBytes argumentsVerdict anyOutside otherThan21 sectorsVerdict discVerdict append commitVerdict commit lessThan tableAlignment tableNegative entryStatus entryPointer offsetsWith isTable kindBy kindAt extentVerdict payloadVerdict openedAs displaced outside entryNumber unwritten unknown unknownStatus isSecond writableVerdict risingBy entryNumbers
 flat-disc = tt

@@ -1,3 +1,4 @@
 mod WorkedDisc
 mod SecondDisc
 mod FlatDisc
+mod GapDisc

@@ -13,8 +13,8 @@ use Rattle.format.specs.Writing.{bufferVerdict, isSecond, writableVerdict, outc
 use Rattle.format.specs.Committing.{risingBy, argumentsVerdict, discVerdict, append, commitVerdict, commit}
 use Rattle.format.specs.RollingBack.{rollbackVerdict, rollback}
 use Rattle.worked_disc.specs.WorkedDisc.{refusedWith, gives, liesAt}
-use Rattle.worked_disc.specs.SecondDisc.{isMinus, ranges, secondHeader, secondImage, secondDisc}
+use Rattle.worked_disc.specs.SecondDisc.{isMinus, ranges, secondHeader, secondImage, openedWith, secondDisc}
 
 pub second-disc : T (allHold secondDisc)
-unfolding allHold refusedWith gives liesAt bufferVerdict isMinus ranges secondHeader secondImage secondDisc crcOf part fromLe toLe field overwrite equal layout same differs below atLeast _or_ _and_ choose flatten row _then_ answer tag lacks indexOffset headerBytes entryCount entryAt entriesFrom entries isType isUserData entryBytes indexHeader indexBytes blockHeader blockBytes decode headerVerdict indexVerdict entryVerdict entriesVerdict oneOf oneVerdict tableAt tableMalformed sumsDiffer tableVerdict openVerdict opened opening tableEntry notWritten pointerAt has blockMalformed blockVerdict itemVerdict pointerVerdict sectorVerdict placeOf itemBytes readVerdict readAt read locate outcome argumentsVerdict discVerdict append commitVerdict commit rollbackVerdict rollback lessThan tableAlignment tableNegative entryStatus entryPointer offsetsWith isTable kindBy kindAt extentVerdict payloadVerdict openedAs displaced outside entryNumber unwritten unknown unknownStatus addressVerdict pointerOf isSecond writableVerdict risingBy sectorCount rangeOf
+unfolding allHold refusedWith gives liesAt bufferVerdict isMinus ranges secondHeader secondImage openedWith secondDisc crcOf part fromLe toLe field overwrite equal layout same differs below atLeast _or_ _and_ choose flatten row _then_ answer tag lacks indexOffset headerBytes entryCount entryAt entriesFrom entries isType isUserData entryBytes indexHeader indexBytes blockHeader blockBytes decode headerVerdict indexVerdict entryVerdict entriesVerdict oneOf oneVerdict tableAt tableMalformed sumsDiffer tableVerdict openVerdict opened opening tableEntry notWritten pointerAt has blockMalformed blockVerdict itemVerdict pointerVerdict sectorVerdict placeOf itemBytes readVerdict readAt read locate outcome argumentsVerdict discVerdict append commitVerdict commit rollbackVerdict rollback lessThan tableAlignment tableNegative entryStatus entryPointer offsetsWith isTable kindBy kindAt extentVerdict payloadVerdict openedAs displaced outside entryNumber unwritten unknown unknownStatus addressVerdict pointerOf isSecond writableVerdict risingBy sectorCount rangeOf
 second-disc = tt

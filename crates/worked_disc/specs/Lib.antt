@@ -1,3 +1,4 @@
 pub mod WorkedDisc
 pub mod SecondDisc
 pub mod FlatDisc
+pub mod GapDisc
