@@ -341,8 +341,8 @@ Demand2Committing =
     → commit buffer used addresses size sectors time .result ≡ accepted p
     → CommitKept buffer used addresses size sectors p (commit buffer used addresses size sectors time .buffer)
 
--- ---- 4/13, flat sector files. `file` has a piece of this size for each address of an image, by rising address; what a read of the address answers, the piece
--- stands for
+-- ---- 4/13, flat sector files. `file` has a piece of this size for each address of an image, by rising address, and each stands so for what a read of the address
+-- answers
 pub record FlatBy (Stands : Answer (List ℕ) → List ℕ → Type 0) (img file : List ℕ) (size : ℕ) : Type 0 where
   pub range : AddressRange
   pub sectors : sectorCount img ≡ accepted range

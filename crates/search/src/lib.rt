@@ -1,5 +1,5 @@
-// Internal: the search for a sector that holds given bytes, on a disc whose sectors were all checked and among sectors of one
-// size that stand one after another.
+// Internal: what a table entry of a disc has whose sectors were all checked, and the search for a sector that holds given bytes, on
+// such a disc and among sectors of one size that stand one after another.
 //
 // Cost: a comparison for each sector looked at, which ends at the first difference in size or bytes. No checksum is computed.
 ghost use mathlib.Core.Path.{_≡_};
