@@ -18,7 +18,7 @@ use Rattle.format.specs.Lists.{ofEach, howMany}
 use Rattle.format.specs.Refusals.{refusal, row}
 use Rattle.format.specs.Layouts.{indexOffset, entries}
 use Rattle.format.specs.Opening.{Opened, opened}
-use Rattle.format.specs.Reading.{notWritten, pointerAt, itemBytes}
+use Rattle.format.specs.Reading.{notWritten, itemBytes}
 use Rattle.format.specs.Committing.{sectorsVerdict}
 use Rattle.format.specs.Exporting.{sizeAt, sizeFrom, flatSize, pieceAt, flatFile, sizeVerdict}
 use Rattle.format.proofs.Tests.{below-true, below-iff, differs-iff, differs-true, and-true, choose-true, choose-false}

@@ -13,7 +13,7 @@ use Rattle.format.specs.declared.Verdict.the-variants.{Passes, Refuses}
 use Rattle.format.specs.Tests.{same, differs, below, _and_}
 use Rattle.format.specs.Refusals.{refusal, row, _then_, firstRefusal, Answer, refused, accepted}
 use Rattle.format.specs.Layouts.{indexOffset, entries}
-use Rattle.format.specs.Opening.{Opened, opened, opening}
+use Rattle.format.specs.Opening.{Opened, opened, openVerdict, opening}
 use Rattle.format.specs.Reading.{sectorVerdict}
 use Rattle.format.specs.Writing.{Outcome, outcome}
 use Rattle.format.specs.Committing.{sectorsVerdict}
@@ -34,7 +34,7 @@ outcome-rest out v a new e h = h ∙ ap (λ (x : Verdict). outcome out x a new) 
 
 -- ---- another value for the same outcome
 module _ {A B : Type 0} (out new after : List ℕ) where
-  pub value-accepted : (v : Verdict) (f : A → B) (a x : A) → answered (accepted a) after ≡ outcome out v x new → answered (accepted (f a)) after ≡ outcome out v (f x) new
+  value-accepted : (v : Verdict) (f : A → B) (a x : A) → answered (accepted a) after ≡ outcome out v x new → answered (accepted (f a)) after ≡ outcome out v (f x) new
   unfolding answered outcome
   value-accepted Passes f a x e =
       let r : _≡_ {A = Answer A} (accepted a) (accepted x) = ap (λ (w : Outcome A). w .result) e in
@@ -46,7 +46,7 @@ module _ {A B : Type 0} (out new after : List ℕ) where
       let z : _≡_ {A = ℕ} 0 1 = cc in
       absurd (omega arith)
 
-  pub value-refused : (v : Verdict) (r : Refusal) (x : A) (y : B) → answered (refused r) after ≡ outcome out v x new → answered (refused r) after ≡ outcome out v y new
+  value-refused : (v : Verdict) (r : Refusal) (x : A) (y : B) → answered (refused r) after ≡ outcome out v x new → answered (refused r) after ≡ outcome out v y new
   unfolding answered outcome
   value-refused Passes r x y e =
       let q : _≡_ {A = Answer A} (refused r) (accepted x) = ap (λ (w : Outcome A). w .result) e in
@@ -84,22 +84,29 @@ module _ (img : List ℕ) (t : Opened) (e : opening img ≡ accepted t) (out : L
   abbrev file : List ℕ
   file = flatFile img t
 
-  pub exact-opened : outcome out (firstRefusal (sectorVerdict img (entries img o) t) (t .count) 0 then fileVerdict img t out) (length file) (overwrite out 0 file) ≡ exportExact img out
-  unfolding exportExact exactVerdict opening
-  exact-opened =
+  -- what is behind opening's checks is about t
+  opened-outcome : {A : Type 0} (rest : Opened → Verdict) (value : Opened → A) (new : Opened → List ℕ)
+      → outcome out (rest t) (value t) (new t) ≡ outcome out (openVerdict img o then rest (opened img o)) (value (opened img o)) (new (opened img o))
+  unfolding opening
+  opened-outcome rest value new =
       let r = answer-accepted _ _ t e in
-      sym (ap (λ (v : Verdict). outcome out v (length (flatFile img (opened img o))) (overwrite out 0 (flatFile img (opened img o)))) (then-rest _ _ (r .0))
-      ∙ ap (λ (u : Opened). outcome out (firstRefusal (sectorVerdict img (entries img o) u) (u .count) 0 then fileVerdict img u out) (length (flatFile img u)) (overwrite out 0 (flatFile img u))) (r .1))
+      sym (ap (λ (v : Verdict). outcome out v (value (opened img o)) (new (opened img o))) (then-rest _ _ (r .0))
+      ∙ ap (λ (u : Opened). outcome out (rest u) (value u) (new u)) (r .1))
+
+  pub exact-opened : outcome out (firstRefusal (sectorVerdict img (entries img o) t) (t .count) 0 then fileVerdict img t out) (length file) (overwrite out 0 file) ≡ exportExact img out
+  unfolding exportExact exactVerdict
+  exact-opened =
+      opened-outcome (λ u. firstRefusal (sectorVerdict img (entries img o) u) (u .count) 0 then fileVerdict img u out) (λ u. length (flatFile img u))
+      (λ u. overwrite out 0 (flatFile img u))
 
   abbrev blank : Opened → Verdict
   blank u = row (differs (u .count) 0 and same (gapCount img u) (u .count)) (refusal 21 0)
 
   pub export-opened : outcome out (sectorsVerdict img (entries img o) t then (blank t then fileVerdict img t out)) (flat (length file) (gapCount img t)) (overwrite out 0 file) ≡ export img out
-  unfolding export exportVerdict opening
+  unfolding export exportVerdict
   export-opened =
-      let r = answer-accepted _ _ t e in
-      sym (ap (λ (v : Verdict). outcome out v (flat (length (flatFile img (opened img o))) (gapCount img (opened img o))) (overwrite out 0 (flatFile img (opened img o)))) (then-rest _ _ (r .0))
-      ∙ ap (λ (u : Opened). outcome out (sectorsVerdict img (entries img o) u then (blank u then fileVerdict img u out)) (flat (length (flatFile img u)) (gapCount img u)) (overwrite out 0 (flatFile img u))) (r .1))
+      opened-outcome (λ u. sectorsVerdict img (entries img o) u then (blank u then fileVerdict img u out)) (λ u. flat (length (flatFile img u)) (gapCount img u))
+      (λ u. overwrite out 0 (flatFile img u))
 
   -- where the sectors pass and some are written, it is what both rules do then
   module _ (s : Passes ≡ sectorsVerdict img (entries img o) t) (b : Passes ≡ blank t) (after : List ℕ) where

@@ -6,7 +6,7 @@ use mathlib.Core.Path.{_≡_, refl, sym, ap, _∙_, subst}
 use Prim.Native.Nat.{ℕ, zero, suc, _+_, _*_, _≤_, _<_}
 use native.Mathlib.Nat.{zero-add, mul-le-mul-right, suc-mul, eq-or-lt-of-le}
 use native.Mathlib.Omega.{arith}
-use lib.ListN.{length, take, getD, replicate, length-replicate}
+use lib.ListN.{length, take, getD, length-replicate}
 use lib.IntN.{ℤ, pos, negsuc, _+ℤ_}
 use Rattle.fields.specs.Bytes.{part, overwrite}
 use Rattle.fields.proofs.Overwrite.{length-part, part-same, part-whole}
@@ -88,12 +88,12 @@ verdict-alike img o one other e = rw e refl
 
 -- ---- one sector
 module _ (img : List ℕ) (o n : ℕ) where
-  pub sector-length : SectorOk img (entries img o) (opened img o) n → length (itemBytes img (pointerAt img (opened img o) n)) ≡ sizeAt img (opened img o) n
+  sector-length : SectorOk img (entries img o) (opened img o) n → length (itemBytes img (pointerAt img (opened img o) n)) ≡ sizeAt img (opened img o) n
   unfolding itemBytes placeOf sizeAt
   sector-length k = length-part img _ _ (omega (arith, item-inside _ _ _ (k .item), k .item .block .fits))
 
   -- where it is good, its piece is what a read gives
-  pub piece-read : SectorOk img (entries img o) (opened img o) n → entryRead img o n ≡ accepted (pieceAt img (opened img o) n)
+  piece-read : SectorOk img (entries img o) (opened img o) n → entryRead img o n ≡ accepted (pieceAt img (opened img o) n)
   unfolding pieceAt
   piece-read k = entry-bytes img o n k ∙ ap accepted (sym (choose-false _ _ _ (k .written)))
 
@@ -192,7 +192,7 @@ module _ (img : List ℕ) (range : AddressRange) (e : sectorCount img ≡ accept
   unfolding sectorCount
   range-opens = open-ok img _ .0 (answer-accepted _ _ range e .0)
 
-  pub range-is : rangeOf (opened img (indexOffset img)) ≡ range
+  range-is : rangeOf (opened img (indexOffset img)) ≡ range
   unfolding sectorCount
   range-is = answer-accepted _ _ range e .1
 

@@ -9,7 +9,6 @@ use Rattle.format.specs.declared.Flat.{Flat}
 use Rattle.format.specs.Tests.{same, _and_}
 use Rattle.format.specs.Refusals.{Answer, refused, accepted}
 use Rattle.format.specs.Layouts.{DBLK, DDT*, DDT2, headerBytes, userDataEntry, indexBytes, blockBytes, tableBytes}
-use Rattle.format.specs.Writing.{Outcome}
 use Rattle.format.specs.Exporting.{exportExact, export}
 use Rattle.worked_disc.specs.WorkedDisc.{refusedWith, AAAA, BBBB}
 use Rattle.worked_disc.specs.SecondDisc.{secondHeader, secondImage}

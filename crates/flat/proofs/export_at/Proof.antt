@@ -1,6 +1,5 @@
 -- `flat::export_at` meets its contract. Assumes nothing.
-use mathlib.Core.Bool.{false}
-use mathlib.Core.Path.{_≡_, sym, ap, _∙_}
+use mathlib.Core.Path.{_≡_, sym, _∙_}
 use borrow.Author.Needs.{needs}
 use denote.Ref.{now}
 use Rattle.format.specs.declared.Verdict.the-variants.{Passes}
@@ -9,7 +8,7 @@ use Rattle.format.specs.Refusals.{refusal}
 use Rattle.format.specs.Layouts.{indexOffset, entries}
 use Rattle.format.specs.Committing.{sectorsVerdict}
 use Rattle.format.specs.Exporting.{gapCount}
-use Rattle.format.specs.Answers.{exported, exportedExact, answered}
+use Rattle.format.specs.Answers.{exported, exportedExact}
 use Rattle.format.proofs.Chains.{by, stop, stops, goes, on-last}
 use Rattle.format.proofs.Answers.{outcome-stops}
 use Rattle.opening.specs.Answers.{contents}
