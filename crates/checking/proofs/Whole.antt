@@ -16,7 +16,7 @@ use Rattle.format.specs.Layouts.{DBLK, indexOffset, entries}
 use Rattle.format.specs.Opening.{isUserData, Opened}
 use Rattle.format.specs.Reading.{tableEntryAt, notWritten, unknownStatus, pointerAt, has, blockVerdict, itemVerdict, pointerVerdict, sectorVerdict}
 use Rattle.format.specs.Committing.{otherThan21, sectorsVerdict}
-use Rattle.format.proofs.Tests.{on-or-off, never, choose-true, choose-false}
+use Rattle.format.proofs.Tests.{on-or-off, never, off-rest, choose-true, choose-false}
 use Rattle.format.proofs.Refusals.{row-iff, then-rest, then-assoc}
 use Rattle.format.proofs.Checks.{keeps-others, sector-ok, sector-21, gives-21, address-ok}
 use Rattle.index.proofs.Entries.{offsets-done}
@@ -68,7 +68,7 @@ module _ (img : List ℕ) (t : Opened) {first : First} (p : FirstRefused img t f
   passes : (n : ℕ) → n < first .number .0 → notWritten img t n ≡ false → check n ≡ Passes
   passes n l w =
       let es : List Entry = entries img (indexOffset img) in
-      ⊎-elim (λ e. absurd (never e w)) (λ k. sector-ok img es t n .1 k) (address-ok img es t n .0 (p .before n l))
+      sector-ok img es t n .1 (off-rest w (address-ok img es t n .0 (p .before n l)))
 
   pub gap-first : (n : ℕ) → n < first .number .0 → ((i : ℕ) → i < n → notWritten img t i ≡ false) → notWritten img t n ≡ true
       → FirstOfAll img t (record { number = record { 0 = n }; verdict = Refuses (refusal 21 0) })

@@ -4,8 +4,7 @@ use mathlib.Core.Path.{_≡_, refl, sym, ap, _∙_}
 use Prim.Native.Nat.{ℕ, _≤_, _<_}
 use native.Mathlib.Omega.{arith}
 use lib.ListN.{length, take, length-replicate}
-use Rattle.fields.specs.Bytes.{part, overwrite}
-use Rattle.fields.proofs.Overwrite.{part-same}
+use Rattle.fields.specs.Bytes.{overwrite}
 use Rattle.format.specs.declared.Refusal.{Refusal}
 use Rattle.format.specs.declared.Verdict.{Verdict}
 use Rattle.format.specs.declared.Verdict.the-variants.{Passes, Refuses}
@@ -13,6 +12,7 @@ use Rattle.format.specs.Refusals.{Answer, refused, accepted}
 use Rattle.format.specs.Writing.{Outcome, outcome}
 use Rattle.format.specs.Answers.{answered}
 use Rattle.format.proofs.Buffers.{outcome-accepted, outcome-refused}
+use Rattle.format.proofs.Exporting.{front}
 use Rattle.text.specs.Buffer.{Writes, Prints}
 use Rattle.text.specs.Text.{TOO-LONG, NEWLINE, refusedLine, longestInput}
 use Rattle.text.proofs.Decimal.{length-refused}
@@ -45,10 +45,10 @@ module _ {A : Type 0} {size : A → ℕ} {call : List ℕ → Outcome A} (f : Fi
       ∙ ap (λ (o : Outcome A). shown size (o .result) (o .buffer)) (f .is blank ∙ ap (λ n. outcome blank (f .verdict n) (f .value) (overwrite blank 0 (f .image))) (length-replicate {A = ℕ} 65536 0))
 
   passes-text : f .verdict 65536 ≡ Passes → text size input (call blank) ≡ f .image
-  unfolding outcome shown part
+  unfolding outcome shown
   passes-text v =
       text-is ∙ (rw v refl) ∙ ap (λ n. take n (overwrite blank 0 (f .image))) (f .sized 65536 v)
-      ∙ part-same blank 0 (length (f .image)) (f .image) refl (omega (arith, f .room 65536 v, length-replicate {A = ℕ} 65536 0))
+      ∙ front (f .image) blank (omega (arith, f .room 65536 v, length-replicate {A = ℕ} 65536 0))
 
   refuses-text : (r : Refusal) → f .verdict 65536 ≡ Refuses r → text size input (call blank) ≡ refusedLine (r .number)
   unfolding outcome shown

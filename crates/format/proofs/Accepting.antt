@@ -219,7 +219,7 @@ module _ (img out : List ℕ) where
       outcome-accepts _ _ _ _ n .1 (
         exact-ok img at out .1
             (record {
-              opens = open-ok img at .0 (open-ok img at .1 (opens-back img at (e .kind) (e .table) (e .opens)));
+              opens = opens-back img at (e .kind) (e .table) (e .opens);
               sectors = sectors;
               file = record { sizes = sizes (e .kind) (e .table) (e .opens) (e .size) each sized; room = rw l (e .room) };
             }),
@@ -258,7 +258,7 @@ module _ (img out : List ℕ) where
       outcome-accepts _ _ _ _ n .1 (
         export-ok img at out .1
             (record {
-              opens = open-ok img at .0 (open-ok img at .1 (opens-back img at (e .kind) (e .table) (e .opens)));
+              opens = opens-back img at (e .kind) (e .table) (e .opens);
               sectors = addresses (e .kind) (e .table) (e .opens) (e .size) (e .each) (e .sized);
               some = some;
               file = record { sizes = sizes (e .kind) (e .table) (e .opens) (e .size) (e .each) (e .sized); room = rw l (e .room) };

@@ -23,7 +23,7 @@ use Rattle.format.specs.Writing.{placed}
 use Rattle.format.specs.Committing.{entryNumbers, holdsSector, onDisc, amongStored, stepFor, storeOne, storeAll, pieces, storedFor, pointersFor, newTable, newBlock, newBlockEntry, keptEntries, Appended, tableStart, indexStart, usedAfter, appendedFor, appended}
 use Rattle.format.specs.Facts.{Opens, Stores, all, again, new, Reindexed, blockLengthFor, blockEntry}
 use Rattle.format.specs.Demands.{Held, Additions, newEntries}
-use Rattle.format.proofs.Tests.{never, and-true}
+use Rattle.format.proofs.Tests.{never, off-rest, and-true}
 use Rattle.format.proofs.Lists.{Sized, length-flatten}
 use Rattle.format.proofs.Refusals.{answer-accepted}
 use Rattle.format.proofs.Numbers.{Numbered, inside-number, address-displaced}
@@ -49,7 +49,7 @@ module _ (img : List ℕ) (s : Sound img (indexOffset img)) where
       let f = onDisc-found img t d n e in
       let a : ℤ = negℤ (pos (t .negative)) +ℤ pos n in
       let m : Numbered t a n = record { is = address-displaced t a (pos n) refl; inside = f .inside } in
-      let good : SectorOk img (entries img (indexOffset img)) t n = ⊎-elim (λ w. absurd (never w (f .written))) (λ q. q) (s .sectors n (f .inside)) in
+      let good : SectorOk img (entries img (indexOffset img)) t n = off-rest (f .written) (s .sectors n (f .inside)) in
       record {
         address = a;
         reads =

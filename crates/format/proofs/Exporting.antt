@@ -168,7 +168,7 @@ flat-by Stands img opens sectors sizes stands =
     }
 
 -- which stands at the front of the buffer
-front : (file out : List ℕ) → length file ≤ length out → take (length file) (overwrite out 0 file) ≡ file
+pub front : (file out : List ℕ) → length file ≤ length out → take (length file) (overwrite out 0 file) ≡ file
 unfolding part
 front file out h = part-same out 0 (length file) file refl (omega arith)
 

@@ -18,7 +18,7 @@ use Rattle.format.specs.Layouts.{indexOffset, entries}
 use Rattle.format.specs.Opening.{Opened}
 use Rattle.format.specs.Reading.{notWritten, pointerAt, placeOf, itemBytes}
 use Rattle.format.specs.Committing.{sectorsVerdict, holdsSector}
-use Rattle.format.proofs.Tests.{on-or-off, never, choose-true, choose-false}
+use Rattle.format.proofs.Tests.{on-or-off, off-rest, choose-true, choose-false}
 use Rattle.format.proofs.Refusals.{firstRefusal-iff}
 use Rattle.format.proofs.Checks.{PointerOk, SectorOk, address-ok, item-inside}
 use Rattle.search.specs.Found.{Checked, slotAt}
@@ -30,7 +30,7 @@ pub sector-good : (img : List ℕ) (t : Opened) (a : ℕ) → Checked img t → 
     → SectorOk img (entries img (indexOffset img)) t a
 unfolding sectorsVerdict
 sector-good img t a k h w =
-    ⊎-elim (λ e. absurd (never e w)) (λ s. s)
+    off-rest w
     (firstRefusal-iff (t .count) (t .count) 0 (omega arith) (λ n l. address-ok img (entries img (indexOffset img)) t n) .0 (k .1) a (omega arith) h)
 
 -- ---- what an address has, by whether it is written
