@@ -12,8 +12,13 @@ use Rattle.format.specs.declared.ExportedExact.the-variants as export-ex
 use Rattle.format.specs.declared.Flat.{Flat}
 use Rattle.format.specs.declared.Located.{Located}
 use Rattle.format.specs.declared.Located.the-variants as locate
+use Rattle.format.specs.declared.LocatedOver.{LocatedOver}
+use Rattle.format.specs.declared.LocatedOver.the-variants as locate-over
 use Rattle.format.specs.declared.Place.{Place}
 use Rattle.format.specs.declared.Placed.{Placed}
+use Rattle.format.specs.declared.SourceOver.{SourceOver}
+use Rattle.format.specs.declared.SourceOver.the-variants as source-over
+use Rattle.format.specs.declared.Sourced.{Sourced}
 use Rattle.format.specs.declared.Updated.{Updated}
 use Rattle.format.specs.declared.Updated.the-variants as update
 use Rattle.format.specs.Refusals.{Answer, refused, accepted}
@@ -32,6 +37,15 @@ located (locate.Refused r) = refused r
 unfoldable pub bytesRead : Answer (List ℕ) → List ℕ
 bytesRead (accepted sector) = sector
 bytesRead (refused r) = []
+
+-- of a disc over its parent (8/13); what a read hands out is as above, a part of one of the two images
+unfoldable pub locatedOver : LocatedOver → Answer Sourced
+locatedOver (locate-over.In s) = accepted s
+locatedOver (locate-over.Refused r) = refused r
+
+unfoldable pub sourcedOver : SourceOver → Answer ℕ
+sourcedOver (source-over.Image n) = accepted n
+sourcedOver (source-over.Refused r) = refused r
 
 unfoldable pub updated : Updated → Answer Placed
 updated (update.To p) = accepted p

@@ -11,6 +11,8 @@ pub mod Committing
 pub mod RollingBack
 pub mod Exporting
 pub mod Importing
+pub mod Overlaying
+pub mod Flattening
 pub mod Answers
 pub mod Histories
 pub mod Examples

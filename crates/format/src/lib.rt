@@ -68,13 +68,31 @@ pub enum Located {
     Refused(Refusal),
 }
 
+// Where a sector of a disc over its parent (8/13) lies: in which image, 0 for the child and 1 for the parent, and where there.
+pub struct Sourced {
+    pub image: u64,
+    pub place: Place,
+}
+
+// What locating a sector of a disc over its parent answers.
+pub enum LocatedOver {
+    In(Sourced),
+    Refused(Refusal),
+}
+
+// What asking which of the two images it is a part of answers.
+pub enum SourceOver {
+    Image(u64),
+    Refused(Refusal),
+}
+
 // What a call that writes answers: how many bytes of the buffer the image has, and where its index is.
 pub struct Placed {
     pub used: u64,
     pub index: ByteOffset,
 }
 
-// What creating, committing, rolling back and importing answer.
+// What creating, committing, rolling back, importing and flattening answer.
 pub enum Updated {
     To(Placed),
     Refused(Refusal),
