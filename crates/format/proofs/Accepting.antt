@@ -36,6 +36,7 @@ use Rattle.format.proofs.Opens.{opens-forth, opens-back, opened-as, ope
 use Rattle.format.proofs.Addresses.{inside-each, each-inside}
 use Rattle.format.proofs.Buffers.{outcome-accepts}
 use Rattle.format.proofs.Reading.{not-written, entry-forth, pointer-is, entry-back, inside-entry, entry-inside, locating}
+use Rattle.format.proofs.Overlaid.{locating-over}
 use Rattle.format.proofs.Exporting.{SizeOk, exact-ok, export-ok, size-or-none, flat-size, file-length}
 use Rattle.format.proofs.Importing.{Importable, verdict-ok, file-whole, file-some, file-few, file-count, addressesOf, made, made-offset, made-sound, made-opened, made-entries, made-empty, made-numbers, added, importedUsed, importedIndex, import-is, import-accepted}
 use Rattle.format.proofs.Created.{length-new}
@@ -428,4 +429,5 @@ demand-1-accepted = record {
   exporting = λ img out n. (export-forth img out n, export-back img out n);
   importing = λ buffer file size application major minor mediaType creationTime lastWrittenTime p.
       (import-forth buffer file size application major minor mediaType creationTime lastWrittenTime p, import-back buffer file size application major minor mediaType creationTime lastWrittenTime p);
+  locatingOver = locating-over;
 }

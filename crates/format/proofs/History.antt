@@ -18,7 +18,9 @@ use Rattle.format.specs.Writing.{longestBuffer, Outcome, placed, setHead
 use Rattle.format.specs.Committing.{append, commit}
 use Rattle.format.specs.RollingBack.{rollback}
 use Rattle.format.specs.Histories.{Start, creates, imports, startOn, OfBytes, Call, commits, rollsBack, Point, Moment, reads, ReadTheSame, pointNow, started, outcomeOf, pointsAfter, momentAfter, after, atEnd, Throughout, end, made, Permitted}
-use Rattle.format.specs.Demands.{ReturnsTo, Unchanged, Effect, Promised, Distinct, nothing, fresh, Kept, Demand3}
+use Rattle.format.specs.Overlaying.{over, discOver}
+use Rattle.format.specs.Demands.{View, ReturnsTo, Unchanged, Effect, Promised, Distinct, nothing, fresh, Kept, KeptBy, Demand3, Demand3Over}
+use Rattle.format.proofs.Overlaying.{over-child}
 use Rattle.format.proofs.Lists.{all-map}
 use Rattle.format.proofs.Checks.{Sound, rollback-ok}
 use Rattle.format.proofs.Agree.{Agree, agree-refl, agree-trans, sound-agree, reads-agree}
@@ -65,7 +67,7 @@ module _ (m : Moment) (i : Inv m) where
   offset-inside p k = omega (arith, sound-agree (k .image) x (k .agree) (p .offset) (k .sound) .opens .index .head, length-x)
 
   -- ---- (a)
-  can-return : (time : ℕ) (p : Point) → StillThere x p → ReturnsTo m (p .offset) time p
+  can-return : (time : ℕ) (p : Point) → StillThere x p → ReturnsTo (λ disc. disc) m (p .offset) time p
   unfolding rollback after outcomeOf momentAfter reads ReadTheSame read
   can-return time p k =
       let s : Sound x (p .offset) = sound-agree (k .image) x (k .agree) (p .offset) (k .sound) in
@@ -110,15 +112,26 @@ unchanged m c r e =
     record { buffer = ap (λ (n : Moment). n .buffer) (refused-same m c r e); used = ap (λ (n : Moment). n .used) (refused-same m c r e) }
 
 -- ---- each call keeps its promise, and the invariant
-effect : (m : Moment) → Inv m → (c : Call) → Effect m c
+effect : (m : Moment) → Inv m → (c : Call) → Effect (λ disc. disc) m c
 unfolding Effect outcomeOf reads
-effect m i (rollsBack offset time) = all-map (λ p k e. subst (λ o. ReturnsTo m o time p) e (can-return m i time p k)) (i .points)
+effect m i (rollsBack offset time) = all-map (λ p k e. subst (λ o. ReturnsTo (λ disc. disc) m o time p) e (can-return m i time p k)) (i .points)
 effect m i (commits addresses size sectors time) = λ p e.
     rw (after-accepted m (commits addresses size sectors time) p e)
     (demand-2-committing (m .buffer) (i .bytes) (m .used) addresses size sectors time p e .disc)
 
-promised : (m : Moment) → Inv m → (c : Call) → Promised m c
-promised m i c = record { effect = effect m i c; unchanged = unchanged m c }
+-- the same through a view in which an address shows what the disc reads there, and the sector if that is one
+record Faithful (seen : View) : Type 0 where
+  alike : (one other : ℤ → Answer (List ℕ)) (a : ℤ) → one a ≡ other a → seen one a ≡ seen other a
+  sector : (disc : ℤ → Answer (List ℕ)) (a : ℤ) (d : List ℕ) → disc a ≡ accepted d → seen disc a ≡ accepted d
+
+effect-seen : (seen : View) → Faithful seen → (m : Moment) (c : Call) → Effect (λ disc. disc) m c → Effect seen m c
+unfolding Effect ReadTheSame
+effect-seen seen f m (rollsBack offset time) k = all-map (λ p h e. record { accepts = h e .accepts; same = λ a. f .alike _ _ a (h e .same a) }) k
+effect-seen seen f m (commits addresses size sectors time) k = λ p e.
+    record { named = λ i l. f .sector _ _ _ (k p e .named i l); others = λ a o. f .alike _ _ a (k p e .others a o) }
+
+promised : (seen : View) → Faithful seen → (m : Moment) → Inv m → (c : Call) → Promised seen m c
+promised seen f m i c = record { effect = effect-seen seen f m c (effect m i c); unchanged = unchanged m c }
 
 -- an accepted commit's index lies past every point's
 distinct-new : (m : Moment) → Inv m → (o : ℕ) → m .used ≤ o → All (λ (q : Point). o ≢ q .offset) (m .points)
@@ -169,12 +182,12 @@ inv-after m i c h = go (outcomeOf m c .result) refl
     go (accepted p) e = inv-accepted m i c h p e
 
 -- ---- the whole list
-kept : (m : Moment) (calls : List Call) → Inv m → Throughout Permitted m calls → Kept m calls
+kept : (seen : View) → Faithful seen → (m : Moment) (calls : List Call) → Inv m → Throughout Permitted m calls → Kept seen m calls
 unfolding atEnd
-kept m _ i end = record { promises = end; distinct = i .distinct }
-kept m _ i (made {c = c} {cs = cs} h hs) =
-    let r = kept (after m c) cs (inv-after m i c h) hs in
-    record { promises = made (promised m i c) (r .promises); distinct = r .distinct }
+kept seen f m _ i end = record { promises = end; distinct = i .distinct }
+kept seen f m _ i (made {c = c} {cs = cs} h hs) =
+    let r = kept seen f (after m c) cs (inv-after m i c h) hs in
+    record { promises = made (promised seen f m i c) (r .promises); distinct = r .distinct }
 
 inv-started : (buffer : List ℕ) (p : Placed) → Started p buffer → Inv (started buffer p)
 unfolding started
@@ -194,5 +207,16 @@ start-accepted buffer b (creates count application major minor mediaType creatio
 start-accepted buffer b (imports file size application major minor mediaType creationTime lastWrittenTime) h p e =
     import-started buffer b file size application (h .1) major minor mediaType creationTime lastWrittenTime p e (h .0)
 
+kept-by : (seen : View) → Faithful seen → KeptBy seen
+kept-by seen f buffer b s h p e calls permitted = kept seen f _ calls (inv-started _ p (start-accepted buffer b s h p e)) permitted
+
 pub demand-3 : Demand3
-demand-3 buffer b s h p e calls permitted = kept _ calls (inv-started _ p (start-accepted buffer b s h p e)) permitted
+demand-3 = kept-by (λ disc. disc) (record { alike = λ one other a e. e; sector = λ disc a d e. e })
+
+pub demand-3-over : Demand3Over
+unfolding discOver
+demand-3-over parent =
+    kept-by (discOver parent) (record {
+      alike = λ one other a e. ap (λ (x : Answer (List ℕ)). over x (read parent a)) e;
+      sector = λ disc a d e. ap (λ (x : Answer (List ℕ)). over x (read parent a)) e ∙ over-child d (read parent a);
+    })

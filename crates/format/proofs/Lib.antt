@@ -16,7 +16,9 @@ pub mod Bytes
 pub mod Letters
 pub mod Appended
 pub mod Buffers
+pub mod Overlaying
 pub mod Refusing
+pub mod Overlaid
 pub mod Committed
 pub mod Created
 pub mod Reading

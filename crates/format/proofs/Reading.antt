@@ -112,7 +112,7 @@ module _ (img : List ℕ) (k : TableKind) (t : ℕ) (a : ℤ) where
     pub entry-inside : outside (openedAs img k t) a ≡ false
     entry-inside = number-inside (openedAs img k t) a (e .number) numbered
 
-    entry-number : entryNumber (openedAs img k t) a ≡ e .number
+    pub entry-number : entryNumber (openedAs img k t) a ≡ e .number
     entry-number = number-is (openedAs img k t) a (e .number) numbered
 
 -- ---- an address is located exactly if it names an item
@@ -186,10 +186,10 @@ demand-2-reading img a sector = (reads-forth img a sector, reads-back img a sect
 -- ---- the same of what the call hands out
 -- the place of an item lies in the image, and no item is empty
 module _ (img : List ℕ) (a : ℤ) (p : Place) (n : NamesItem img a p) where
-  item-fits : p .start .0 + p .size ≤ length img
+  pub item-fits : p .start .0 + p .size ≤ length img
   item-fits = let k = n .names .itemOk in rw (n .start, n .size) (omega (arith, item-inside _ _ _ k, k .block .fits))
 
-  item-some : part img (p .start .0) (p .size) ≢ []
+  pub item-some : part img (p .start .0) (p .size) ≢ []
   item-some e = n .names .itemOk .block .size (sym (n .size) ∙ sym (length-part img (p .start .0) (p .size) item-fits) ∙ ap length e)
 
 given : (img : List ℕ) (a : ℤ) (sector : List ℕ) (r : Answer (List ℕ)) → read img a ≡ r → bytesRead r ≡ sector → sector ≢ [] → read img a ≡ accepted sector

@@ -25,7 +25,7 @@ use Rattle.format.specs.Committing.{Appended, argumentsVerdict, anyOutsi
 use Rattle.format.specs.RollingBack.{rollbackVerdict, rollback}
 use Rattle.format.specs.Exporting.{gapCount, sizeVerdict, fileVerdict, exactVerdict, exportVerdict, exportExact, export}
 use Rattle.format.specs.Importing.{importVerdict}
-use Rattle.format.specs.Demands.{FromTo, openingNumber, readingNumber, creatingNumber, committingNumber, rollingBackNumber, exportingNumber, importingNumber, PlaceFor, atHeader, atIndex, atEntry, atTable, atTableEntry, atBlock, atNone, NoSector, Demand1Refusals, SecondRefused, NothingWritten, UnwrittenRefused}
+use Rattle.format.specs.Demands.{FromTo, openingNumber, readingNumber, creatingNumber, committingNumber, rollingBackNumber, exportingNumber, importingNumber, overNumber, PlaceFor, atHeader, atIndex, atEntry, atTable, atTableEntry, atBlock, atNone, PlaceOver, inChild, inParent, EntryOf, NoSector, Demand1Refusals, SecondRefused, NothingWritten, UnwrittenRefused}
 use Rattle.format.specs.Facts.{OpensWith}
 use Rattle.format.proofs.Tests.{never, same-on, same-true, same-iff, differs-true, differs-iff, and-on, and-true, choose-cases}
 use Rattle.format.proofs.Refusals.{firstRefusal-iff, Says, row-says, off-says, then-says, after-says, first-says, says-refused, says-also, Gives, says-not, row-gives, then-gives, gives-then, answer-passes, answer-refused}
@@ -35,6 +35,7 @@ use Rattle.format.proofs.Buffers.{outcome-refused, outcome-refuses}
 use Rattle.format.proofs.Opens.{opens-with}
 use Rattle.format.proofs.Exporting.{missing-iff, range-opens, range-count, range-read}
 use Rattle.format.proofs.Importing.{import-refused}
+use Rattle.format.proofs.Overlaying.{over-says, readBy, bothBy, locate-over}
 
 -- a number of these, at its place
 abbrev Listed : List ℕ → ℕ → (ℕ → Type 0) → (ℕ → Type 0) → ℕ → ℕ → Type 0
@@ -136,14 +137,32 @@ unfolding otherThan21 Says
 other-says P Passes k = tt
 other-says P (Refuses r) k = choose-cases (Says P) _ _ _ (λ e. tt) (λ e. k (same-iff .0 e))
 
+-- a range but for its least
+but-least : {least most : ℕ} (n : ℕ) → FromTo least most n → n ≢ least → FromTo (suc least) most n
+but-least n f d = (⊎-elim (λ e. absurd (d (sym e))) (λ k. k) (eq-or-lt-of-le (f .0)), f .1)
+
+-- the parent's numbers, with 100 added
+with-100 : (n : ℕ) → readingNumber n → n ≢ 20 → n ≢ 21 → FromTo 101 114 (100 + n) ⊎ (FromTo 122 127 (100 + n) ⊎ FromTo 170 173 (100 + n))
+with-100 n (inl (inl f)) c d = inl (omega (arith, f))
+with-100 n (inl (inr f)) c d = inr (inr (omega (arith, f)))
+with-100 n (inr (inl f)) c d = inr (inl (let h = but-least n (but-least n f c) d in omega (arith, h)))
+with-100 n (inr (inr f)) c d = inr (inr (omega (arith, f)))
+
 -- ---- the verdicts of the calls
-read-says : (img : List ℕ) (o : ℕ) (a : ℤ) → Says (Listed img o (λ n. n ≡ entryNumber (opened img o) a) readingNumber) (readVerdict img o a)
+pub read-says : (img : List ℕ) (o : ℕ) (a : ℤ) → Says (Listed img o (λ n. n ≡ entryNumber (opened img o) a) readingNumber) (readVerdict img o a)
 unfolding readVerdict addressVerdict
 read-says img o a =
     then-says _ _ _ (open-also img o _ _)
     (then-says _ _ _ (row-says _ _ (refusal 20 0) (inr (inl (omega arith)), atNone (inl (omega arith))))
     (sector-says img o _ readingNumber (λ n f. inr (inl (omega arith))) _ refl
     (row-says _ _ (refusal 73 0) (inr (inr refl), atNone (inr (inr (inr (omega arith))))))))
+
+-- of a child over its parent
+over-reads : (child parent : List ℕ) (a : ℤ) → Says (λ n p. overNumber n × PlaceOver child parent (EntryOf child a) (EntryOf parent a) n p) (bothBy child parent a)
+over-reads child parent a =
+    over-says _ (inl (inr (inl (omega arith))), inChild (atNone {n = 21} (inl (omega arith)))) (readBy child a) (readBy parent a)
+    (says-also _ (λ n p s d. (inl (s .0), inChild (s .1))) (read-says child _ a))
+    (says-also _ (λ n p s c d. (inr (with-100 n (s .0) c d), inParent (s .1))) (read-says parent _ a))
 
 create-says : (buffer : List ℕ) (count : ℕ) (application : List ℕ) → Says (λ n p. creatingNumber n × (p ≡ 0)) (createVerdict buffer count application)
 unfolding createVerdict
@@ -156,10 +175,6 @@ create-says buffer count application =
 writable-says : (img : List ℕ) (o : ℕ) (LookedAt : ℕ → Type 0) (N : ℕ → Type 0) → Says (Listed img o LookedAt (λ n. openingNumber n ⊎ ((n ≡ 74) ⊎ N n))) (writableVerdict img o)
 unfolding writableVerdict
 writable-says img o LookedAt N = then-says _ _ _ (open-also img o LookedAt _) (row-says _ _ (refusal 74 0) (inr (inl refl), atNone (inr (inr (inr (omega arith))))))
-
--- 22 to 27
-not-21 : (n : ℕ) → FromTo 21 27 n → n ≢ 21 → FromTo 22 27 n
-not-21 n f d = (⊎-elim (λ e. absurd (d (sym e))) (λ k. k) (eq-or-lt-of-le (f .0)), f .1)
 
 -- the table entries of the disc
 module _ (img : List ℕ) (o : ℕ) where
@@ -177,7 +192,7 @@ module _ (img : List ℕ) (o : ℕ) where
       then-says Committing _ _ (row-says Committing _ (refusal 20 0) (inr (inr (inl refl)), atNone (inl (omega arith))))
       (first-says Committing _ _ _ 0 (omega arith) (λ i h.
       other-says Committing _
-      (says-also _ (λ n p s d. (inr (inr (inr (inl (not-21 n (s .0) d)))), s .1))
+      (says-also _ (λ n p s d. (inr (inr (inr (inl (but-least n (s .0) d)))), s .1))
       (sector-says img o OnDisc (FromTo 21 27) (λ n f. f) i h (off-says _ _ _ (first-known img (opened img o) i (writable-ok img o .0 w .first))))))))
 
 commit-says : (buffer : List ℕ) (used : ℕ) (addresses : List ℤ) (size : ℕ) (sectors : List ℕ) (new : Appended)
@@ -250,13 +265,14 @@ demand-1-refusals = record {
   exporting = λ img out r e. says-refused _ _ r (export-says img _ out) (outcome-refused _ _ _ _ r e .0);
   importing = λ buffer file size application major minor mediaType creationTime lastWrittenTime r e.
       says-refused _ _ r (import-says buffer file size application _) (import-refused buffer file size application major minor mediaType creationTime lastWrittenTime r e .0);
+  locatingOver = λ child parent a r e. says-refused _ _ r (over-reads child parent a) (answer-refused _ _ r (sym (locate-over child parent a) ∙ e));
 }
 
 -- ---- a number that is none of a verdict's
 apart-from : (m : ℕ) {P : ℕ → ℕ → Type 0} (v : Verdict) (N : ℕ → Type 0) → ((n p : ℕ) → P n p → N n) → ¬ N m → Says P v → ¬ Gives m v
 apart-from m v N f apart s = says-not m v (says-also v (λ n p k e. apart (subst N e (f n p k))) s)
 
-open-not : (m : ℕ) → ¬ openingNumber m → (img : List ℕ) (o : ℕ) → ¬ Gives m (openVerdict img o)
+pub open-not : (m : ℕ) → ¬ openingNumber m → (img : List ℕ) (o : ℕ) → ¬ Gives m (openVerdict img o)
 open-not m apart img o = apart-from m _ openingNumber (λ n p k. k .0) apart (open-says img o NoSector)
 
 -- ---- 74: no check before it gives it, and none behind it

@@ -3,7 +3,7 @@ use mathlib.Core.Bool.{true, false}
 use mathlib.Core.List.{List, [], _∷_, _++_}
 use mathlib.Core.Logic.{_≢_, _⊎_, _↔_}
 use mathlib.Core.Path.{_≡_}
-use Prim.Native.Nat.{ℕ, _+_, _*_, _≤_, _<_}
+use Prim.Native.Nat.{ℕ, zero, suc, _+_, _*_, _≤_, _<_}
 use lib.ListN.{length, take, getD, replicate}
 use lib.IntN.{ℤ, pos, _+ℤ_}
 use Rattle.fields.specs.Bytes.{part, toLe, overwrite}
@@ -13,6 +13,7 @@ use Rattle.format.specs.declared.Flat.{Flat}
 use Rattle.format.specs.declared.Place.{Place}
 use Rattle.format.specs.declared.Placed.{Placed}
 use Rattle.format.specs.declared.Refusal.{Refusal}
+use Rattle.format.specs.declared.Sourced.{Sourced}
 use Rattle.format.specs.declared.TableKind.{TableKind}
 use Rattle.format.specs.declared.TableKind.the-variants.{First, Second}
 use Rattle.format.specs.Lists.{All, Counts, IsBytes}
@@ -27,6 +28,7 @@ use Rattle.format.specs.Committing.{pieces, commit}
 use Rattle.format.specs.RollingBack.{rollback}
 use Rattle.format.specs.Exporting.{exportExact, flat, export}
 use Rattle.format.specs.Importing.{import}
+use Rattle.format.specs.Overlaying.{discOver, readOver, locateOver, sourceOver}
 use Rattle.format.specs.Histories.{Start, startOn, OfBytes, Call, commits, rollsBack, Point, Moment, reads, ReadTheSame, started, outcomeOf, after, atEnd, Throughout, Permitted}
 use Rattle.format.specs.Facts.{Opens, OpensWith, NotWritten, HasEntry, EntryNames, CreateOk, BufferOk, ArgumentsOk, DiscOk, Stores, Reindexed, blockLengthFor, blockEntry}
 
@@ -56,6 +58,10 @@ exportingNumber n = openingNumber n ⊎ FromTo 21 27 n ⊎ (n ≡ 73) ⊎ FromTo
 abbrev pub importingNumber : ℕ → Type 0
 importingNumber n = FromTo 30 31 n ⊎ (n ≡ 42) ⊎ (n ≡ 33) ⊎ (n ≡ 35)
 
+-- 8/13: the child's numbers, and "other parent numbers .. with 100 added"
+abbrev pub overNumber : ℕ → Type 0
+overNumber n = readingNumber n ⊎ FromTo 101 114 n ⊎ FromTo 122 127 n ⊎ FromTo 170 173 n
+
 -- 1/13's list: the place of each number, of a call that opens the image at o and looks at such table entries
 pub data PlaceFor (img : List ℕ) (o : ℕ) (LookedAt : ℕ → Type 0) : ℕ → ℕ → Type 0 where
   -- "0 for 1, 2 and 3"
@@ -73,6 +79,19 @@ pub data PlaceFor (img : List ℕ) (o : ℕ) (LookedAt : ℕ → Type 0) : ℕ �
   -- "0 for all others"
   atNone : {n : ℕ} → FromTo 20 21 n ⊎ FromTo 30 35 n ⊎ FromTo 40 42 n ⊎ FromTo 70 74 n → PlaceFor img o LookedAt n 0
 
+-- 8/13, a disc over its parent: "places in the parent" are those of its own numbers, to which 100 is added
+pub data PlaceOver (child parent : List ℕ) (OfChild OfParent : ℕ → Type 0) : ℕ → ℕ → Type 0 where
+  inChild : {n p : ℕ} → PlaceFor child (indexOffset child) OfChild n p → PlaceOver child parent OfChild OfParent n p
+  inParent : {n p : ℕ} → PlaceFor parent (indexOffset parent) OfParent n p → PlaceOver child parent OfChild OfParent (100 + n) p
+
+-- the table entry that a read of this address looks at
+abbrev pub EntryOf : List ℕ → ℤ → ℕ → Type 0
+EntryOf img a n = n ≡ entryNumber (opened img (indexOffset img)) a
+
+-- an entry of the table
+abbrev pub AnyEntry : List ℕ → ℕ → Type 0
+AnyEntry img n = n < opened img (indexOffset img) .count
+
 -- where the answer is a refusal, its number and its place are such
 abbrev pub RefusesBy : {A : Type 0} → (ℕ → Type 0) → (ℕ → ℕ → Type 0) → Answer A → Type 0
 RefusesBy N P a = (r : Refusal) → a ≡ refused r → N (r .number) × P (r .number) (r .place .0)
@@ -84,20 +103,22 @@ NoSector a = ⊥
 pub record Demand1Refusals : Type 0 where
   pub counting : (img : List ℕ) → RefusesBy openingNumber (PlaceFor img (indexOffset img) NoSector) (sectorCount img)
   pub locating : (img : List ℕ) (a : ℤ)
-      → RefusesBy readingNumber (PlaceFor img (indexOffset img) (λ n. n ≡ entryNumber (opened img (indexOffset img)) a)) (locate img a)
+      → RefusesBy readingNumber (PlaceFor img (indexOffset img) (EntryOf img a)) (locate img a)
   pub creating : (buffer : List ℕ) (count : ℕ) (application : List ℕ) (major minor mediaType creationTime lastWrittenTime : ℕ)
       → RefusesBy creatingNumber (λ n p. p ≡ 0) (create buffer count application major minor mediaType creationTime lastWrittenTime .result)
   pub committing : (buffer : List ℕ) (used : ℕ) (addresses : List ℤ) (size : ℕ) (sectors : List ℕ) (time : ℕ)
       → let img = take used buffer in
-      RefusesBy committingNumber (PlaceFor img (indexOffset img) (λ a. a < opened img (indexOffset img) .count)) (commit buffer used addresses size sectors time .result)
+      RefusesBy committingNumber (PlaceFor img (indexOffset img) (AnyEntry img)) (commit buffer used addresses size sectors time .result)
   pub rollingBack : (buffer : List ℕ) (used offset time : ℕ)
       → RefusesBy rollingBackNumber (PlaceFor (take used buffer) offset NoSector) (rollback buffer used offset time .result)
   pub exportingExactly : (img out : List ℕ)
-      → RefusesBy exportingNumber (PlaceFor img (indexOffset img) (λ n. n < opened img (indexOffset img) .count)) (exportExact img out .result)
+      → RefusesBy exportingNumber (PlaceFor img (indexOffset img) (AnyEntry img)) (exportExact img out .result)
   pub exporting : (img out : List ℕ)
-      → RefusesBy exportingNumber (PlaceFor img (indexOffset img) (λ n. n < opened img (indexOffset img) .count)) (export img out .result)
+      → RefusesBy exportingNumber (PlaceFor img (indexOffset img) (AnyEntry img)) (export img out .result)
   pub importing : (buffer file : List ℕ) (size : ℕ) (application : List ℕ) (major minor mediaType creationTime lastWrittenTime : ℕ)
       → RefusesBy importingNumber (λ n p. p ≡ 0) (import buffer file size application major minor mediaType creationTime lastWrittenTime .result)
+  pub locatingOver : (child parent : List ℕ) (a : ℤ)
+      → RefusesBy overNumber (PlaceOver child parent (EntryOf child a) (EntryOf parent a)) (locateOver child parent a)
 
 -- "Each refusal .. writes nothing": every byte of the buffer is as it was
 pub record Demand1Unchanged : Type 0 where
@@ -113,6 +134,10 @@ pub record Demand1Unchanged : Type 0 where
   pub importing : (buffer file : List ℕ) (size : ℕ) (application : List ℕ) (major minor mediaType creationTime lastWrittenTime : ℕ) (r : Refusal)
       → import buffer file size application major minor mediaType creationTime lastWrittenTime .result ≡ refused r
       → import buffer file size application major minor mediaType creationTime lastWrittenTime .buffer ≡ buffer
+
+-- an address reads as 21: it is not written
+abbrev pub Missing : Answer (List ℕ) → Type 0
+Missing answer = answer ≡ refused (refusal 21 0)
 
 -- ---- "a call to which none applies is accepted": each call is accepted, and with which value, exactly if these facts hold. No check is mentioned
 -- in them: only places, fields, checksums, index entries and lengths (and, of a sector that a disc holds, that some address reads as it).
@@ -133,6 +158,19 @@ pub record NamesItem (img : List ℕ) (a : ℤ) (place : Place) : Type 0 where
   pub names : EntryNames img (indexOffset img) kind table (hasEntry .number)
   pub start : place .start .0 ≡ names .block + blockHeaderLength + names .item * sectorSize img (names .block)
   pub size : place .size ≡ sectorSize img (names .block)
+
+-- address a of the image is one of its own, and not written
+pub record NamesNothing (img : List ℕ) (a : ℤ) : Type 0 where
+  pub kind : TableKind
+  pub table : ℕ
+  pub opens : Opens img (indexOffset img) kind table
+  pub hasEntry : HasEntry img kind table a
+  pub unwritten : NotWritten img kind table (hasEntry .number)
+
+-- address a of a child over its parent names an item: the child's, or, where it is not written there, the parent's
+pub data NamesOver (child parent : List ℕ) (a : ℤ) : Sourced → Type 0 where
+  theChild : {place : Place} → NamesItem child a place → NamesOver child parent a (record { image = 0; place = place })
+  theParent : {place : Place} → NamesNothing child a → NamesItem parent a place → NamesOver child parent a (record { image = 1; place = place })
 
 -- a disc holds a sector: some address reads as it
 pub record Held (img : List ℕ) (sector : List ℕ) : Type 0 where
@@ -219,6 +257,7 @@ pub record Demand1Accepted : Type 0 where
   pub exporting : (img out : List ℕ) (n : Flat) → (export img out .result ≡ accepted n) ↔ ExportOk img out n
   pub importing : (buffer file : List ℕ) (size : ℕ) (application : List ℕ) (major minor mediaType creationTime lastWrittenTime : ℕ) (p : Placed)
       → (import buffer file size application major minor mediaType creationTime lastWrittenTime .result ≡ accepted p) ↔ ImportOk buffer file size application p
+  pub locatingOver : (child parent : List ℕ) (a : ℤ) (s : Sourced) → (locateOver child parent a ≡ accepted s) ↔ NamesOver child parent a s
 
 -- ---- what an accepted call leaves as it was: all of these bytes
 pub record Leaves (before after : List ℕ) (Untouched : ℕ → Type 0) : Type 0 where
@@ -255,7 +294,7 @@ pub record WritesOnly : Type 0 where
       → let after = import buffer file size application major minor mediaType creationTime lastWrittenTime .buffer in
       Leaves buffer after (λ i. p .used ≤ i) × HeaderSet after (p .index .0) lastWrittenTime
 
--- ---- 11/13: "Commit, rollback, .. are refused" on a table of the second kind, with 74, "(rollback: at its offset), after opening's": exactly if the image
+-- ---- 11/13: "Commit, rollback, .. and flattening such a child are refused" on a table of the second kind, with 74, "(rollback: at its offset), after opening's": exactly if the image
 -- opens with such a table and no check before it applies
 pub record SecondRefused : Type 0 where
   pub committing : (buffer : List ℕ) (used : ℕ) (addresses : List ℤ) (size : ℕ) (sectors : List ℕ) (time : ℕ)
@@ -402,10 +441,6 @@ ExportedImported =
     imported .result ≢ refused (refusal 35 0) → ImportedBack img (f .range .lowest .0) imported
 
 -- ---- 9/13, the export that fills gaps.
--- an address reads as 21: it is not written
-abbrev pub Missing : Answer (List ℕ) → Type 0
-Missing answer = answer ≡ refused (refusal 21 0)
-
 -- a piece of so many bytes stands for a sector: it is what a read gives, or zeros where the address is not written
 abbrev pub SectorOrZeros : ℕ → Answer (List ℕ) → List ℕ → Type 0
 SectorOrZeros size answer piece = (answer ≡ accepted piece) ⊎ (Missing answer × (piece ≡ replicate size 0))
@@ -440,12 +475,58 @@ RulesAgree =
     (img out : List ℕ) → ((a : ℤ) → ¬ Missing (read img a))
     → export img out ≡ record { result = noneFilled (exportExact img out .result); buffer = exportExact img out .buffer }
 
--- ---- Demand 3: one claim over the whole list.
+-- ---- 8/13, a disc over its parent. Demand 2: a sector is given exactly if the child's table entry names an item, or is not written and the parent's names one,
+-- and then it is that item's bytes.
+-- the image of this number
+unfoldable pub imageBy : List ℕ → List ℕ → ℕ → List ℕ
+imageBy child parent zero = child
+imageBy child parent (suc n) = parent
+
+pub record ItemOver (child parent : List ℕ) (a : ℤ) (sector : List ℕ) : Type 0 where
+  pub source : Sourced
+  pub names : NamesOver child parent a source
+  pub bytes : part (imageBy child parent (source .image)) (source .place .start .0) (source .place .size) ≡ sector
+
+abbrev pub OverReading : Type 0
+OverReading = (child parent : List ℕ) (a : ℤ) (sector : List ℕ) → (readOver child parent a ≡ accepted sector) ↔ ItemOver child parent a sector
+
+-- the same of what the call hands out
+abbrev pub OverReturned : Type 0
+OverReturned =
+    (child parent : List ℕ) (a : ℤ) (sector : List ℕ) → ((bytesRead (readOver child parent a) ≡ sector) × (sector ≢ [])) ↔ ItemOver child parent a sector
+
+-- "a second call says which, or gives the same refusal", and a third says where there: what is read is that part of that image
+pub record Agreeing (child parent : List ℕ) (a : ℤ) : Type 0 where
+  pub source : (s : Sourced) → locateOver child parent a ≡ accepted s → sourceOver child parent a ≡ accepted (s .image)
+  pub inside : (s : Sourced) → locateOver child parent a ≡ accepted s → s .place .start .0 + s .place .size ≤ length (imageBy child parent (s .image))
+  pub bytes : (s : Sourced) → locateOver child parent a ≡ accepted s
+      → readOver child parent a ≡ accepted (part (imageBy child parent (s .image)) (s .place .start .0) (s .place .size))
+  pub refuses : (r : Refusal) → (locateOver child parent a ≡ refused r) ↔ (readOver child parent a ≡ refused r)
+  pub sourceRefuses : (r : Refusal) → (sourceOver child parent a ≡ refused r) ↔ (readOver child parent a ≡ refused r)
+
+abbrev pub OverAgrees : Type 0
+OverAgrees = (child parent : List ℕ) (a : ℤ) → Agreeing child parent a
+
+-- its refusals, by those of the two images: the parent's count only where the child's is 21
+pub data RefusedOver (child parent : List ℕ) (a : ℤ) : Refusal → Type 0 where
+  byChild : {r : Refusal} → read child a ≡ refused r → r .number ≢ 21 → RefusedOver child parent a r
+  byNeither : Missing (read child a) → Missing (read parent a) ⊎ (read parent a ≡ refused (refusal 20 0)) → RefusedOver child parent a (refusal 21 0)
+  byParent : {r : Refusal} → Missing (read child a) → read parent a ≡ refused r → r .number ≢ 20 → r .number ≢ 21
+      → RefusedOver child parent a (refusal (100 + r .number) (r .place .0))
+
+abbrev pub OverRefused : Type 0
+OverRefused = (child parent : List ℕ) (a : ℤ) (r : Refusal) → (readOver child parent a ≡ refused r) ↔ RefusedOver child parent a r
+
+-- ---- Demand 3: one claim over the whole list. `seen` is how the disc of a moment is read: alone, or, by 8/13, "also where each moment is read with the parent,
+-- whose bytes stay unchanged".
+abbrev pub View : Type 0
+View = (ℤ → Answer (List ℕ)) → ℤ → Answer (List ℕ)
+
 -- (a) A rollback, made at m, to the offset of a point: it is accepted, it answers `used` and the offset, and right after it every address
 -- reads the same bytes, or the same refusal, number and place, as at the point
-pub record ReturnsTo (m : Moment) (offset time : ℕ) (p : Point) : Type 0 where
+pub record ReturnsTo (seen : View) (m : Moment) (offset time : ℕ) (p : Point) : Type 0 where
   pub accepts : outcomeOf m (rollsBack offset time) .result ≡ accepted (placed (m .used) offset)
-  pub same : ReadTheSame (reads (after m (rollsBack offset time))) (p .disc)
+  pub same : ReadTheSame (seen (reads (after m (rollsBack offset time)))) (seen (p .disc))
 
 -- (d) "A refused call passes buffer and `used` on unchanged."
 pub record Unchanged (m n : Moment) : Type 0 where
@@ -453,15 +534,15 @@ pub record Unchanged (m n : Moment) : Type 0 where
   pub used : n .used ≡ m .used
 
 -- (a) for a rollback; (c) for a commit: if it is accepted, the named addresses read as handed in and every other as just before it
-unfoldable pub Effect : Moment → Call → Type 0
-Effect m (rollsBack offset time) = All (λ (p : Point). p .offset ≡ offset → ReturnsTo m offset time p) (m .points)
-Effect m (commits addresses size sectors time) =
+unfoldable pub Effect : View → Moment → Call → Type 0
+Effect seen m (rollsBack offset time) = All (λ (p : Point). p .offset ≡ offset → ReturnsTo seen m offset time p) (m .points)
+Effect seen m (commits addresses size sectors time) =
     (p : Placed) → outcomeOf m (commits addresses size sectors time) .result ≡ accepted p
-    → ReadsCommitted (reads m) (reads (after m (commits addresses size sectors time))) addresses size sectors
+    → ReadsCommitted (seen (reads m)) (seen (reads (after m (commits addresses size sectors time)))) addresses size sectors
 
 -- what is promised of a call that is made at m
-pub record Promised (m : Moment) (c : Call) : Type 0 where
-  pub effect : Effect m c
+pub record Promised (seen : View) (m : Moment) (c : Call) : Type 0 where
+  pub effect : Effect seen m c
   pub unchanged : (r : Refusal) → outcomeOf m c .result ≡ refused r → Unchanged m (after m c)
 
 -- (b) "No two points have the same offset"
@@ -470,13 +551,20 @@ pub data Distinct : List Point → Type 0 where
   fresh : {p : Point} {ps : List Point} → All (λ (q : Point). p .offset ≢ q .offset) ps → Distinct ps → Distinct (p ∷ ps)
 
 -- what is promised of the list
-pub record Kept (start : Moment) (calls : List Call) : Type 0 where
-  pub promises : Throughout Promised start calls
+pub record Kept (seen : View) (start : Moment) (calls : List Call) : Type 0 where
+  pub promises : Throughout (Promised seen) start calls
   pub distinct : Distinct (atEnd start calls .points)
 
 -- what is lent is bytes
-abbrev pub Demand3 : Type 0
-Demand3 =
+abbrev pub KeptBy : View → Type 0
+KeptBy seen =
     (buffer : List ℕ) → IsBytes buffer → (start : Start) → OfBytes start → (p : Placed) → startOn buffer start .result ≡ accepted p
     → (calls : List Call) → Throughout Permitted (started (startOn buffer start .buffer) p) calls
-    → Kept (started (startOn buffer start .buffer) p) calls
+    → Kept seen (started (startOn buffer start .buffer) p) calls
+
+abbrev pub Demand3 : Type 0
+Demand3 = KeptBy (λ disc. disc)
+
+-- the same lists, whatever the parent is
+abbrev pub Demand3Over : Type 0
+Demand3Over = (parent : List ℕ) → KeptBy (discOver parent)
