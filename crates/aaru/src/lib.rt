@@ -36,11 +36,7 @@ pub fn sector_count(image: &[u8]) -> Counted
 pub fn locate(image: &[u8], a: SectorAddress) -> Located
     ensures { λ r. ⌜ located r ≡ locate (now (image .entry)) (a .0) ⌝ }
 {
-    let opened = opening::open(image);
-    match opened {
-        Opening::Refused(r) => Located::Refused(r),
-        Opening::Opens(t) => sectors::locate_of(image, t, a),
-    }
+    sectors::locate_in(image, a)
 }
 
 // The sector at address a: the part of the image that `locate` names, and the empty part exactly where `locate` refuses.

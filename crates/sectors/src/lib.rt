@@ -32,6 +32,7 @@ use index::is_user_data;
 use opening::Image;
 use opening::Numbered;
 use opening::Opened;
+use opening::Opening;
 
 // What finding a sector answers: its block and item.
 enum Found {
@@ -324,6 +325,17 @@ pub fn locate_of(s: &[u8], t: Opened, a: SectorAddress) -> Located
     ensures { λ r. ⌜ located r ≡ locate (now (s .entry)) (a .0) ⌝ }
 {
     locate(opening::view(s, t), a)
+}
+
+// The same of an image that is not opened yet: opening's numbers come first.
+pub fn locate_in(image: &[u8], a: SectorAddress) -> Located
+    ensures { λ r. ⌜ located r ≡ locate (now (image .entry)) (a .0) ⌝ }
+{
+    let opened = opening::open(image);
+    match opened {
+        Opening::Refused(r) => Located::Refused(r),
+        Opening::Opens(t) => locate_of(image, t, a),
+    }
 }
 
 // The sector at address a of the image that opened as t: the part that `locate_at` names, and the empty part exactly where it refuses.
