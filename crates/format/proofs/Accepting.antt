@@ -29,7 +29,7 @@ use Rattle.format.specs.Importing.{import}
 use Rattle.format.specs.Facts.{Opens, OpensWith, NotWritten, EntryNames, DiscOk, Stores, all, again, new, Reindexed, replaced, end, blockLengthFor}
 use Rattle.format.specs.Demands.{HasSectors, Held, Additions, newEntries, CommitOk, ExportExactOk, ExportOk, ImportOk, Demand1Accepted}
 use Rattle.format.proofs.Tests.{on-or-off, off-rest}
-use Rattle.format.proofs.Lists.{all-map, length-ofEach, howMany-most, howMany-all, howMany-counts, counts-is, howMany-none}
+use Rattle.format.proofs.Lists.{all-map, howMany-most, howMany-all, howMany-counts, counts-is, howMany-none}
 use Rattle.format.proofs.Refusals.{answer-passes, answer-accepted}
 use Rattle.format.proofs.Checks.{open-ok, SectorOk, AddressOk, created-index, created-used, create-ok, WritableOk, Sound, DiscSound, commit-ok, rollback-ok}
 use Rattle.format.proofs.Opens.{opens-forth, opens-back, opened-as, opens-with}
@@ -38,7 +38,8 @@ use Rattle.format.proofs.Buffers.{outcome-accepts}
 use Rattle.format.proofs.Reading.{not-written, entry-forth, pointer-is, entry-back, inside-entry, entry-inside, locating}
 use Rattle.format.proofs.Overlaid.{locating-over}
 use Rattle.format.proofs.Exporting.{SizeOk, exact-ok, export-ok, size-or-none, flat-size, file-length}
-use Rattle.format.proofs.Importing.{Importable, verdict-ok, file-whole, file-some, file-few, file-count, addressesOf, made, made-offset, made-sound, made-opened, made-entries, made-empty, made-numbers, added, importedUsed, importedIndex, import-is, import-accepted}
+use Rattle.format.proofs.Composing.{made, made-offset, made-sound, made-opened, made-entries, made-empty, made-numbers, added}
+use Rattle.format.proofs.Importing.{Importable, verdict-ok, file-whole, file-some, file-few, file-count, numbersOf, addressesOf, addresses-length, composable, importedUsed, importedIndex, import-is, import-accepted}
 use Rattle.format.proofs.Created.{length-new}
 use Rattle.format.proofs.Storing.{length-pieces}
 use Rattle.format.proofs.Bytes.{tag-bytes}
@@ -294,16 +295,16 @@ module _ (buffer file : List ℕ) (size : ℕ) (application : List ℕ) (major m
   total = length file / size
 
   abbrev disc : List ℕ
-  disc = made buffer file size application major minor mediaType creationTime lastWrittenTime
+  disc = made total application major minor mediaType creationTime lastWrittenTime
 
   offset-is : indexOffset disc ≡ createdIndexAt total
-  offset-is = made-offset buffer file size application major minor mediaType creationTime lastWrittenTime k
+  offset-is = made-offset total application major minor mediaType creationTime lastWrittenTime (k .sized) (composable k .most)
 
   s : Sound disc (indexOffset disc)
-  s = rw offset-is (made-sound buffer file size application major minor mediaType creationTime lastWrittenTime k)
+  s = rw offset-is (made-sound total application major minor mediaType creationTime lastWrittenTime (k .sized) (composable k .most))
 
   held-none : (d : List ℕ) → Held disc d ↔ ⊥
-  held-none d = (made-empty buffer file size application major minor mediaType creationTime lastWrittenTime k d, absurd)
+  held-none d = (made-empty total application major minor mediaType creationTime lastWrittenTime (k .sized) (composable k .most) d, absurd)
 
   abbrev used₀ : ℕ
   used₀ = createdUsed total
@@ -312,7 +313,7 @@ module _ (buffer file : List ℕ) (size : ℕ) (application : List ℕ) (major m
   handed = pieces (length (addressesOf total)) size file
 
   many : length (addressesOf total) ≡ total
-  many = length-ofEach pos total 0
+  many = addresses-length total
 
   long : length disc ≡ used₀
   long = length-new total application major minor mediaType creationTime lastWrittenTime (k .sized)
@@ -327,14 +328,14 @@ module _ (buffer file : List ℕ) (size : ℕ) (application : List ℕ) (major m
   unfolding openedAs
   table-count =
       sym (ap (λ (u : Opened). u .count) (opened-as disc (indexOffset disc) First (opens .table) (opens .opens)))
-      ∙ ap (λ (u : Opened). u .count) (ap (opened disc) offset-is ∙ made-opened buffer file size application major minor mediaType creationTime lastWrittenTime k)
+      ∙ ap (λ (u : Opened). u .count) (ap (opened disc) offset-is ∙ made-opened total application major minor mediaType creationTime lastWrittenTime (k .sized) (composable k .most))
 
   some-stored : (stored : List (List ℕ)) → Stores (λ (d : List ℕ). ⊥) [] handed stored → 0 < length stored
   some-stored stored r =
       stores-some handed stored (rw (length-pieces (length (addressesOf total)) size file, many) (pos-of-ne-zero (file-some k))) r
 
   entries-are : entries disc (indexOffset disc) ≡ createdEntries
-  entries-are = ap (entries disc) offset-is ∙ made-entries buffer file size application major minor mediaType creationTime lastWrittenTime k
+  entries-are = ap (entries disc) offset-is ∙ made-entries total application major minor mediaType creationTime lastWrittenTime (k .sized) (composable k .most)
 
   kept-one : (table : ℕ) → Reindexed table (entries disc (indexOffset disc)) (userDataEntry DDT* table ∷ [])
   kept-one table = rw entries-are (replaced (record { type = tag-bytes DDT* tt; userData = refl }) end)
@@ -345,8 +346,8 @@ module _ (buffer file : List ℕ) (size : ℕ) (application : List ℕ) (major m
       let one : a .kept ≡ userDataEntry DDT* t ∷ [] = sym (reindexed-back t _ (a .kept) (a .keeps)) ∙ reindexed-back t _ _ (kept-one t) in
       length-append (a .kept) _ ∙ (λ j. length (one j) + length (entry-some used₀ (length (a .stored)) (λ e. omega arith) j))
 
-  added-is : appended disc (indexOffset disc) (entryNumbers (opened disc (indexOffset disc)) (addressesOf total)) size file ≡ added buffer file size application major minor mediaType creationTime lastWrittenTime
-  added-is = rw (offset-is, made-numbers buffer file size application major minor mediaType creationTime lastWrittenTime k) refl
+  added-is : appended disc (indexOffset disc) (entryNumbers (opened disc (indexOffset disc)) (addressesOf total)) size file ≡ added buffer total (numbersOf total) size file application major minor mediaType creationTime lastWrittenTime
+  added-is = rw (offset-is, made-numbers total application major minor mediaType creationTime lastWrittenTime (k .sized) (composable k .most) (composable k .inside)) refl
 
   -- where it ends, by the sectors that are stored
   import-ends : (a : Additions disc used₀ size handed) → 0 < length (a .stored) → (p : Placed)
@@ -378,7 +379,7 @@ module _ (buffer file : List ℕ) (size : ℕ) (application : List ℕ) (major m
         whole = file-whole k;
         sized = k .sized;
         stored = a .stored;
-        stores = rw (length-ofEach pos n 0) at r;
+        stores = rw (addresses-length n) at r;
         index = ap (λ (x : Placed). x .index .0) q;
         end = ap (λ (x : Placed). x .used) q ∙ ap (λ (x : Placed). x .index .0 + (20 + 16 * 2)) (sym q);
         room = subst (λ (x : Placed). x .used ≤ length buffer) (i .answer) (i .room);
@@ -398,7 +399,7 @@ module _ (buffer file : List ℕ) (size : ℕ) (application : List ℕ) (major m
         whole = ap (λ m. m % size) (c .whole) ∙ mul-mod-left (c .count) size;
         sized = c .sized;
       } in
-      let r : Stores (λ (d : List ℕ). ⊥) [] (pieces (length (addressesOf n)) size file) (c .stored) = rw (length-ofEach pos n 0, ← is) (c .stores) in
+      let r : Stores (λ (d : List ℕ). ⊥) [] (pieces (length (addressesOf n)) size file) (c .stored) = rw (addresses-length n, ← is) (c .stores) in
       let e = import-ends buffer file size application major minor mediaType creationTime lastWrittenTime k
       (record {
         stored = c .stored;

@@ -21,7 +21,8 @@ use Rattle.format.proofs.Checks.{create-ok, commit-ok, rollback-ok}
 use Rattle.format.proofs.Buffers.{outcome-accepted, outcome-refused, length-setHeader, setHeader-elsewhere, header-set}
 use Rattle.format.proofs.Appended.{appended-total}
 use Rattle.format.proofs.Created.{length-new}
-use Rattle.format.proofs.Importing.{importedImage, image-length, buffer-front, made-long, import-accepted, import-refused}
+use Rattle.format.proofs.Composing.{image-length, buffer-front, made-long}
+use Rattle.format.proofs.Importing.{importedImage, composable, import-accepted, import-refused}
 
 pub demand-1-unchanged : Demand1Unchanged
 unfolding create commit append rollback exportExact export
@@ -81,11 +82,12 @@ writes-only = record {
       rw (r .buffer) (behind out (flatFile img (opened img (indexOffset img))) _ (ap (λ (m : Flat). m .length) (r .answer)));
   importing = λ buffer file size application major minor mediaType creationTime lastWrittenTime p e.
       let i = import-accepted buffer file size application major minor mediaType creationTime lastWrittenTime p e in
+      let k = composable (i .checked) in
       let image : List ℕ = importedImage buffer file size application major minor mediaType creationTime lastWrittenTime in
-      let l = image-length buffer file size application major minor mediaType creationTime lastWrittenTime (i .checked) in
-      let long = made-long buffer file size application major minor mediaType creationTime lastWrittenTime (i .checked) (i .room) in
+      let l = image-length _ _ _ _ _ _ _ _ _ _ _ k in
+      let long = made-long _ _ _ _ _ _ _ _ _ _ _ k (i .room) in
       rw (← (i .answer)) (
-        rw (i .buffer-is, buffer-front buffer file size application major minor mediaType creationTime lastWrittenTime (i .checked) (i .room)) (behind buffer image _ l),
+        rw (i .buffer-is, buffer-front _ _ _ _ _ _ _ _ _ _ _ k (i .room)) (behind buffer image _ l),
         rw (i .buffer-is) (header-set _ _ lastWrittenTime long),
       );
 }

@@ -25,6 +25,7 @@ pub mod Reading
 pub mod Ends
 pub mod Accepting
 pub mod Exporting
+pub mod Composing
 pub mod Importing
 pub mod RoundTrip
 pub mod Leaving

@@ -24,7 +24,8 @@ use Rattle.format.proofs.Ends.{disc-some}
 use Rattle.format.proofs.Created.{length-new}
 use Rattle.format.proofs.Chains.{goes, stop-last, on-last}
 use Rattle.format.proofs.Answers.{outcome-stops, outcome-done}
-use Rattle.format.proofs.Importing.{Importable, importable, file-whole, file-some, file-few, numbersOf, made, added, importedUsed, importedIndex, made-offset, made-sound, made-opened, made-entries, made-empty, image-is, import-is}
+use Rattle.format.proofs.Composing.{made, made-offset, made-sound, made-opened, made-entries, made-empty, added, image-is}
+use Rattle.format.proofs.Importing.{Importable, importable, file-whole, file-some, file-few, numbersOf, composable, importedUsed, importedIndex, import-is}
 use Rattle.planning.proofs.Cursor.{pointers-new}
 use Rattle.storing.specs.Turns.{noDisc, addAt}
 use Rattle.storing.proofs.Steps.{add-lost}
@@ -75,16 +76,16 @@ module _ (buffer file : List ℕ) (size : ℕ) (application : List ℕ) (major m
   o = createdIndexAt count
 
   abbrev new : List ℕ
-  new = made buffer file size application major minor mediaType creationTime lastWrittenTime
+  new = made count application major minor mediaType creationTime lastWrittenTime
 
   abbrev stored : Stored
   stored = storedOf used file size count
 
   offset-is : indexOffset new ≡ o
-  offset-is = made-offset buffer file size application major minor mediaType creationTime lastWrittenTime k
+  offset-is = made-offset count application major minor mediaType creationTime lastWrittenTime (k .sized) (composable k .most)
 
   sound : Sound new o
-  sound = made-sound buffer file size application major minor mediaType creationTime lastWrittenTime k
+  sound = made-sound count application major minor mediaType creationTime lastWrittenTime (k .sized) (composable k .most)
 
   long : length new ≡ used
   long = length-new count application major minor mediaType creationTime lastWrittenTime (k .sized)
@@ -97,7 +98,7 @@ module _ (buffer file : List ℕ) (size : ℕ) (application : List ℕ) (major m
       go none e = refl
       go (some n) e =
           absurd
-          (made-empty buffer file size application major minor mediaType creationTime lastWrittenTime k d (disc-some new (rw offset-is sound) d n (rw offset-is e)))
+          (made-empty count application major minor mediaType creationTime lastWrittenTime (k .sized) (composable k .most) d (disc-some new (rw offset-is sound) d n (rw offset-is e)))
 
   stored-is : storedFor new o (numbersOf count) size file ≡ stored
   unfolding storedFor
@@ -110,15 +111,15 @@ module _ (buffer file : List ℕ) (size : ℕ) (application : List ℕ) (major m
   pointers-are =
       let ps : List Pointer = stored .pointers in
       let l : length ps ≡ count = sym (length-map ps some) ∙ pointers-length used file size count in
-      let many : opened new o .count ≡ count = ap (λ (t : Opened). t .count) (made-opened buffer file size application major minor mediaType creationTime lastWrittenTime k) in
+      let many : opened new o .count ≡ count = ap (λ (t : Opened). t .count) (made-opened count application major minor mediaType creationTime lastWrittenTime (k .sized) (composable k .most)) in
       ap (λ n. newPointers new (opened new o) (numbersOf count) ps n 0) many
       ∙ sym (λ j. newPointers new (opened new o) (numbersOf (l j)) ps (l j) 0) ∙ all-given new (opened new o) ps 0
 
-  added-is : added buffer file size application major minor mediaType creationTime lastWrittenTime ≡ appendedOf file size count
+  added-is : added buffer count (numbersOf count) size file application major minor mediaType creationTime lastWrittenTime ≡ appendedOf file size count
   unfolding appended
   added-is =
       ap (λ (st : Stored). appendedFor (length new) size (entries new o) (st .items) (pointersFor new o (numbersOf count) (st .pointers))) stored-is
-      ∙ (λ j. appendedFor (long j) size (made-entries buffer file size application major minor mediaType creationTime lastWrittenTime k j) (stored .items) (pointers-are j))
+      ∙ (λ j. appendedFor (long j) size (made-entries count application major minor mediaType creationTime lastWrittenTime (k .sized) (composable k .most) j) (stored .items) (pointers-are j))
 
   -- ---- the call, as it is planned
   module _ {n : ℕ} {at : Layout} (p : Plan file count size n at) where
@@ -138,7 +139,7 @@ module _ (buffer file : List ℕ) (size : ℕ) (application : List ℕ) (major m
     -- the new image stands in front
     module _ (h : at .end ≤ length buffer) {b₁ : List ℕ} (e₁ : b₁ ≡ overwrite buffer 0 new) where
       image : take used b₁ ≡ new
-      image = ap (take used) e₁ ∙ image-is buffer file size application major minor mediaType creationTime lastWrittenTime k (image-fits p h)
+      image = ap (take used) e₁ ∙ image-is _ _ _ _ _ _ _ _ _ _ _ (composable k) (image-fits p h)
 
       pub import-fits : Fits b₁ file count size n at
       import-fits =
@@ -148,7 +149,7 @@ module _ (buffer file : List ℕ) (size : ℕ) (application : List ℕ) (major m
             short = omega (arith, k .long);
             room = omega arith;
             indexed = rw image (omega (arith, long, sound .opens .index .fits));
-            named = rw image (made-entries buffer file size application major minor mediaType creationTime lastWrittenTime k);
+            named = rw image (made-entries count application major minor mediaType creationTime lastWrittenTime (k .sized) (composable k .most));
           }
 
       pub import-done : {b₂ : List ℕ} → b₂ ≡ setHeader (overwrite b₁ used (appendedBytes (appendedOf file size count))) (indexStart used (appendedOf file size count)) lastWrittenTime
