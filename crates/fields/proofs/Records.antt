@@ -25,7 +25,7 @@ total [] = 0
 total (f ∷ fs) = width f + total fs
 
 -- field j of a record that stands at a place
-holds-nth : (s : List ℕ) (at : ℕ) (fs : List Field) (rest : List ℕ) → Holds s at (layout fs ++ rest) → (j : ℕ) → j < length fs
+pub holds-nth : (s : List ℕ) (at : ℕ) (fs : List Field) (rest : List ℕ) → Holds s at (layout fs ++ rest) → (j : ℕ) → j < length fs
     → Holds s (at + total (take j fs)) (fieldBytes (getD fs j (raw [])))
 unfolding layout
 holds-nth s at [] rest h j k = absurd (not-suc-le-zero k)

@@ -1,12 +1,12 @@
 -- Each call is accepted exactly if its facts hold.
 use mathlib.Core.Bool.{true, false}
-use mathlib.Core.List.{List, [], _∷_, _++_}
+use mathlib.Core.List.{List, [], _∷_, _++_, map}
 use mathlib.Core.Logic.{_≢_, _⊎_, inl, inr, ⊎-elim, ⊎-map, _↔_, Iff·trans, Iff·and}
 use mathlib.Core.Path.{_≡_, refl, sym, ap, _∙_, subst}
 use Prim.Native.Nat.{ℕ, _+_, _*_, _/_, _%_, _≤_, _<_}
 use native.Mathlib.Nat.{pos-of-ne-zero, zero-mul, mul-mod-left, mul-le-mul-right, eq-or-lt-of-le}
 use native.Mathlib.Omega.{arith}
-use lib.ListN.{length, take, length-append}
+use lib.ListN.{length, take, length-append, length-map}
 use lib.Seq.{length-take-le}
 use lib.IntN.{ℤ, pos, negℤ, _+ℤ_, _-ℤ_, +ℤ-idl, +ℤ-invl, +ℤ-negℤ-cancel}
 use Rattle.format.specs.declared.AddressRange.{AddressRange}
@@ -27,19 +27,20 @@ use Rattle.format.specs.RollingBack.{rollback}
 use Rattle.format.specs.Exporting.{sizeAt, flatSize, flatFile, gapCount, exportExact, flat, export}
 use Rattle.format.specs.Importing.{import}
 use Rattle.format.specs.Facts.{Opens, OpensWith, NotWritten, EntryNames, DiscOk, Stores, all, again, new, Reindexed, replaced, end, blockLengthFor}
-use Rattle.format.specs.Demands.{HasSectors, Held, Additions, newEntries, CommitOk, ExportExactOk, ExportOk, ImportOk, Demand1Accepted}
+use Rattle.format.specs.Demands.{HasSectors, Held, Additions, newEntries, CommitOk, ExportExactOk, ExportOk, newImage, ImportOk, Demand1Accepted}
 use Rattle.format.proofs.Tests.{on-or-off, off-rest}
 use Rattle.format.proofs.Lists.{all-map, howMany-most, howMany-all, howMany-counts, counts-is, howMany-none}
 use Rattle.format.proofs.Refusals.{answer-passes, answer-accepted}
 use Rattle.format.proofs.Checks.{open-ok, SectorOk, AddressOk, created-index, created-used, create-ok, WritableOk, Sound, DiscSound, commit-ok, rollback-ok}
-use Rattle.format.proofs.Opens.{opens-forth, opens-back, opened-as, opens-with}
+use Rattle.format.proofs.Opens.{opens-forth, opens-back, opened-as, writable-with}
 use Rattle.format.proofs.Addresses.{inside-each, each-inside}
 use Rattle.format.proofs.Buffers.{outcome-accepts}
 use Rattle.format.proofs.Reading.{not-written, entry-forth, pointer-is, entry-back, inside-entry, entry-inside, locating}
 use Rattle.format.proofs.Overlaid.{locating-over}
+use Rattle.format.proofs.Flattened.{flatten-forth, flatten-back}
 use Rattle.format.proofs.Exporting.{SizeOk, exact-ok, export-ok, size-or-none, flat-size, file-length}
-use Rattle.format.proofs.Composing.{made, made-offset, made-sound, made-opened, made-entries, made-empty, made-numbers, added}
-use Rattle.format.proofs.Importing.{Importable, verdict-ok, file-whole, file-some, file-few, file-count, numbersOf, addressesOf, addresses-length, composable, importedUsed, importedIndex, import-is, import-accepted}
+use Rattle.format.proofs.Composed.{composed-stores, composed-ends}
+use Rattle.format.proofs.Importing.{Importable, verdict-ok, file-whole, file-some, file-few, file-count, numbersOf, addresses-length, composable, import-is, import-accepted}
 use Rattle.format.proofs.Created.{length-new}
 use Rattle.format.proofs.Storing.{length-pieces}
 use Rattle.format.proofs.Bytes.{tag-bytes}
@@ -71,10 +72,6 @@ count-back img r n =
     let low = lowest-is _ _ (n .lowest) in
     answer-passes _ _ (open-ok img _ .1 (opens-back img _ (n .kind) (n .table) (n .opens)))
     ∙ ap accepted (ap rangeOf (opened-as img _ (n .kind) (n .table) (n .opens)) ∙ (λ i. record { count = sym (n .count) i; lowest = record { 0 = low i } }))
-
--- ---- an image that may be written to
-writable-with : (img : List ℕ) (o : ℕ) → WritableOk img o ↔ OpensWith img o First
-writable-with img o = Iff·trans ((λ k. (open-ok img o .1 (k .opens), k .first)), λ (h, e). record { opens = open-ok img o .0 h; first = e }) (opens-with img o First)
 
 -- ---- the disc of a commit
 module _ (img : List ℕ) (o t : ℕ) (n : Opens img o First t) where
@@ -269,107 +266,23 @@ module _ (img out : List ℕ) where
       )
 
 -- ---- importing
-stores-map : {H K : List ℕ → Type 0} → ((d : List ℕ) → H d ↔ K d) → (stored ds last : List (List ℕ)) → Stores H stored ds last → Stores K stored ds last
-stores-map f stored _ _ all = all
-stores-map f stored _ last (again {ds = ds} {d = d} k r) = again (⊎-map (f d .0) (λ q. q) k) (stores-map f stored ds last r)
-stores-map f stored _ last (new {ds = ds} {d = d} k r) = new (λ q. k (⊎-map (f d .1) (λ a. a) q)) (stores-map f (stored ++ (d ∷ [])) ds last r)
-
-stores-grow : {H : List ℕ → Type 0} (stored ds last : List (List ℕ)) → Stores H stored ds last → length stored ≤ length last
-stores-grow stored _ _ all = omega arith
-stores-grow stored _ last (again {ds = ds} k r) = stores-grow stored ds last r
-stores-grow stored _ last (new {ds = ds} {d = d} k r) = omega (arith, stores-grow (stored ++ (d ∷ [])) ds last r, length-append stored (d ∷ []))
-
-any-none : {A : Type 0} {P : A → Type 0} → ¬ Any P []
-any-none = elim [ ]
-
--- the first sector, where there is none before it
-stores-some : (ds last : List (List ℕ)) → 0 < length ds → Stores (λ (d : List ℕ). ⊥) [] ds last → 0 < length last
-stores-some _ _ h all = absurd (omega arith)
-stores-some _ _ h (again (inl k) r) = absurd k
-stores-some _ _ h (again (inr k) r) = absurd (any-none k)
-stores-some _ last h (new {ds = ds} {d = d} k r) = stores-grow (d ∷ []) ds last r
-
--- on a new disc: none of its sectors is held, one at least is stored, and the index has two entries
-module _ (buffer file : List ℕ) (size : ℕ) (application : List ℕ) (major minor mediaType creationTime lastWrittenTime : ℕ) (k : Importable buffer file size application) where
-  abbrev total : ℕ
-  total = length file / size
-
-  abbrev disc : List ℕ
-  disc = made total application major minor mediaType creationTime lastWrittenTime
-
-  offset-is : indexOffset disc ≡ createdIndexAt total
-  offset-is = made-offset total application major minor mediaType creationTime lastWrittenTime (k .sized) (composable k .most)
-
-  s : Sound disc (indexOffset disc)
-  s = rw offset-is (made-sound total application major minor mediaType creationTime lastWrittenTime (k .sized) (composable k .most))
-
-  held-none : (d : List ℕ) → Held disc d ↔ ⊥
-  held-none d = (made-empty total application major minor mediaType creationTime lastWrittenTime (k .sized) (composable k .most) d, absurd)
-
-  abbrev used₀ : ℕ
-  used₀ = createdUsed total
-
-  abbrev handed : List (List ℕ)
-  handed = pieces (length (addressesOf total)) size file
-
-  many : length (addressesOf total) ≡ total
-  many = addresses-length total
-
-  long : length disc ≡ used₀
-  long = length-new total application major minor mediaType creationTime lastWrittenTime (k .sized)
-
-  whole : length file ≡ length (addressesOf total) * size
-  whole = file-whole k ∙ ap (λ n. n * size) (sym many)
-
-  opens : OpensWith disc (indexOffset disc) First
-  opens = writable-with disc (indexOffset disc) .0 (record { opens = s .opens; first = s .first })
-
-  table-count : tableCount disc First (opens .table) ≡ total
-  unfolding openedAs
-  table-count =
-      sym (ap (λ (u : Opened). u .count) (opened-as disc (indexOffset disc) First (opens .table) (opens .opens)))
-      ∙ ap (λ (u : Opened). u .count) (ap (opened disc) offset-is ∙ made-opened total application major minor mediaType creationTime lastWrittenTime (k .sized) (composable k .most))
-
-  some-stored : (stored : List (List ℕ)) → Stores (λ (d : List ℕ). ⊥) [] handed stored → 0 < length stored
-  some-stored stored r =
-      stores-some handed stored (rw (length-pieces (length (addressesOf total)) size file, many) (pos-of-ne-zero (file-some k))) r
-
-  entries-are : entries disc (indexOffset disc) ≡ createdEntries
-  entries-are = ap (entries disc) offset-is ∙ made-entries total application major minor mediaType creationTime lastWrittenTime (k .sized) (composable k .most)
-
-  kept-one : (table : ℕ) → Reindexed table (entries disc (indexOffset disc)) (userDataEntry DDT* table ∷ [])
-  kept-one table = rw entries-are (replaced (record { type = tag-bytes DDT* tt; userData = refl }) end)
-
-  two-entries : (a : Additions disc used₀ size handed) → 0 < length (a .stored) → length (newEntries a) ≡ 2
-  two-entries a h =
-      let t : ℕ = used₀ + blockLengthFor (length (a .stored)) size in
-      let one : a .kept ≡ userDataEntry DDT* t ∷ [] = sym (reindexed-back t _ (a .kept) (a .keeps)) ∙ reindexed-back t _ _ (kept-one t) in
-      length-append (a .kept) _ ∙ (λ j. length (one j) + length (entry-some used₀ (length (a .stored)) (λ e. omega arith) j))
-
-  added-is : appended disc (indexOffset disc) (entryNumbers (opened disc (indexOffset disc)) (addressesOf total)) size file ≡ added buffer total (numbersOf total) size file application major minor mediaType creationTime lastWrittenTime
-  added-is = rw (offset-is, made-numbers total application major minor mediaType creationTime lastWrittenTime (k .sized) (composable k .most) (composable k .inside)) refl
-
-  -- where it ends, by the sectors that are stored
-  import-ends : (a : Additions disc used₀ size handed) → 0 < length (a .stored) → (p : Placed)
-      → p .index .0 ≡ 189 + 8 * total + (36 + length (a .stored) * size) + (49 + 8 * total) → p .used ≡ p .index .0 + (20 + 16 * 2)
-      → placed (importedUsed buffer file size application major minor mediaType creationTime lastWrittenTime) (importedIndex buffer file size application major minor mediaType creationTime lastWrittenTime) ≡ p
-  import-ends a h p e f =
-      ap (λ (x : Appended). placed (usedAfter used₀ x) (indexStart used₀ x)) (sym added-is)
-      ∙ ends-at disc s used₀ long (addressesOf total) size file whole (opens .table) (opens .opens) a p
-      (e ∙ (rw (table-count, length-some (length (a .stored)) size (λ z. omega arith), created-used total) refl)) (f ∙ ap (λ n. p .index .0 + (20 + 16 * n)) (sym (two-entries a h)))
-
 module _ (buffer file : List ℕ) (size : ℕ) (application : List ℕ) (major minor mediaType creationTime lastWrittenTime : ℕ) (p : Placed) where
+  abbrev n : ℕ
+  n = length file / size
+
+  -- the sectors of the file
+  all-numbers : length (numbersOf n) ≡ n
+  all-numbers = sym (length-map (numbersOf n) pos) ∙ addresses-length n
+
+  some-numbers : Importable buffer file size application → 0 < length (numbersOf n)
+  some-numbers k = rw all-numbers (pos-of-ne-zero (file-some k))
+
   import-forth : import buffer file size application major minor mediaType creationTime lastWrittenTime .result ≡ accepted p → ImportOk buffer file size application p
   import-forth e =
       let i = import-accepted buffer file size application major minor mediaType creationTime lastWrittenTime p e in
       let k = i .checked in
-      let n : ℕ = length file / size in
-      let a = additions (disc buffer file size application major minor mediaType creationTime lastWrittenTime k) (s buffer file size application major minor mediaType creationTime lastWrittenTime k)
-      (createdUsed n) (long buffer file size application major minor mediaType creationTime lastWrittenTime k) (addressesOf n) size file (whole buffer file size application major minor mediaType creationTime lastWrittenTime k) in
-      let r = stores-map (held-none buffer file size application major minor mediaType creationTime lastWrittenTime k) [] _ _ (a .stores) in
-      let at : ℕ = 189 + 8 * n + (36 + length (a .stored) * size) + (49 + 8 * n) in
-      let q : p ≡ placed (at + (20 + 16 * 2)) at =
-      sym (i .answer) ∙ import-ends buffer file size application major minor mediaType creationTime lastWrittenTime k a (some-stored buffer file size application major minor mediaType creationTime lastWrittenTime k _ r) _ refl refl in
+      let c = composable k in
+      let st = composed-stores _ _ _ _ _ _ major minor mediaType creationTime lastWrittenTime c (some-numbers k) in
       record {
         long = k .long;
         some = k .some;
@@ -378,16 +291,14 @@ module _ (buffer file : List ℕ) (size : ℕ) (application : List ℕ) (major m
         counted = (pos-of-ne-zero (file-some k), file-few k);
         whole = file-whole k;
         sized = k .sized;
-        stored = a .stored;
-        stores = rw (addresses-length n) at r;
-        index = ap (λ (x : Placed). x .index .0) q;
-        end = ap (λ (x : Placed). x .used) q ∙ ap (λ (x : Placed). x .index .0 + (20 + 16 * 2)) (sym q);
+        stored = st .stored;
+        stores = rw all-numbers at (st .stores);
+        end = sym (i .answer) ∙ composed-ends _ _ _ _ _ _ _ _ _ _ _ c (some-numbers k) _ (st .stores);
         room = subst (λ (x : Placed). x .used ≤ length buffer) (i .answer) (i .room);
       }
 
   import-back : ImportOk buffer file size application p → import buffer file size application major minor mediaType creationTime lastWrittenTime .result ≡ accepted p
   import-back c =
-      let n : ℕ = length file / size in
       let is : c .count ≡ n = file-count file size (c .count) (c .some) (c .whole) in
       let k : Importable buffer file size application =
       record {
@@ -399,14 +310,7 @@ module _ (buffer file : List ℕ) (size : ℕ) (application : List ℕ) (major m
         whole = ap (λ m. m % size) (c .whole) ∙ mul-mod-left (c .count) size;
         sized = c .sized;
       } in
-      let r : Stores (λ (d : List ℕ). ⊥) [] (pieces (length (addressesOf n)) size file) (c .stored) = rw (addresses-length n, ← is) (c .stores) in
-      let e = import-ends buffer file size application major minor mediaType creationTime lastWrittenTime k
-      (record {
-        stored = c .stored;
-        stores = stores-map (λ d. let h = held-none buffer file size application major minor mediaType creationTime lastWrittenTime k d in (h .1, h .0)) [] _ _ r;
-        kept = _;
-        keeps = kept-one buffer file size application major minor mediaType creationTime lastWrittenTime k _;
-      }) (some-stored buffer file size application major minor mediaType creationTime lastWrittenTime k _ r) p (rw (← is) (c .index)) (c .end) in
+      let e = composed-ends _ _ _ _ _ _ _ _ _ _ _ (composable k) (some-numbers k) (c .stored) (rw (all-numbers, ← is) (c .stores)) ∙ sym (c .end ∙ ap (λ m. newImage m size (c .stored)) is) in
       ap (λ (w : Outcome Placed). w .result) (import-is buffer file size application major minor mediaType creationTime lastWrittenTime)
       ∙ outcome-accepts _ _ _ _ p .1
       (verdict-ok buffer file size application major minor mediaType creationTime lastWrittenTime .1 (k, rw (ap (λ (x : Placed). x .used) e) (c .room)), e)
@@ -431,4 +335,6 @@ demand-1-accepted = record {
   importing = λ buffer file size application major minor mediaType creationTime lastWrittenTime p.
       (import-forth buffer file size application major minor mediaType creationTime lastWrittenTime p, import-back buffer file size application major minor mediaType creationTime lastWrittenTime p);
   locatingOver = locating-over;
+  flattening = λ buffer child parent application major minor mediaType creationTime lastWrittenTime p.
+      (flatten-forth buffer child parent application major minor mediaType creationTime lastWrittenTime p, flatten-back buffer child parent application major minor mediaType creationTime lastWrittenTime p);
 }

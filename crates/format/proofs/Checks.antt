@@ -277,15 +277,21 @@ module _ (img : List ℕ) (o : ℕ) (k : OpenOk img o) (a : ℤ) where
   unfolding readAt addressVerdict
   read-20 h = answer-refuses _ _ _ (verdict-opened ∙ then-refuses _ _ _ (row-refuses _ _ h))
 
+  verdict-inside : outside (opened img o) a ≡ false → readVerdict img o a ≡ sectorVerdict img (entries img o) (opened img o) (entryNumber (opened img o) a)
+  unfolding addressVerdict
+  verdict-inside h = verdict-opened ∙ then-rest _ _ (row-iff (refusal 20 0) Iff·rfl .1 h)
+
   pub read-inside : outside (opened img o) a ≡ false → readAt img o a ≡ entryRead img o (entryNumber (opened img o) a)
-  unfolding readAt addressVerdict pointerOf entryRead
-  read-inside h =
-      ap (λ (v : Verdict). answer v (itemBytes img (pointerAt img (opened img o) (entryNumber (opened img o) a))))
-      (verdict-opened ∙ then-rest _ _ (row-iff (refusal 20 0) Iff·rfl .1 h))
+  unfolding readAt pointerOf entryRead
+  read-inside h = ap (λ (v : Verdict). answer v (itemBytes img (pointerAt img (opened img o) (entryNumber (opened img o) a)))) (verdict-inside h)
 
   -- by the number of its table entry
   pub read-numbered : (n : ℕ) → Numbered (opened img o) a n → readAt img o a ≡ entryRead img o n
   read-numbered n m = read-inside (number-inside (opened img o) a n m) ∙ ap (entryRead img o) (number-is (opened img o) a n m)
+
+  pub verdict-numbered : (n : ℕ) → Numbered (opened img o) a n → readVerdict img o a ≡ sectorVerdict img (entries img o) (opened img o) n
+  verdict-numbered n m =
+      verdict-inside (number-inside (opened img o) a n m) ∙ ap (sectorVerdict img (entries img o) (opened img o)) (number-is (opened img o) a n m)
 
 -- ---- what table entries of the first kind are: none has another status, and the lowest address is 0
 pub first-known : (img : List ℕ) (t : Opened) (n : ℕ) → t .kind ≡ First → unknownStatus img t n ≡ false

@@ -25,10 +25,11 @@ use Rattle.format.specs.Writing.{mostSectors, largestSize, mostAddresses
 use Rattle.format.specs.Creating.{createdIndexAt, createdUsed, createdEntries, createdBytes, createVerdict, create}
 use Rattle.format.specs.Committing.{risingBy, rising, anyOutside, entryNumbers, Appended, appended, appendedBytes, indexStart, tableStart, usedAfter, commitVerdict, append, commit}
 use Rattle.format.specs.Importing.{orLeaves, andThen}
-use Rattle.format.specs.Demands.{Held}
+use Rattle.format.specs.Demands.{Held, FreshDisc}
 use Rattle.format.specs.Facts.{ArgumentsOk}
 use Rattle.format.proofs.Tests.{never, on-or-off, below-on, below-true, below-iff, same-iff, differs-iff, or-iff}
 use Rattle.format.proofs.Refusals.{row-iff, row-refuses, then-rest, answer-accepted}
+use Rattle.format.proofs.Lists.{all-mapped}
 use Rattle.format.proofs.Numbers.{Numbered, inside-number, number-inside, number-is}
 use Rattle.format.proofs.Addresses.{each-inside}
 use Rattle.format.proofs.Checks.{read-ok, rising-iff, create-ok, created-used, arguments-ok, disc-ok, Sound, DiscSound}
@@ -37,7 +38,7 @@ use Rattle.format.proofs.Bytes.{bytes-overwrite, bytes-created}
 use Rattle.format.proofs.Appended.{appended-total}
 use Rattle.format.proofs.Committed.{Committed, commit-accepted}
 use Rattle.format.proofs.Written.{openedFirst}
-use Rattle.format.proofs.Created.{Started, length-new, created-offset, created-opened, nothing-written, created-entries, created-sound}
+use Rattle.format.proofs.Created.{Started, length-new, created-offset, created-opened, nothing-written, created-entries, created-sound, fresh}
 
 -- ---- addresses that are the numbers of their table entries
 rises-alike : (l : List ℕ) → rising (map pos l) ≡ risingBy below l
@@ -47,13 +48,12 @@ rises-alike (a ∷ []) = refl
 rises-alike (a ∷ b ∷ l) = ap (λ r. below a b and r) (rises-alike (b ∷ l))
 
 module _ (t : Opened) (flat : t .negative ≡ 0) where
-  numbered : (n : ℕ) → n < t .count → Numbered t (pos n) n
+  pub numbered : (n : ℕ) → n < t .count → Numbered t (pos n) n
   unfolding displaced
   numbered n h = record { is = rw flat (+ℤ-idr (pos n)); inside = h }
 
   each-numbered : (l : List ℕ) → All (λ (n : ℕ). n < t .count) l → All (λ (a : ℤ). outside t a ≡ false) (map pos l)
-  each-numbered _ done = done
-  each-numbered _ (more {a = n} {l = l} h hs) = more (number-inside t (pos n) n (numbered n h)) (each-numbered l hs)
+  each-numbered l = all-mapped pos (λ n h. number-inside t (pos n) n (numbered n h))
 
   numbers-are : (l : List ℕ) → All (λ (n : ℕ). n < t .count) l → entryNumbers t (map pos l) ≡ l
   unfolding entryNumbers
@@ -79,6 +79,14 @@ checked-then buffer Passes w a call p new h =
 checked-then buffer (Refuses r) w a call p new h = refl
 
 -- ---- the new image
+-- of a creation's checks 35 is the last
+pub create-last : (buffer : List ℕ) (count : ℕ) (application : List ℕ) → length buffer ≤ longestBuffer → count ≢ 0 → count ≤ mostSectors
+    → length application ≡ applicationLength → createVerdict buffer count application ≡ row (below (length buffer) (createdUsed count)) (refusal 35 0)
+unfolding createVerdict
+create-last buffer count application long some few sized =
+    then-rest _ _ (row-iff (refusal 31 0) below-iff .1 long) ∙ then-rest _ _ (row-iff (refusal 30 0) (or-iff same-iff below-iff) .1 (some, few))
+    ∙ then-rest _ _ (row-iff (refusal 33 0) differs-iff .1 sized)
+
 module _ (count : ℕ) (application : List ℕ) (major minor mediaType creationTime lastWrittenTime : ℕ) where
   abbrev pub made : List ℕ
   made = createdBytes count application major minor mediaType creationTime lastWrittenTime
@@ -86,6 +94,12 @@ module _ (count : ℕ) (application : List ℕ) (major minor mediaType creationT
   module _ (sized : length application ≡ applicationLength) (most : count ≤ mostSectors) where
     h : Holds made 0 made
     h = record { fits = omega arith; there = λ i l. ap (λ n. getD made n 0) (zero-add i) }
+
+    -- it stands at the front of the buffer in which it is made
+    pub made-front : (buffer : List ℕ) → createdUsed count ≤ length buffer → take (createdUsed count) (overwrite buffer 0 made) ≡ made
+    unfolding part
+    made-front buffer room =
+        part-same buffer 0 (createdUsed count) made (length-new count application major minor mediaType creationTime lastWrittenTime sized) (omega arith)
 
     pub made-offset : indexOffset made ≡ createdIndexAt count
     made-offset = created-offset count application major minor mediaType creationTime lastWrittenTime sized made h most
@@ -98,6 +112,10 @@ module _ (count : ℕ) (application : List ℕ) (major minor mediaType creationT
 
     pub made-entries : entries made (createdIndexAt count) ≡ createdEntries
     made-entries = created-entries count application major minor mediaType creationTime lastWrittenTime sized made h most
+
+    -- it reads as a new disc
+    pub made-fresh : FreshDisc made count
+    made-fresh = fresh count application major minor mediaType creationTime lastWrittenTime sized made h most
 
     -- no sector of it is written
     pub made-empty : (d : List ℕ) → ¬ Held made d
@@ -163,9 +181,9 @@ module _ (buffer : List ℕ) (count : ℕ) (numbers : List ℕ) (size : ℕ) (se
   abbrev pub composed : Outcome Placed
   composed = andThen buffer (one .result) (λ p. commit (one .buffer) (p .used) (map pos numbers) size sectors lastWrittenTime)
 
-  past : createdUsed count ≤ composedUsed
+  pub composed-past : createdUsed count ≤ composedUsed
   unfolding usedAfter indexStart tableStart
-  past = omega arith
+  composed-past = omega arith
 
   module _ (k : Composable buffer count numbers size sectors application) where
     created-length : length new ≡ createdUsed count
@@ -184,12 +202,12 @@ module _ (buffer : List ℕ) (count : ℕ) (numbers : List ℕ) (size : ℕ) (se
         let e : createdUsed count ≡ 0 + length new = omega (arith, created-length) in
         ap (λ (b : List ℕ). setHeader b composedIndex lastWrittenTime)
         (ap (λ n. overwrite (overwrite buffer 0 new) n (appendedBytes added)) e ∙ overwrite-then buffer 0 new (appendedBytes added))
-        ∙ setHeader-inside buffer (new ++ appendedBytes added) composedIndex lastWrittenTime (omega (arith, both-length, past)) (omega (arith, both-length))
+        ∙ setHeader-inside buffer (new ++ appendedBytes added) composedIndex lastWrittenTime (omega (arith, both-length, composed-past)) (omega (arith, both-length))
 
     -- a header stands there before the fields of it are set
     pub made-long : composedUsed ≤ length buffer → headerLength ≤ length (overwrite (overwrite buffer 0 new) (createdUsed count) (appendedBytes added))
     unfolding createdUsed createdIndexAt
-    made-long room = omega (arith, past, length-overwrite (overwrite buffer 0 new) (createdUsed count) (appendedBytes added), length-overwrite buffer 0 new)
+    made-long room = omega (arith, composed-past, length-overwrite (overwrite buffer 0 new) (createdUsed count) (appendedBytes added), length-overwrite buffer 0 new)
 
     offset-is : indexOffset new ≡ createdIndexAt count
     offset-is = made-offset count application major minor mediaType creationTime lastWrittenTime (k .sized) (k .most)
@@ -211,8 +229,7 @@ module _ (buffer : List ℕ) (count : ℕ) (numbers : List ℕ) (size : ℕ) (se
 
       -- it stands in front
       pub image-is : take (createdUsed count) (overwrite buffer 0 new) ≡ new
-      unfolding part
-      image-is = part-same buffer 0 (createdUsed count) new created-length (omega arith)
+      image-is = made-front count application major minor mediaType creationTime lastWrittenTime (k .sized) (k .most) buffer room
 
       arguments : ArgumentsOk begun (createdUsed count) (map pos numbers) size sectors
       arguments =
@@ -253,14 +270,11 @@ module _ (buffer : List ℕ) (count : ℕ) (numbers : List ℕ) (size : ℕ) (se
 
     -- there is none
     full-is : length buffer < createdUsed count → composed ≡ outcome buffer roomVerdict (placed composedUsed composedIndex) composedBuffer
-    unfolding andThen create createVerdict outcome
+    unfolding andThen create outcome
     full-is f =
         let v : createVerdict buffer count application ≡ Refuses (refusal 35 0) =
-        then-rest _ _ (row-iff (refusal 31 0) below-iff .1 (k .long))
-        ∙ then-rest _ _ (row-iff (refusal 30 0) (or-iff same-iff below-iff) .1 (k .counted, k .most))
-        ∙ then-rest _ _ (row-iff (refusal 33 0) differs-iff .1 (k .sized))
-        ∙ row-refuses _ _ (below-true _ _ f) in
-        let w : roomVerdict ≡ Refuses (refusal 35 0) = row-refuses _ _ (below-true _ _ (omega (arith, past))) in
+        create-last buffer count application (k .long) (k .counted) (k .most) (k .sized) ∙ row-refuses _ _ (below-true _ _ f) in
+        let w : roomVerdict ≡ Refuses (refusal 35 0) = row-refuses _ _ (below-true _ _ (omega (arith, composed-past))) in
         rw (v, w) refl
 
     pub composed-is : composed ≡ outcome buffer roomVerdict (placed composedUsed composedIndex) composedBuffer
@@ -270,7 +284,7 @@ module _ (buffer : List ℕ) (count : ℕ) (numbers : List ℕ) (size : ℕ) (se
     module _ (bb : IsBytes buffer) (ba : IsBytes application) (fits : composedUsed ≤ length buffer) where
       pub committed : Committed (overwrite buffer 0 new) (createdUsed count) (map pos numbers) size sectors (placed composedUsed composedIndex) composedBuffer
       committed =
-          let room : createdUsed count ≤ length buffer = omega (arith, past) in
+          let room : createdUsed count ≤ length buffer = omega (arith, composed-past) in
           let e : commit (overwrite buffer 0 new) (createdUsed count) (map pos numbers) size sectors lastWrittenTime ≡ record { result = accepted (placed composedUsed composedIndex); buffer = composedBuffer } =
           two-is room ∙ outcome-passes (overwrite buffer 0 new) _ _ _ (row-iff (refusal 35 0) below-iff .1 fits) in
           subst (Committed (overwrite buffer 0 new) (createdUsed count) (map pos numbers) size sectors (placed composedUsed composedIndex)) (ap (λ (w : Outcome Placed). w .buffer) e)
@@ -290,5 +304,5 @@ module _ (buffer : List ℕ) (count : ℕ) (numbers : List ℕ) (size : ℕ) (se
 
       pub composed-count : opened (take composedUsed composedBuffer) composedIndex .count ≡ count
       composed-count =
-          let room : createdUsed count ≤ length buffer = omega (arith, past) in
+          let room : createdUsed count ≤ length buffer = omega (arith, composed-past) in
           committed .count ∙ (rw (image-is room, offset-is, made-opened count application major minor mediaType creationTime lastWrittenTime (k .sized) (k .most)) refl)

@@ -8,10 +8,11 @@ use native.Mathlib.Omega.{arith}
 use lib.Dec.{lit<, lit≤}
 use lib.ListN.{length, take, replicate, length-replicate, length-append}
 use lib.IntN.{pos, +ℤ-idl, +ℤ-idr}
-use Rattle.fields.specs.Bytes.{part, fromLe, field, overwrite}
+use Rattle.fields.specs.Bytes.{part, fromLe, toLe, field, overwrite}
 use Rattle.fields.proofs.Overwrite.{length-overwrite}
-use Rattle.fields.proofs.Holds.{Holds, holds-take, holds-overwrite, holds-part, holds-left, holds-right}
-use Rattle.fields.proofs.Records.{holds-num, holds-raw}
+use Rattle.fields.proofs.Numbers.{length-toLe}
+use Rattle.fields.proofs.Holds.{Holds, holds-take, holds-overwrite, holds-part, holds-all, holds-left, holds-right}
+use Rattle.fields.proofs.Records.{holds-nth, holds-num, holds-raw}
 use Rattle.format.specs.declared.Placed.{Placed}
 use Rattle.format.specs.Lists.{All, done, more, IsBytes}
 use Rattle.format.specs.Refusals.{accepted}
@@ -21,7 +22,7 @@ use Rattle.format.specs.Reading.{displaced, tableEntry, unwritten, notWr
 use Rattle.format.specs.Writing.{mostSectors, longestBuffer}
 use Rattle.format.specs.Creating.{createdIndexAt, createdUsed, createdEntries, createdBytes, create}
 use Rattle.format.specs.Facts.{Identified, HeaderOk, EntryOk, CreateOk}
-use Rattle.format.specs.Demands.{FreshDisc, Demand2Creating}
+use Rattle.format.specs.Demands.{HeaderSet, FreshDisc, Demand2Creating}
 use Rattle.format.proofs.Tests.{same-true}
 use Rattle.format.proofs.Lists.{all-take, all-drop, all-replicate}
 use Rattle.format.proofs.Refusals.{answer-passes}
@@ -102,6 +103,17 @@ module _ (count : ℕ) (application : List ℕ) (major minor mediaType creationT
         let e : 0 + (8 + (length application + (1 + (1 + (1 + (1 + (4 + 0))))))) ≡ indexOffsetAt = omega arith in
         subst (λ n. field y n 8 ≡ o) e (holds-num y 0 _ _ h 7 8 o (lit< tt) refl (omega arith))
 
+    -- its two fields that a commit sets, as bytes
+    pub created-header : HeaderSet y o lastWrittenTime
+    unfolding createdBytes headerBytes createdIndexAt
+    created-header =
+        let i : 0 + (8 + (length application + (1 + (1 + (1 + (1 + (4 + 0))))))) ≡ 80 = omega arith in
+        let l : 0 + (8 + (length application + (1 + (1 + (1 + (1 + (4 + (8 + (8 + 0))))))))) ≡ 96 = omega arith in
+        record {
+          indexOffset = rw (length-toLe 8 o) at (holds-all y _ _ (subst (λ n. Holds y n (toLe 8 o)) i (holds-nth y 0 _ _ h 7 (lit< tt))));
+          lastWrittenTime = rw (length-toLe 8 lastWrittenTime) at (holds-all y _ _ (subst (λ n. Holds y n (toLe 8 lastWrittenTime)) l (holds-nth y 0 _ _ h 9 (lit< tt))));
+        }
+
     -- ---- the table and the index
     fit : All EntryFits createdEntries
     unfolding tag fromLe
@@ -154,7 +166,7 @@ module _ (count : ℕ) (application : List ℕ) (major minor mediaType creationT
     unfolding sectorCount rangeOf
     sectors-new = answer-passes _ _ (open-ok y _ .1 open-new) ∙ ap (λ (t : Opened). accepted (rangeOf t)) opened-new
 
-    fresh : FreshDisc y count
+    pub fresh : FreshDisc y count
     unfolding read displaced
     fresh =
         record {

@@ -19,6 +19,7 @@ pub mod Buffers
 pub mod Overlaying
 pub mod Refusing
 pub mod Overlaid
+pub mod Flattened
 pub mod Committed
 pub mod Created
 pub mod Reading
@@ -27,6 +28,8 @@ pub mod Accepting
 pub mod Exporting
 pub mod Composing
 pub mod Importing
+pub mod Composed
+pub mod Flattening
 pub mod RoundTrip
 pub mod Leaving
 pub mod History

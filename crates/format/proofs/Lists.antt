@@ -27,6 +27,11 @@ pub all-image : {A B : Type 0} {P : B → Type 0} (f : A → B) → ((a : A) →
 all-image f h [] = done
 all-image f h (a ∷ l) = more (h a) (all-image f h l)
 
+-- of what is made of each member
+pub all-mapped : {A B : Type 0} (f : A → B) {P : A → Type 0} {Q : B → Type 0} {l : List A} → ((a : A) → P a → Q (f a)) → All P l → All Q (map f l)
+all-mapped f g done = done
+all-mapped f g (more {a = a} h hs) = more (g a h) (all-mapped f g hs)
+
 pub all-head : {A : Type 0} {P : A → Type 0} {a : A} {l : List A} → All P (a ∷ l) → P a
 all-head (more h hs) = h
 

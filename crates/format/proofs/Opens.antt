@@ -1,14 +1,15 @@
 -- Opening accepts exactly if the image opens, by facts alone: what the tests find is what the facts say.
 use mathlib.Core.List.{List, [], _∷_}
-use mathlib.Core.Logic.{_↔_}
+use mathlib.Core.Logic.{_↔_, Iff·trans}
 use mathlib.Core.Path.{_≡_, refl, ap, _∙_, subst}
 use Prim.Native.Nat.{ℕ}
 use Rattle.format.specs.declared.TableKind.{TableKind}
+use Rattle.format.specs.declared.TableKind.the-variants.{First}
 use Rattle.format.specs.declared.Verdict.the-variants.{Passes}
 use Rattle.format.specs.Layouts.{entries}
 use Rattle.format.specs.Opening.{offsetsWith, isTable, tableAt, kindAt, openVerdict, Opened, openedAs, openedAt, opened}
 use Rattle.format.specs.Facts.{Opens, OpensWith}
-use Rattle.format.proofs.Checks.{kind-iff, tableAt-only, OpenOk, open-ok}
+use Rattle.format.proofs.Checks.{kind-iff, tableAt-only, OpenOk, open-ok, WritableOk}
 use Rattle.format.proofs.Named.{table-named}
 
 module _ (img : List ℕ) (o : ℕ) where
@@ -57,3 +58,7 @@ module _ (img : List ℕ) (o : ℕ) where
     (λ (h, e). record { table = tableAt img o; opens = subst (λ (j : TableKind). Opens img o j (tableAt img o)) e (opens-forth (open-ok img o .0 h)) }),
     λ n. (open-ok img o .1 (opens-back k (n .table) (n .opens)), ap (λ (t : Opened). t .kind) (opened-as k (n .table) (n .opens))),
   )
+
+  -- and may be written to
+  pub writable-with : WritableOk img o ↔ OpensWith img o First
+  writable-with = Iff·trans ((λ k. (open-ok img o .1 (k .opens), k .first)), λ (h, e). record { opens = open-ok img o .0 h; first = e }) (opens-with First)

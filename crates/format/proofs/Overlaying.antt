@@ -2,9 +2,10 @@
 use Prim.{tt}
 use mathlib.Core.Bool.{Bool, true, false}
 use mathlib.Core.List.{List}
-use mathlib.Core.Logic.{_≢_, ⊎-elim}
+use mathlib.Core.Logic.{_≢_, _⊎_, inl, inr, ⊎-elim}
 use mathlib.Core.Path.{_≡_, refl, sym, ap, _∙_}
 use Prim.Native.Nat.{ℕ, _+_}
+use native.Mathlib.Omega.{arith}
 use lib.IntN.{ℤ}
 use Rattle.format.specs.declared.Place.{Place}
 use Rattle.format.specs.declared.Refusal.{Refusal}
@@ -46,6 +47,20 @@ module _ {A : Type 0} where
   pub over-parent : (r : Refusal) (parent : Answer A) → r .number ≡ 21 → over (refused r) parent ≡ fromParent parent
   unfolding over
   over-parent r parent e = choose-true _ _ _ (same-true _ _ e)
+
+  parent-accepted : (parent : Answer A) (a : A) → fromParent parent ≡ accepted a → parent ≡ accepted a
+  unfolding fromParent
+  parent-accepted (accepted b) a e = e
+  parent-accepted (refused r) a e = let z : _≡_ {A = ℕ} 0 1 = cc in absurd (omega arith)
+
+  -- what it gives is what one of them gives
+  pub over-accepted : (child parent : Answer A) (a : A) → over child parent ≡ accepted a → (child ≡ accepted a) ⊎ (parent ≡ accepted a)
+  unfolding over
+  over-accepted (accepted b) parent a e = inl e
+  over-accepted (refused r) parent a e =
+      ⊎-elim (λ h. inr (parent-accepted parent a (sym (choose-true _ _ _ h) ∙ e)))
+      (λ h. let q : refused r ≡ accepted a = sym (choose-false _ _ _ h) ∙ e in let z : _≡_ {A = ℕ} 0 1 = cc in absurd (omega arith))
+      (on-or-off (same (r .number) 21))
 
 -- ---- as a verdict
 unfoldable pub parentVerdict : Verdict → Verdict

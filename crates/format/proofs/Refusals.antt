@@ -2,7 +2,7 @@
 use Prim.{Unit, tt}
 use mathlib.Core.Bool.{Bool, true, false, true≢false}
 use mathlib.Core.Logic.{_≢_, _⊎_, inl, inr, ⊎-elim, _↔_, Iff·rfl}
-use mathlib.Core.Path.{_≡_, refl, sym, _∙_, subst}
+use mathlib.Core.Path.{_≡_, refl, sym, ap, _∙_, subst}
 use Prim.Native.Nat.{ℕ, zero, suc, _+_, _≤_, _<_}
 use native.Mathlib.Nat.{eq-or-lt-of-le}
 use native.Mathlib.Omega.{arith}
@@ -74,6 +74,15 @@ row-passes b r e = row-iff r Iff·rfl .1 e
 pub then-refuses : (v w : Verdict) (r : Refusal) → v ≡ Refuses r → (v then w) ≡ Refuses r
 unfolding _then_
 then-refuses v w r p = rw p
+
+-- by the first number whose verdict is a refusal
+pub firstRefusal-at : (f : ℕ → Verdict) (k i n : ℕ) (r : Refusal) → i ≤ n → n < i + k → ((a : ℕ) → i ≤ a → a < n → f a ≡ Passes) → f n ≡ Refuses r
+    → firstRefusal f k i ≡ Refuses r
+unfolding firstRefusal
+firstRefusal-at f zero i n r l h b e = absurd (omega arith)
+firstRefusal-at f (suc k) i n r l h b e =
+    ⊎-elim (λ q. then-refuses (f i) _ r (ap f q ∙ e))
+    (λ m. then-rest _ _ (b i (omega arith) m) ∙ firstRefusal-at f k (suc i) n r m (omega arith) (λ a p q. b a (omega arith) q) e) (eq-or-lt-of-le l)
 
 -- ---- what a refusal says
 -- what holds of the number and the place that a verdict refuses with, if it does

@@ -1,7 +1,7 @@
 -- Demand 1: the numbers that each call refuses with, and their places. What holds of the number and the place of each row of a chain holds of what the chain
 -- refuses with.
 use Prim.{Unit, tt}
-use mathlib.Core.Bool.{Bool, true, true≢false}
+use mathlib.Core.Bool.{Bool, true, false, true≢false}
 use mathlib.Core.List.{List, [], _∷_}
 use mathlib.Core.Logic.{_≢_, _⊎_, inl, inr, ⊎-elim, _↔_, Iff·rfl, Iff·trans, Iff·and}
 use mathlib.Core.Path.{_≡_, refl, sym, _∙_, subst}
@@ -9,7 +9,8 @@ use Prim.Native.Nat.{ℕ, zero, suc, _+_, _*_, _≤_, _<_}
 use native.Mathlib.Nat.{eq-or-lt-of-le}
 use native.Mathlib.Omega.{arith}
 use lib.ListN.{take}
-use lib.IntN.{ℤ}
+use lib.IntN.{ℤ, pos}
+use Rattle.format.specs.declared.Placed.{Placed}
 use Rattle.format.specs.declared.TableKind.{TableKind}
 use Rattle.format.specs.declared.TableKind.the-variants.{First, Second}
 use Rattle.format.specs.declared.Verdict.{Verdict}
@@ -18,23 +19,27 @@ use Rattle.format.specs.Tests.{same, differs, _and_}
 use Rattle.format.specs.Refusals.{refusal, row, _then_, refused, accepted}
 use Rattle.format.specs.Layouts.{indexOffset, indexHeaderLength, entryCount, entryLength, entries}
 use Rattle.format.specs.Opening.{headerVerdict, indexVerdict, entryVerdict, entriesVerdict, oneOf, oneVerdict, tableAt, extentVerdict, payloadVerdict, tableVerdict, openVerdict, Opened, opened, rangeOf, sectorCount}
-use Rattle.format.specs.Reading.{entryNumber, notWritten, unknownStatus, pointerVerdict, sectorVerdict, addressVerdict, readVerdict, locate}
-use Rattle.format.specs.Writing.{bufferVerdict, isSecond, writableVerdict}
+use Rattle.format.specs.Reading.{outside, entryNumber, notWritten, unknownStatus, pointerVerdict, sectorVerdict, addressVerdict, readVerdict, locate}
+use Rattle.format.specs.Writing.{bufferVerdict, isSecond, writableVerdict, Outcome}
 use Rattle.format.specs.Creating.{createVerdict, create}
 use Rattle.format.specs.Committing.{Appended, argumentsVerdict, anyOutside, otherThan21, sectorsVerdict, discVerdict, commitVerdict, append, commit}
 use Rattle.format.specs.RollingBack.{rollbackVerdict, rollback}
 use Rattle.format.specs.Exporting.{gapCount, sizeVerdict, fileVerdict, exactVerdict, exportVerdict, exportExact, export}
 use Rattle.format.specs.Importing.{importVerdict}
-use Rattle.format.specs.Demands.{FromTo, openingNumber, readingNumber, creatingNumber, committingNumber, rollingBackNumber, exportingNumber, importingNumber, overNumber, PlaceFor, atHeader, atIndex, atEntry, atTable, atTableEntry, atBlock, atNone, PlaceOver, inChild, inParent, EntryOf, NoSector, Demand1Refusals, SecondRefused, NothingWritten, UnwrittenRefused}
-use Rattle.format.specs.Facts.{OpensWith}
-use Rattle.format.proofs.Tests.{never, same-on, same-true, same-iff, differs-true, differs-iff, and-on, and-true, choose-cases}
-use Rattle.format.proofs.Refusals.{firstRefusal-iff, Says, row-says, off-says, then-says, after-says, first-says, says-refused, says-also, Gives, says-not, row-gives, then-gives, gives-then, answer-passes, answer-refused}
+use Rattle.format.specs.Flattening.{countOf, writtenOf, pairVerdict, sizesVerdict, flattenVerdict}
+use Rattle.format.specs.Demands.{FromTo, openingNumber, readingNumber, creatingNumber, committingNumber, rollingBackNumber, exportingNumber, importingNumber, overNumber, flatteningNumber, PlaceFor, atHeader, atIndex, atEntry, atTable, atTableEntry, atBlock, atNone, PlaceOver, inChild, inParent, EntryOf, AnyEntry, NoSector, Demand1Refusals, SecondRefused, NothingWritten, UnwrittenRefused}
+use Rattle.format.specs.Facts.{OpensWith, FlattenArguments}
+use Rattle.format.proofs.Tests.{never, same-on, same-true, same-iff, below-iff, differs-true, differs-iff, and-on, and-true, choose-cases}
+use Rattle.format.proofs.Refusals.{row-iff, firstRefusal-iff, Says, row-says, off-says, then-says, after-says, first-says, says-refused, says-also, Gives, says-not, row-gives, then-gives, gives-then, answer-passes, answer-refused}
 use Rattle.format.proofs.Lists.{howMany-all, howMany-every}
-use Rattle.format.proofs.Checks.{OpenOk, open-ok, first-second, item-says, address-ok, buffer-ok, arguments-ok, writable-ok, first-known}
+use Rattle.format.proofs.Checks.{facts, OpenOk, open-ok, first-second, item-says, verdict-numbered, address-ok, buffer-ok, arguments-ok, WritableOk, writable-ok, first-known, first-flat}
 use Rattle.format.proofs.Buffers.{outcome-refused, outcome-refuses}
 use Rattle.format.proofs.Opens.{opens-with}
 use Rattle.format.proofs.Exporting.{missing-iff, range-opens, range-count, range-read}
+use Rattle.format.proofs.Numbers.{inside-number}
+use Rattle.format.proofs.Composing.{numbered}
 use Rattle.format.proofs.Importing.{import-refused}
+use Rattle.format.proofs.Flattening.{pair-verdict, flatten-is, flatten-refused}
 use Rattle.format.proofs.Overlaying.{over-says, readBy, bothBy, locate-over}
 
 -- a number of these, at its place
@@ -149,13 +154,17 @@ with-100 n (inr (inl f)) c d = inr (inl (let h = but-least n (but-least n f c) d
 with-100 n (inr (inr f)) c d = inr (inr (omega (arith, f)))
 
 -- ---- the verdicts of the calls
-pub read-says : (img : List ℕ) (o : ℕ) (a : ℤ) → Says (Listed img o (λ n. n ≡ entryNumber (opened img o) a) readingNumber) (readVerdict img o a)
+read-looks : (img : List ℕ) (o : ℕ) (a : ℤ) (LookedAt : ℕ → Type 0) → (outside (opened img o) a ≡ false → LookedAt (entryNumber (opened img o) a))
+    → Says (Listed img o LookedAt readingNumber) (readVerdict img o a)
 unfolding readVerdict addressVerdict
-read-says img o a =
+read-looks img o a LookedAt h =
     then-says _ _ _ (open-also img o _ _)
-    (then-says _ _ _ (row-says _ _ (refusal 20 0) (inr (inl (omega arith)), atNone (inl (omega arith))))
-    (sector-says img o _ readingNumber (λ n f. inr (inl (omega arith))) _ refl
+    (after-says _ _ _ (row-says _ _ (refusal 20 0) (inr (inl (omega arith)), atNone (inl (omega arith))))
+    (λ w. sector-says img o _ readingNumber (λ n f. inr (inl (omega arith))) _ (h (row-iff (refusal 20 0) Iff·rfl .0 w))
     (row-says _ _ (refusal 73 0) (inr (inr refl), atNone (inr (inr (inr (omega arith))))))))
+
+pub read-says : (img : List ℕ) (o : ℕ) (a : ℤ) → Says (Listed img o (λ n. n ≡ entryNumber (opened img o) a) readingNumber) (readVerdict img o a)
+read-says img o a = read-looks img o a _ (λ h. refl)
 
 -- of a child over its parent
 over-reads : (child parent : List ℕ) (a : ℤ) → Says (λ n p. overNumber n × PlaceOver child parent (EntryOf child a) (EntryOf parent a) n p) (bothBy child parent a)
@@ -253,6 +262,47 @@ import-says buffer file size application full =
     (then-says _ _ _ (row-says _ _ (refusal 42 0) (inr (inl refl), refl)) (row-says _ _ (refusal 33 0) (inr (inr (inl refl)), refl)))))
     (row-says _ _ (refusal 35 0) (inr (inr (inr refl)), refl))
 
+-- a child's own sectors, whose table is of the first kind: 22 to 27; then the parent's; 31, 33, 74, 40, 30 and 35
+module _ (child parent : List ℕ) where
+  abbrev Flattening : ℕ → ℕ → Type 0
+  Flattening n p = flatteningNumber n × PlaceOver child parent (AnyEntry child) (AnyEntry parent) n p
+
+  own-says : WritableOk child (indexOffset child) → (n : ℕ) → n < countOf child
+      → Says (Listed child (indexOffset child) (AnyEntry child) (FromTo 21 27)) (readBy child (pos n))
+  own-says w n h =
+      let m = numbered (opened child (indexOffset child)) (first-flat child (indexOffset child) (w .first) .0) n h in
+      rw (verdict-numbered child (indexOffset child) (w .opens) (pos n) n m)
+      (sector-says child _ (AnyEntry child) (FromTo 21 27) (λ i f. f) n h (off-says _ _ _ (first-known child (opened child (indexOffset child)) n (w .first))))
+
+  pair-says : WritableOk child (indexOffset child) → Says Flattening (pairVerdict child parent)
+  pair-says w =
+      rw (pair-verdict child parent)
+      (first-says Flattening _ (countOf child) _ 0 (omega arith) (λ n h.
+      other-says Flattening _
+      (over-says (λ i p. i ≢ 21 → Flattening i p) (λ d. absurd (d refl)) (readBy child (pos n)) (readBy parent (pos n))
+      (says-also _ (λ i p s d c. (inr (inr (inl (but-least i (s .0) d))), inChild (s .1))) (own-says w n h))
+      (says-also _ (λ i p s c d e. (inr (inr (inr (inl (with-100 i (s .0) c d)))), inParent (s .1)))
+      (read-looks parent _ (pos n) (AnyEntry parent) (λ q. inside-number _ (pos n) q .inside))))))
+
+  -- a number without a place
+  none-says : (b : Bool) (n : ℕ) → FromTo 30 35 n ⊎ FromTo 40 42 n → flatteningNumber n → Says Flattening (row b (refusal n 0))
+  none-says b n f h = row-says Flattening b (refusal n 0) (h, inChild (atNone {n = n} (inr (⊎-elim inl (λ g. inr (inl g)) f))))
+
+  late : {n : ℕ} → FromTo 30 31 n ⊎ ((n ≡ 33) ⊎ ((n ≡ 35) ⊎ (n ≡ 40))) → flatteningNumber n
+  late h = inr (inr (inr (inr h)))
+
+  flatten-says : (buffer application : List ℕ) (full : Bool) → Says Flattening (flattenVerdict buffer child parent application then row full (refusal 35 0))
+  unfolding flattenVerdict sizesVerdict
+  flatten-says buffer application full =
+      then-says Flattening _ _
+      (then-says Flattening _ _ (none-says _ 31 (inl (omega arith)) (late (inl (omega arith))))
+      (then-says Flattening _ _ (none-says _ 33 (inl (omega arith)) (late (inr (inl refl))))
+      (after-says Flattening _ _ (says-also _ (λ n p s. (s .0, inChild (s .1))) (writable-says child (indexOffset child) (AnyEntry child) _))
+      (λ w.
+      then-says Flattening _ _ (pair-says (writable-ok child (indexOffset child) .0 w))
+      (then-says Flattening _ _ (none-says _ 40 (inr (omega arith)) (late (inr (inr (inr refl))))) (none-says _ 30 (inl (omega arith)) (late (inl (omega arith)))))))))
+      (none-says _ 35 (inl (omega arith)) (late (inr (inr (inl refl)))))
+
 pub demand-1-refusals : Demand1Refusals
 unfolding sectorCount locate create commit append rollback exportExact export
 demand-1-refusals = record {
@@ -266,6 +316,8 @@ demand-1-refusals = record {
   importing = λ buffer file size application major minor mediaType creationTime lastWrittenTime r e.
       says-refused _ _ r (import-says buffer file size application _) (import-refused buffer file size application major minor mediaType creationTime lastWrittenTime r e .0);
   locatingOver = λ child parent a r e. says-refused _ _ r (over-reads child parent a) (answer-refused _ _ r (sym (locate-over child parent a) ∙ e));
+  flattening = λ buffer child parent application major minor mediaType creationTime lastWrittenTime r e.
+      says-refused _ _ r (flatten-says child parent buffer application _) (flatten-refused buffer child parent application major minor mediaType creationTime lastWrittenTime r e .0);
 }
 
 -- ---- a number that is none of a verdict's
@@ -306,6 +358,31 @@ module _ (img : List ℕ) (o : ℕ) where
   unfolding discVerdict
   disc-74 addresses = Iff·trans (gives-then _ _ (refusal 74 0) (rest-not-74 addresses)) writable-74
 
+-- flattening: 31 and 33 before it; the pair's, 40, 30 and 35 behind it
+over-not-74 : (n : ℕ) → overNumber n → n ≢ 74
+over-not-74 n h e =
+    ⊎-elim (⊎-elim (⊎-elim (λ f. omega (arith, f)) (λ f. omega (arith, f))) (⊎-elim (λ f. omega (arith, f)) (λ f. omega (arith, f))))
+    (⊎-elim (λ f. omega (arith, f)) (⊎-elim (λ f. omega (arith, f)) (λ f. omega (arith, f)))) h
+
+flatten-74 : (buffer child parent application : List ℕ) (full : Bool)
+    → ((flattenVerdict buffer child parent application then row full (refusal 35 0)) ≡ Refuses (refusal 74 0)) ↔ (FlattenArguments buffer application × OpensWith child (indexOffset child) Second)
+unfolding flattenVerdict sizesVerdict
+flatten-74 buffer child parent application full =
+    let not-74 : (b : Bool) (n : ℕ) → n ≢ 74 → ¬ Gives 74 (row b (refusal n 0)) = λ b n d. says-not 74 _ (row-says Not-74 b (refusal n 0) d) in
+    let pairs : Says Not-74 (pairVerdict child parent) =
+    rw (pair-verdict child parent)
+    (first-says Not-74 _ (countOf child) _ 0 (omega arith) (λ n h. other-says Not-74 _ (says-also _ (λ i p s d. over-not-74 i (s .0)) (over-reads child parent (pos n))))) in
+    let behind : ¬ Gives 74 (pairVerdict child parent then sizesVerdict (countOf child) (writtenOf child parent)) =
+    says-not 74 _ (then-says Not-74 _ _ pairs (then-says Not-74 _ _ (row-says Not-74 _ (refusal 40 0) (λ e. omega arith)) (row-says Not-74 _ (refusal 30 0) (λ e. omega arith)))) in
+    Iff·trans (gives-then _ _ (refusal 74 0) (not-74 full 35 (λ e. omega arith)))
+    (Iff·trans (then-gives _ _ (refusal 74 0) (not-74 _ 31 (λ e. omega arith)))
+    (facts
+    (Iff·and (row-iff _ below-iff)
+    (Iff·trans (then-gives _ _ (refusal 74 0) (not-74 _ 33 (λ e. omega arith)))
+    (Iff·and (row-iff _ differs-iff) (Iff·trans (gives-then _ _ (refusal 74 0) behind) (writable-74 child (indexOffset child))))))
+    (λ (a, (b, c)). (record { long = a; named = b }, c))
+    (λ (k, c). (k .long, (k .named, c)))))
+
 pub second-refused : SecondRefused
 unfolding commit append commitVerdict rollback rollbackVerdict
 second-refused = record {
@@ -317,6 +394,10 @@ second-refused = record {
   rollingBack = λ buffer used offset time.
       let u : ¬ Gives 74 (bufferVerdict buffer used) = apart-from 74 _ (FromTo 30 35) (λ n p k. k .0) (λ f. omega arith) (buffer-says [] 0 NoSector _ (omega arith) (omega arith) buffer used) in
       Iff·trans (outcome-refuses _ _ _ _ (refusal 74 0)) (Iff·trans (then-gives _ _ (refusal 74 0) u) (Iff·and (buffer-ok buffer used) (writable-74 _ offset)));
+  flattening = λ buffer child parent application major minor mediaType creationTime lastWrittenTime.
+      subst (λ (w : Outcome Placed). (w .result ≡ refused (refusal 74 0)) ↔ (FlattenArguments buffer application × OpensWith child (indexOffset child) Second))
+      (sym (flatten-is buffer child parent application major minor mediaType creationTime lastWrittenTime))
+      (Iff·trans (outcome-refuses _ _ _ _ (refusal 74 0)) (flatten-74 buffer child parent application _));
 }
 
 -- ---- 21, by 9/13's rule: no check before it gives it, and none behind it

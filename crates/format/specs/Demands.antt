@@ -29,8 +29,9 @@ use Rattle.format.specs.RollingBack.{rollback}
 use Rattle.format.specs.Exporting.{exportExact, flat, export}
 use Rattle.format.specs.Importing.{import}
 use Rattle.format.specs.Overlaying.{discOver, readOver, locateOver, sourceOver}
+use Rattle.format.specs.Flattening.{flatten}
 use Rattle.format.specs.Histories.{Start, startOn, OfBytes, Call, commits, rollsBack, Point, Moment, reads, ReadTheSame, started, outcomeOf, after, atEnd, Throughout, Permitted}
-use Rattle.format.specs.Facts.{Opens, OpensWith, NotWritten, HasEntry, EntryNames, CreateOk, BufferOk, ArgumentsOk, DiscOk, Stores, Reindexed, blockLengthFor, blockEntry}
+use Rattle.format.specs.Facts.{Opens, OpensWith, NotWritten, HasEntry, EntryNames, CreateOk, FlattenArguments, BufferOk, ArgumentsOk, DiscOk, Stores, Reindexed, blockLengthFor, blockEntry}
 
 -- ---- Demand 1: every call refuses by 01's numbers, and says where: "number and place". (That they are given in 01's order, and exactly when their
 -- check applies, is how the calls are defined.) These are the numbers that each call gives; none is 0, so that an interface can answer 0 for "accepted".
@@ -59,8 +60,15 @@ abbrev pub importingNumber : ℕ → Type 0
 importingNumber n = FromTo 30 31 n ⊎ (n ≡ 42) ⊎ (n ≡ 33) ⊎ (n ≡ 35)
 
 -- 8/13: the child's numbers, and "other parent numbers .. with 100 added"
+abbrev pub parentNumber : ℕ → Type 0
+parentNumber n = FromTo 101 114 n ⊎ FromTo 122 127 n ⊎ FromTo 170 173 n
+
 abbrev pub overNumber : ℕ → Type 0
-overNumber n = readingNumber n ⊎ FromTo 101 114 n ⊎ FromTo 122 127 n ⊎ FromTo 170 173 n
+overNumber n = readingNumber n ⊎ parentNumber n
+
+-- (20 and 21, which are no refusal of an address of the child's, are not among them)
+abbrev pub flatteningNumber : ℕ → Type 0
+flatteningNumber n = openingNumber n ⊎ (n ≡ 74) ⊎ FromTo 22 27 n ⊎ parentNumber n ⊎ FromTo 30 31 n ⊎ (n ≡ 33) ⊎ (n ≡ 35) ⊎ (n ≡ 40)
 
 -- 1/13's list: the place of each number, of a call that opens the image at o and looks at such table entries
 pub data PlaceFor (img : List ℕ) (o : ℕ) (LookedAt : ℕ → Type 0) : ℕ → ℕ → Type 0 where
@@ -119,6 +127,9 @@ pub record Demand1Refusals : Type 0 where
       → RefusesBy importingNumber (λ n p. p ≡ 0) (import buffer file size application major minor mediaType creationTime lastWrittenTime .result)
   pub locatingOver : (child parent : List ℕ) (a : ℤ)
       → RefusesBy overNumber (PlaceOver child parent (EntryOf child a) (EntryOf parent a)) (locateOver child parent a)
+  pub flattening : (buffer child parent application : List ℕ) (major minor mediaType creationTime lastWrittenTime : ℕ)
+      → RefusesBy flatteningNumber (PlaceOver child parent (AnyEntry child) (AnyEntry parent))
+      (flatten buffer child parent application major minor mediaType creationTime lastWrittenTime .result)
 
 -- "Each refusal .. writes nothing": every byte of the buffer is as it was
 pub record Demand1Unchanged : Type 0 where
@@ -134,6 +145,9 @@ pub record Demand1Unchanged : Type 0 where
   pub importing : (buffer file : List ℕ) (size : ℕ) (application : List ℕ) (major minor mediaType creationTime lastWrittenTime : ℕ) (r : Refusal)
       → import buffer file size application major minor mediaType creationTime lastWrittenTime .result ≡ refused r
       → import buffer file size application major minor mediaType creationTime lastWrittenTime .buffer ≡ buffer
+  pub flattening : (buffer child parent application : List ℕ) (major minor mediaType creationTime lastWrittenTime : ℕ) (r : Refusal)
+      → flatten buffer child parent application major minor mediaType creationTime lastWrittenTime .result ≡ refused r
+      → flatten buffer child parent application major minor mediaType creationTime lastWrittenTime .buffer ≡ buffer
 
 -- an address reads as 21: it is not written
 abbrev pub Missing : Answer (List ℕ) → Type 0
@@ -227,8 +241,15 @@ pub record ExportOk (img out : List ℕ) (n : Flat) : Type 0 where
   pub whole : n .length ≡ tableCount img kind table * size
   pub room : n .length ≤ length out
 
--- importing: 1 to 65,536 whole sectors, and the image has room: a new one, then a block of the sectors that are stored, of which none is on the new disc,
--- a table, and an index of two entries
+-- where a new image of so many sectors ends and where its index stands, if one commit stores these in it: behind it a block, a table, and an index of two
+-- entries; if there are none, no commit is made
+unfoldable pub newImage : ℕ → ℕ → List (List ℕ) → Placed
+newImage count size [] = placed (189 + 8 * count) (153 + 8 * count)
+newImage count size (d ∷ stored) =
+    let index = 189 + 8 * count + (36 + length (d ∷ stored) * size) + (49 + 8 * count) in
+    placed (index + (20 + 16 * 2)) index
+
+-- importing: 1 to 65,536 whole sectors, and the image has room; none of the sectors that are stored is on the new disc
 pub record ImportOk (buffer file : List ℕ) (size : ℕ) (application : List ℕ) (p : Placed) : Type 0 where
   pub long : length buffer ≤ 4294967296
   pub some : size ≢ 0
@@ -239,8 +260,32 @@ pub record ImportOk (buffer file : List ℕ) (size : ℕ) (application : List �
   pub sized : length application ≡ 64
   pub stored : List (List ℕ)
   pub stores : Stores (λ (d : List ℕ). ⊥) [] (pieces count size file) stored
-  pub index : p .index .0 ≡ 189 + 8 * count + (36 + length stored * size) + (49 + 8 * count)
-  pub end : p .used ≡ p .index .0 + (20 + 16 * 2)
+  pub end : p ≡ newImage count size stored
+  pub room : p .used ≤ length buffer
+
+-- the sectors, each of this size, that a child over its parent has at the k addresses from n on; every other of these addresses is not written
+pub data PairHas (child parent : List ℕ) (size : ℕ) : ℕ → ℕ → List (List ℕ) → Type 0 where
+  finished : {n : ℕ} → PairHas child parent size zero n []
+  gap : {k n : ℕ} {ds : List (List ℕ)} → Missing (readOver child parent (pos n)) → PairHas child parent size k (suc n) ds
+      → PairHas child parent size (suc k) n ds
+  sector : {k n : ℕ} {d : List ℕ} {ds : List (List ℕ)} → readOver child parent (pos n) ≡ accepted d → length d ≡ size
+      → PairHas child parent size k (suc n) ds → PairHas child parent size (suc k) n (d ∷ ds)
+
+-- flattening: the child opens with a table of the first kind, each of its addresses has a sector or is not written, the sectors are of one size, and the image
+-- has room
+pub record FlattenOk (buffer child parent application : List ℕ) (p : Placed) : Type 0 where
+  pub arguments : FlattenArguments buffer application
+  pub table : ℕ
+  pub opens : Opens child (indexOffset child) First table
+  pub counted : FromTo 1 1048576 (tableCount child First table)
+  pub size : ℕ
+  pub small : size ≤ 65536
+  pub sectors : List (List ℕ)
+  pub has : PairHas child parent size (tableCount child First table) 0 sectors
+  pub few : length sectors ≤ 65536
+  pub stored : List (List ℕ)
+  pub stores : Stores (λ (d : List ℕ). ⊥) [] sectors stored
+  pub end : p ≡ newImage (tableCount child First table) size stored
   pub room : p .used ≤ length buffer
 
 pub record Demand1Accepted : Type 0 where
@@ -258,6 +303,8 @@ pub record Demand1Accepted : Type 0 where
   pub importing : (buffer file : List ℕ) (size : ℕ) (application : List ℕ) (major minor mediaType creationTime lastWrittenTime : ℕ) (p : Placed)
       → (import buffer file size application major minor mediaType creationTime lastWrittenTime .result ≡ accepted p) ↔ ImportOk buffer file size application p
   pub locatingOver : (child parent : List ℕ) (a : ℤ) (s : Sourced) → (locateOver child parent a ≡ accepted s) ↔ NamesOver child parent a s
+  pub flattening : (buffer child parent application : List ℕ) (major minor mediaType creationTime lastWrittenTime : ℕ) (p : Placed)
+      → (flatten buffer child parent application major minor mediaType creationTime lastWrittenTime .result ≡ accepted p) ↔ FlattenOk buffer child parent application p
 
 -- ---- what an accepted call leaves as it was: all of these bytes
 pub record Leaves (before after : List ℕ) (Untouched : ℕ → Type 0) : Type 0 where
@@ -278,7 +325,8 @@ pub record HeaderSet (after : List ℕ) (index time : ℕ) : Type 0 where
 pub record WritesOnly : Type 0 where
   pub creating : (buffer : List ℕ) (count : ℕ) (application : List ℕ) (major minor mediaType creationTime lastWrittenTime : ℕ) (p : Placed)
       → create buffer count application major minor mediaType creationTime lastWrittenTime .result ≡ accepted p
-      → Leaves buffer (create buffer count application major minor mediaType creationTime lastWrittenTime .buffer) (λ i. p .used ≤ i)
+      → let after = create buffer count application major minor mediaType creationTime lastWrittenTime .buffer in
+      Leaves buffer after (λ i. p .used ≤ i) × HeaderSet after (p .index .0) lastWrittenTime
   pub committing : (buffer : List ℕ) (used : ℕ) (addresses : List ℤ) (size : ℕ) (sectors : List ℕ) (time : ℕ) (p : Placed)
       → commit buffer used addresses size sectors time .result ≡ accepted p
       → let after = commit buffer used addresses size sectors time .buffer in
@@ -293,6 +341,10 @@ pub record WritesOnly : Type 0 where
       → import buffer file size application major minor mediaType creationTime lastWrittenTime .result ≡ accepted p
       → let after = import buffer file size application major minor mediaType creationTime lastWrittenTime .buffer in
       Leaves buffer after (λ i. p .used ≤ i) × HeaderSet after (p .index .0) lastWrittenTime
+  pub flattening : (buffer child parent application : List ℕ) (major minor mediaType creationTime lastWrittenTime : ℕ) (p : Placed)
+      → flatten buffer child parent application major minor mediaType creationTime lastWrittenTime .result ≡ accepted p
+      → let after = flatten buffer child parent application major minor mediaType creationTime lastWrittenTime .buffer in
+      Leaves buffer after (λ i. p .used ≤ i) × HeaderSet after (p .index .0) lastWrittenTime
 
 -- ---- 11/13: "Commit, rollback, .. and flattening such a child are refused" on a table of the second kind, with 74, "(rollback: at its offset), after opening's": exactly if the image
 -- opens with such a table and no check before it applies
@@ -302,6 +354,9 @@ pub record SecondRefused : Type 0 where
       ↔ (ArgumentsOk buffer used addresses size sectors × OpensWith (take used buffer) (indexOffset (take used buffer)) Second)
   pub rollingBack : (buffer : List ℕ) (used offset time : ℕ)
       → (rollback buffer used offset time .result ≡ refused (refusal 74 0)) ↔ (BufferOk buffer used × OpensWith (take used buffer) offset Second)
+  pub flattening : (buffer child parent application : List ℕ) (major minor mediaType creationTime lastWrittenTime : ℕ)
+      → (flatten buffer child parent application major minor mediaType creationTime lastWrittenTime .result ≡ refused (refusal 74 0))
+      ↔ (FlattenArguments buffer application × OpensWith child (indexOffset child) Second)
 
 -- ---- 6/13: the test of an identifier "says yes exactly if the bytes are those letters in that order", at a place and in an index entry
 pub record TestsLetters (img : List ℕ) (letters : List ℕ) : Type 0 where
@@ -516,6 +571,30 @@ pub data RefusedOver (child parent : List ℕ) (a : ℤ) : Refusal → Type 0 wh
 
 abbrev pub OverRefused : Type 0
 OverRefused = (child parent : List ℕ) (a : ℤ) (r : Refusal) → (readOver child parent a ≡ refused r) ↔ RefusedOver child parent a r
+
+-- flattening: the new image "reads afterwards as the pair did", at every address, the same bytes or the same refusal, number and place
+abbrev pub FlattenReads : Type 0
+FlattenReads =
+    (buffer : List ℕ) → IsBytes buffer → (child parent application : List ℕ) → IsBytes application
+    → (major minor mediaType creationTime lastWrittenTime : ℕ) (p : Placed)
+    → let flattened = flatten buffer child parent application major minor mediaType creationTime lastWrittenTime in
+    flattened .result ≡ accepted p → ReadTheSame (read (take (p .used) (flattened .buffer))) (readOver child parent)
+
+-- and its refusals: behind the child's opening, the first "other than 21 by rising address" of a sector is its own, whatever else is wrong
+pub record FirstRefusedOver (child parent : List ℕ) (r : Refusal) : Type 0 where
+  pub table : ℕ
+  pub opens : Opens child (indexOffset child) First table
+  pub address : ℕ
+  pub inside : address < tableCount child First table
+  pub here : readOver child parent (pos address) ≡ refused r
+  pub other : r .number ≢ 21
+  pub before : (n : ℕ) → n < address → (q : Refusal) → readOver child parent (pos n) ≡ refused q → q .number ≡ 21
+
+abbrev pub FlattenRefused : Type 0
+FlattenRefused =
+    (buffer child parent application : List ℕ) (major minor mediaType creationTime lastWrittenTime : ℕ) (r : Refusal)
+    → FlattenArguments buffer application → FirstRefusedOver child parent r
+    → flatten buffer child parent application major minor mediaType creationTime lastWrittenTime .result ≡ refused r
 
 -- ---- Demand 3: one claim over the whole list. `seen` is how the disc of a moment is read: alone, or, by 8/13, "also where each moment is read with the parent,
 -- whose bytes stay unchanged".

@@ -150,6 +150,11 @@ pub record CreateOk (buffer : List ℕ) (count : ℕ) (application : List ℕ) :
   pub sized : length application ≡ 64
   pub room : 189 + 8 * count ≤ length buffer
 
+-- flattening's buffer and application: checks 31 and 33
+pub record FlattenArguments (buffer application : List ℕ) : Type 0 where
+  pub long : length buffer ≤ 4294967296
+  pub named : length application ≡ 64
+
 -- the buffer of a commit or a rollback: checks 31 and 32
 pub record BufferOk (buffer : List ℕ) (used : ℕ) : Type 0 where
   pub long : length buffer ≤ 4294967296
