@@ -73,22 +73,25 @@ read-unopened : (img : List ℕ) (r : Refusal) → opening img ≡ refused r →
 unfolding read readAt readVerdict opening
 read-unopened img r e a = answer-refuses _ _ r (then-refuses _ _ r (answer-refused _ _ r e))
 
--- ---- which answers pass
-verdict-answer : {A : Type 0} (v : Verdict) (x : A) → verdictOf (answer v x) ≡ v
+-- ---- which answers pass: all but refusals with another number than 21
+abbrev Passing : Answer (List ℕ) → Type 0
+Passing x = otherThan21 (verdictOf x) ≡ Passes
+
+verdict-answer : (v : Verdict) (d : List ℕ) → verdictOf (answer v d) ≡ v
 unfolding verdictOf answer
-verdict-answer Passes x = refl
-verdict-answer (Refuses r) x = refl
+verdict-answer Passes d = refl
+verdict-answer (Refuses r) d = refl
 
 only-21 : (r : Refusal) → otherThan21 (Refuses r) ≡ Passes → r .number ≡ 21
 unfolding otherThan21
 only-21 r e = ⊎-elim (same-on _ _) (λ f. absurd (not-passes (sym (choose-false _ Passes (Refuses r) f) ∙ e))) (on-or-off (same (r .number) 21))
 
 -- the child's, where the pair's does
-child-passes : (x y : Answer (List ℕ)) → otherThan21 (verdictOf (over x y)) ≡ Passes → otherThan21 (verdictOf x) ≡ Passes
+child-passes : (x y : Answer (List ℕ)) → Passing (over x y) → Passing x
 unfolding verdictOf otherThan21
 child-passes (accepted d) y e = refl
 child-passes (refused r) y e =
-    ⊎-elim (choose-true _ Passes (Refuses r)) (λ f. ap (λ (z : Answer (List ℕ)). otherThan21 (verdictOf z)) (sym (over-other r y (same-iff .0 f))) ∙ e)
+    ⊎-elim (choose-true _ Passes (Refuses r)) (λ f. subst Passing (over-other r y (same-iff .0 f)) e)
     (on-or-off (same (r .number) 21))
 
 -- the parent's at a table entry, whose numbers are not 20
@@ -100,12 +103,13 @@ sector-not-20 img t n =
     (then-says (λ m q. m ≢ 20) _ _ (row-says _ _ (refusal 73 0) (λ e. omega arith))
     (then-says (λ m q. m ≢ 20) _ _ (row-says _ _ (refusal 22 _) (λ e. omega arith)) (item-says _ img _ (λ m h k e. omega arith)))))
 
-parent-passes : {A : Type 0} (v : Verdict) (x : A) → ¬ Gives 20 v → otherThan21 (verdictOf (fromParent (answer v x))) ≡ Passes → otherThan21 v ≡ Passes
+parent-passes : (v : Verdict) (d : List ℕ) → ¬ Gives 20 v → Passing (fromParent (answer v d)) → otherThan21 v ≡ Passes
 unfolding verdictOf otherThan21 fromParent answer Gives
-parent-passes Passes x d e = refl
-parent-passes (Refuses r) x d e =
+parent-passes Passes d m e = refl
+parent-passes (Refuses r) d m e =
     ⊎-elim (choose-true _ Passes (Refuses r))
-    (λ f. let m : 100 + r .number ≡ 21 = sym (ap (λ (q : Refusal). q .number) (parent-other r d (same-iff .0 f))) ∙ only-21 (parentRefusal r) e in absurd (omega arith))
+    (λ f. let n : (100 + r .number) ≡ 21 = sym (ap (λ (q : Refusal). q .number) (parent-other r m (same-iff .0 f))) ∙ only-21 (parentRefusal r) e in
+    absurd (omega arith))
     (on-or-off (same (r .number) 21))
 
 -- ---- the parent's sector, as the code finds it
@@ -125,21 +129,22 @@ module _ (parent : List ℕ) (p : Answer Opened) (a : ℤ) (k : ParentChecked pa
     parent-outside h = sym (from-bytes (read parent a) ∙ ap bytesRead (read-outside parent t (k .opens ∙ e) a h))
 
     module _ (n : ℕ) (m : (outside t a ≡ false) × (entryNumber t a ≡ n) × (n < t .count)) where
+      is : read parent a ≡ entryAnswer parent t n
+      is = read-entry parent t (k .opens ∙ e) a n (m .0) (m .1)
+
       pub parent-entry : EntryChecked parent t n
       unfolding entryAnswer
       parent-entry = record {
         opens = k .opens ∙ e;
         inside = m .2;
-        passes =
-            parent-passes _ _ (sector-not-20 parent t n)
-            (ap (λ (x : Answer (List ℕ)). otherThan21 (verdictOf (fromParent x))) (sym (read-entry parent t (k .opens ∙ e) a n (m .0) (m .1))) ∙ k .passes);
+        passes = parent-passes _ _ (sector-not-20 parent t n) (subst (λ (x : Answer (List ℕ)). Passing (fromParent x)) is (k .passes));
       }
 
       pub parent-bytes : bytesRead (entryAnswer parent t n) ≡ bytesRead (fromParent (read parent a))
-      parent-bytes = sym (from-bytes (read parent a) ∙ ap bytesRead (read-entry parent t (k .opens ∙ e) a n (m .0) (m .1)))
+      parent-bytes = sym (from-bytes (read parent a) ∙ ap bytesRead is)
 
 -- ---- by length
-empty : (x : List ℕ) → length x ≤ 0 → x ≡ []
+pub empty : (x : List ℕ) → length x ≤ 0 → x ≡ []
 empty [] h = refl
 empty (d ∷ x) h = absurd (omega arith)
 
@@ -168,12 +173,15 @@ module _ (child parent : List ℕ) (n : ℕ) (d : List ℕ) where
 
 -- ---- the pair at address n of the child
 module _ (child parent : List ℕ) (t : Opened) (p : Answer Opened) (k : Pair child parent t p) (n : ℕ) (h : n < t .count) where
-  passed : otherThan21 (verdictOf (pairAt child parent n)) ≡ Passes
+  abbrev count : ℕ
+  count = opened child (indexOffset child) .count
+
+  passed : Passing (pairAt child parent n)
   unfolding pairVerdict
   passed =
-      let c : opened child (indexOffset child) .count ≡ t .count = ap (λ (u : Opened). u .count) (opened-is child t (k .opens)) in
-      firstRefusal-iff {P = λ m. otherThan21 (verdictOf (pairAt child parent m)) ≡ Passes} (opened child (indexOffset child) .count) (opened child (indexOffset child) .count) 0 (omega arith)
-      (λ m l. ((λ x. x), (λ x. x))) .0 (k .passes) n (omega arith) (omega arith)
+      let c : count ≡ t .count = ap (λ (u : Opened). u .count) (opened-is child t (k .opens)) in
+      firstRefusal-iff {P = λ m. Passing (pairAt child parent m)} count count 0 (omega arith) (λ m l. ((λ x. x), (λ x. x))) .0 (k .passes) n
+      (omega arith) (omega arith)
 
   -- its lowest address is 0
   lowest : t .negative ≡ 0
@@ -197,21 +205,22 @@ module _ (child parent : List ℕ) (t : Opened) (p : Answer Opened) (k : Pair ch
         ∙ child-passes (read child (pos n)) (read parent (pos n)) passed;
   }
 
+  abbrev beneath : Answer (List ℕ) → Answer (List ℕ)
+  beneath x = over x (read parent (pos n))
+
   -- where the child has one
   own-by : (x : Answer (List ℕ)) (d : List ℕ) → read child (pos n) ≡ x → d ≡ bytesRead x → 0 < length d → d ≡ sectorAt child parent n
   unfolding pairAt readOver discOver bytesRead
-  own-by (accepted c) d e f l = f ∙ sym (ap bytesRead (ap (λ (z : Answer (List ℕ)). over z (read parent (pos n))) e ∙ over-child c _))
+  own-by (accepted c) d e f l = f ∙ sym (ap bytesRead (ap beneath e ∙ over-child c _))
   own-by (refused r) d e f l = absurd (not-empty d l f)
 
   -- where it has none
-  gap-by : (x : Answer (List ℕ)) (d : List ℕ) → read child (pos n) ≡ x → d ≡ bytesRead x → length d ≤ 0 → pairAt child parent n ≡ fromParent (read parent (pos n))
+  gap-by : (x : Answer (List ℕ)) (d : List ℕ) → read child (pos n) ≡ x → d ≡ bytesRead x → length d ≤ 0
+      → pairAt child parent n ≡ fromParent (read parent (pos n))
   unfolding pairAt readOver discOver bytesRead verdictOf
-  gap-by (accepted c) d e f l =
-      absurd (over-some child parent (pos n) c (ap (λ (z : Answer (List ℕ)). over z (read parent (pos n))) e ∙ over-child c _) (sym f ∙ empty d l))
+  gap-by (accepted c) d e f l = absurd (over-some child parent (pos n) c (ap beneath e ∙ over-child c _) (sym f ∙ empty d l))
   gap-by (refused r) d e f l =
-      let is : over (read child (pos n)) (read parent (pos n)) ≡ over (refused r) (read parent (pos n)) = ap (λ (z : Answer (List ℕ)). over z (read parent (pos n))) e in
-      let only : otherThan21 (Refuses r) ≡ Passes = child-passes (refused r) (read parent (pos n)) (ap (λ (z : Answer (List ℕ)). otherThan21 (verdictOf z)) (sym is) ∙ passed) in
-      is ∙ over-parent r _ (only-21 r only)
+      ap beneath e ∙ over-parent r _ (only-21 r (child-passes (refused r) (read parent (pos n)) (subst Passing (ap beneath e) passed)))
 
   module _ {d : List ℕ} (f : d ≡ bytesRead (entryAnswer child t n)) where
     pub sector-own : 0 < length d → d ≡ sectorAt child parent n
@@ -222,7 +231,7 @@ module _ (child parent : List ℕ) (t : Opened) (p : Answer Opened) (k : Pair ch
       gap = rw (is ∙ first-address) (gap-by (read child (pos n)) d refl (f ∙ sym (ap bytesRead child-read)) l)
 
       pub sector-inherited : ParentChecked parent p a
-      sector-inherited = record { opens = k .opensParent; passes = ap (λ (z : Answer (List ℕ)). otherThan21 (verdictOf z)) (sym gap) ∙ passed }
+      sector-inherited = record { opens = k .opensParent; passes = subst Passing gap passed }
 
       pub sector-parents : {x : List ℕ} → x ≡ bytesRead (fromParent (read parent a)) → x ≡ sectorAt child parent n
       sector-parents g = g ∙ sym (ap bytesRead gap)
@@ -232,7 +241,7 @@ module _ (child parent : List ℕ) (t : Opened) (p : Answer Opened) (k : Pair ch
   unfolding pairAt bytesRead verdictOf
   none-by (accepted d) e f = absurd (over-some child parent (pos n) d e f)
   none-by (refused r) e f =
-      e ∙ ap refused (only-neither r (over-refused child parent (pos n) r .0 e) (only-21 r (ap (λ (z : Answer (List ℕ)). otherThan21 (verdictOf z)) (sym e) ∙ passed)))
+      e ∙ ap refused (only-neither r (over-refused child parent (pos n) r .0 e) (only-21 r (subst Passing e passed)))
 
   pub sector-none : (sectorAt child parent n ≡ []) ↔ (pairAt child parent n ≡ refused (refusal 21 0))
   unfolding bytesRead
