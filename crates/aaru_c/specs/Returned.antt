@@ -5,6 +5,7 @@ use Prim.Native.Nat.{ℕ}
 use lib.IntN.{ℤ}
 use Rattle.format.specs.declared.AddressRange.{AddressRange}
 use Rattle.format.specs.declared.Place.{Place}
+use Rattle.format.specs.declared.Sourced.{Sourced}
 use Rattle.format.specs.Refusals.{Answer, refused, accepted}
 use Rattle.format.specs.Writing.{Outcome}
 
@@ -28,6 +29,10 @@ countAndLowest count lowest = record { count = count; lowest = record { 0 = lowe
 -- `placed` of format/specs/Writing
 abbrev pub startAndSize : ℕ → ℕ → Place
 startAndSize start size = record { start = record { 0 = start }; size = size }
+
+-- those of aaru_locate_over
+abbrev pub whichStartAndSize : ℕ → ℕ → ℕ → Sourced
+whichStartAndSize which start size = record { image = which; place = startAndSize start size }
 
 -- of a call that writes also every byte of the buffer
 pub record Left (A : Type 0) : Type 0 where

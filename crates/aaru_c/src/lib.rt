@@ -1,4 +1,4 @@
-// The C interface: the public calls of `aaru` and `flat`, as bindings/c/aaru.h declares them. A slice is a pointer and a length, a call returns 0 or the
+// The C interface: the public calls of `aaru`, `flat` and `overlay`, as bindings/c/aaru.h declares them. A slice is a pointer and a length, a call returns 0 or the
 // number of its refusal, and values come back behind pointers, which a refused call leaves as they are; it sets `place` alone, which an
 // accepted one leaves. As in `aaru`, no call asks anything of its caller; what the language itself takes for granted of pointers that
 // come from outside is said in the header.
@@ -10,9 +10,10 @@ ghost use Rattle.format.specs.Committing.{commit};
 ghost use Rattle.format.specs.RollingBack.{rollback};
 ghost use Rattle.format.specs.Exporting.{exportExact, flat, export};
 ghost use Rattle.format.specs.Importing.{import};
+ghost use Rattle.format.specs.Overlaying.{locateOver};
 ghost use Rattle.format.specs.Writing.{placed};
 ghost use Rattle.format.specs.Answers.{updated};
-ghost use Rattle.aaru_c.specs.Returned.{returned, countAndLowest, startAndSize, left};
+ghost use Rattle.aaru_c.specs.Returned.{returned, countAndLowest, startAndSize, whichStartAndSize, left};
 use aaru::ByteOffset;
 use aaru::Counted;
 use aaru::Located;
@@ -21,6 +22,7 @@ use aaru::SectorAddress;
 use aaru::Updated;
 use flat::Exported;
 use flat::ExportedExact;
+use overlay::LocatedOver;
 
 // What a refused call returns, and sets.
 fn refused(r: Refusal, place: &mut u64) -> u32
@@ -72,6 +74,32 @@ pub extern "C" fn aaru_locate(
             0
         }
         Located::Refused(r) => refused(r, place),
+    }
+}
+
+// Where the sector at an address of a child over its parent lies: in which image, 0 for the child and 1 for the parent, and where there.
+#[no_mangle]
+pub extern "C" fn aaru_locate_over(
+    child: &[u8],
+    parent: &[u8],
+    address: i64,
+    which: &mut u64,
+    start: &mut u64,
+    size: &mut u64,
+    place: &mut u64,
+) -> u32
+    ensures { λ r. ⌜ record { number = r; values = whichStartAndSize (now (which .exit)) (now (start .exit)) (now (size .exit)); place = now (place .exit) } ≡ returned (locateOver (now (child .entry)) (now (parent .entry)) address) (whichStartAndSize (now (which .entry)) (now (start .entry)) (now (size .entry))) (now (place .entry)) ⌝ }
+{
+    let answer = overlay::locate_over(child, parent, SectorAddress(address));
+    match answer {
+        LocatedOver::In(s) => {
+            let p = s.place;
+            *which = s.image;
+            *start = p.start.0;
+            *size = p.size;
+            0
+        }
+        LocatedOver::Refused(r) => refused(r, place),
     }
 }
 
