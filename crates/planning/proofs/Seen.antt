@@ -35,7 +35,7 @@ more-new : (l : List (List ℕ)) (x d : List ℕ) → x ≡ d → Among (l ++ (x
 more-new [] x d e = here e
 more-new (y ∷ l) x d e = there (more-new l x d e)
 
-among-more : (l : List (List ℕ)) (x d : List ℕ) → Among (l ++ (x ∷ [])) d ↔ (Among l d ⊎ (x ≡ d))
+pub among-more : (l : List (List ℕ)) (x d : List ℕ) → Among (l ++ (x ∷ [])) d ↔ (Among l d ⊎ (x ≡ d))
 among-more l x d = (more-forth l x d, ⊎-elim (more-old l x d) (more-new l x d))
 
 pub pieces-more : (k size : ℕ) (l : List ℕ) → pieces (suc k) size l ≡ pieces k size l ++ (sectorOf size l k ∷ [])
@@ -47,16 +47,9 @@ pieces-more (suc k) size l =
     (pieces-more k size (drop size l)
     ∙ ap (λ (x : List ℕ). pieces k size (drop size l) ++ (take size x ∷ [])) (drop-drop (k * size) size l ∙ ap (λ n. drop n l) e))
 
--- ---- the stored ones hold what the first k handed-in ones hold
-module _ (img : List ℕ) (t : Opened) (size : ℕ) (sectors : List ℕ) where
-  abbrev pub Same : ℕ → List (List ℕ) → Type 0
-  Same k st = (d : List ℕ) → onDisc img t d ≡ none → Among st d ↔ Among (pieces k size sectors) d
-
-  pub same-starts : Same 0 []
-  unfolding pieces
-  same-starts d n = (λ h. h, λ h. h)
-
-  step-among : (block : ℕ) (st : List (List ℕ)) (x d : List ℕ) → onDisc img t d ≡ none → Among (storeOne img t block st x .stored) d ↔ (Among st d ⊎ (x ≡ d))
+-- ---- one more sector: it is among the stored ones then
+module _ (img : List ℕ) (t : Opened) where
+  pub step-among : (block : ℕ) (st : List (List ℕ)) (x d : List ℕ) → onDisc img t d ≡ none → Among (storeOne img t block st x .stored) d ↔ (Among st d ⊎ (x ≡ d))
   unfolding storeOne stepFor
   step-among block st x d n = go (onDisc img t x) refl (amongStored st x) refl
     where
@@ -68,11 +61,20 @@ module _ (img : List ℕ) (t : Opened) (size : ℕ) (sectors : List ℕ) where
       go none e (some j) f = (inl, ⊎-elim (λ h. h) (λ q. subst (Among st) q (among-some st x j f)))
       go none e none f = among-more st x d
 
+-- ---- the stored ones hold what the first k handed-in ones hold
+module _ (img : List ℕ) (t : Opened) (size : ℕ) (sectors : List ℕ) where
+  abbrev pub Same : ℕ → List (List ℕ) → Type 0
+  Same k st = (d : List ℕ) → onDisc img t d ≡ none → Among st d ↔ Among (pieces k size sectors) d
+
+  pub same-starts : Same 0 []
+  unfolding pieces
+  same-starts d n = (λ h. h, λ h. h)
+
   pub same-more : (block k : ℕ) (st : List (List ℕ)) → Same k st → Same (k + 1) (storeOne img t block st (sectorOf size sectors k) .stored)
   same-more block k st s d n =
       let x = sectorOf size sectors k in
       let p = among-more (pieces k size sectors) x d in
-      let q = step-among block st x d n in
+      let q = step-among img t block st x d n in
       rw (add-one, pieces-more k size sectors) (
         (λ h. p .1 (⊎-map (s d n .0) (λ y. y) (q .0 h))),
         λ h. q .1 (⊎-map (s d n .1) (λ y. y) (p .0 h)),

@@ -1,0 +1,4 @@
+pub mod Handed
+pub mod Counting
+pub mod Entries
+pub mod Laid
