@@ -11,7 +11,7 @@ use Rattle.format.specs.declared.Verdict.the-variants.{Passes, Refuses}
 use Rattle.format.specs.Refusals.{refusal, _then_}
 use Rattle.format.specs.Layouts.{sectorSize, blockLength}
 use Rattle.format.specs.Opening.{Opened}
-use Rattle.format.specs.Reading.{tableEntryAt, notWritten, pointerAt, has, blockVerdict}
+use Rattle.format.specs.Reading.{tableEntryAt, pointerAt, has, blockVerdict}
 use Rattle.format.specs.Facts.{BlockOk}
 use Rattle.format.proofs.Tests.{not-iff, atLeast-iff, and-iff, choose-true, choose-false}
 use Rattle.format.proofs.Refusals.{row-iff, then-iff}
@@ -42,20 +42,20 @@ module _ (img : List ℕ) (b : ℕ) where
   damaged-passed k e = e ∙ ap (λ (v : Verdict). onlyAfter v (wrongSum img b)) (sym (block-ok img b .1 k))
 
 -- ---- an address
-module _ (img : List ℕ) (t : Opened) where
-  pub written : (left : List ℕ) (a : ℕ) → notWritten img t a ≡ false
-      → lookedVerdict img t left a ≡ (entryForm img t a then mark img left (pointerAt img t a .block .0))
+module _ (img : List ℕ) (t : Opened) (looks : ℕ → Bool) where
+  pub looked-at : (left : List ℕ) (a : ℕ) → looks a ≡ true
+      → lookedVerdict img t looks left a ≡ (entryForm img t a then mark img left (pointerAt img t a .block .0))
   unfolding lookedVerdict
-  written left a e = choose-false _ _ _ e
+  looked-at left a e = choose-true _ _ _ e
 
-  pub not-written : (left : List ℕ) (a : ℕ) → notWritten img t a ≡ true → lookedVerdict img t left a ≡ Passes
+  pub passed-over : (left : List ℕ) (a : ℕ) → looks a ≡ false → lookedVerdict img t looks left a ≡ Passes
   unfolding lookedVerdict
-  not-written left a e = choose-true _ _ _ e
+  passed-over left a e = choose-false _ _ _ e
 
   -- while all blocks are still to be looked at, the form alone
-  pub form-only : (a : ℕ) → notWritten img t a ≡ false → lookedVerdict img t (indexed img) a ≡ entryForm img t a
+  pub form-only : (a : ℕ) → looks a ≡ true → lookedVerdict img t looks (indexed img) a ≡ entryForm img t a
   unfolding _then_
-  form-only a e = written (indexed img) a e ∙ alone _ refl
+  form-only a e = looked-at (indexed img) a e ∙ alone _ refl
     where
       alone : (v : Verdict) → entryForm img t a ≡ v → (v then mark img (indexed img) (pointerAt img t a .block .0)) ≡ v
       alone Passes q = sym (on-last _ (and-iff not-iff Iff·rfl .1 (inl (entry-form-ok img t a q .0))))

@@ -1,6 +1,7 @@
 mod Outside
 pub mod Firsts
 mod Forms
+mod Scopes
 mod Looked
 mod Whole
 pub mod Disc

@@ -1,7 +1,7 @@
 -- Once all blocks are looked at, the first address that is refused is that of the definition; and the first with 21 too.
 use mathlib.Core.Bool.{Bool, true, false, not}
 use mathlib.Core.List.{List, []}
-use mathlib.Core.Logic.{_≢_, ⊎-elim, Iff·rfl}
+use mathlib.Core.Logic.{_≢_, inl, inr, ⊎-elim, Iff·rfl}
 use mathlib.Core.Path.{_≡_, refl, sym, ap, _∙_, subst}
 use Prim.Native.Nat.{ℕ, _≤_, _<_}
 use native.Mathlib.Omega.{arith}
@@ -16,14 +16,14 @@ use Rattle.format.specs.Layouts.{DBLK, indexOffset, entries}
 use Rattle.format.specs.Opening.{isUserData, Opened}
 use Rattle.format.specs.Reading.{tableEntryAt, notWritten, unknownStatus, pointerAt, has, blockVerdict, itemVerdict, pointerVerdict, sectorVerdict}
 use Rattle.format.specs.Committing.{otherThan21, sectorsVerdict}
-use Rattle.format.proofs.Tests.{on-or-off, never, off-rest, choose-true, choose-false}
+use Rattle.format.proofs.Tests.{on-or-off, never, off-rest, not-iff, and-iff, and-true, choose-true, choose-false}
 use Rattle.format.proofs.Refusals.{row-iff, then-rest, then-assoc}
 use Rattle.format.proofs.Checks.{keeps-others, sector-ok, sector-21, gives-21, address-ok}
 use Rattle.index.proofs.Entries.{offsets-done}
 use Rattle.checking.specs.declared.First.{First}
-use Rattle.checking.specs.Checked.{indexed, formVerdict, entryForm, onlyAfter, damaged, mark, lookedVerdict, FirstLeft, FirstFrom, FirstRefused, FirstOfAll}
+use Rattle.checking.specs.Checked.{indexed, formVerdict, entryForm, onlyAfter, damaged, mark, lookedVerdict, FirstLeft, FirstFrom, FirstWithin, FirstRefused, FirstOfAll}
 use Rattle.checking.proofs.Firsts.{first-at, first-same, first-refusal}
-use Rattle.checking.proofs.Forms.{written, not-written}
+use Rattle.checking.proofs.Forms.{looked-at, passed-over}
 
 only-after : (v w : Verdict) (d : Bool) (r : Refusal) → (v then (w then row (true and onlyAfter v d) r)) ≡ (v then (w then row d r))
 unfolding _then_ _and_ onlyAfter
@@ -37,18 +37,32 @@ module _ (img : List ℕ) (t : Opened) where
       then-assoc _ _ _
       ∙ ap (λ (v : Verdict). row (not (has (q .block .0) (indexed img))) (refusal 22 at) then v) (then-assoc _ _ _ ∙ only-after (blockVerdict img (q .block .0)) _ _ _)
 
-  address-whole : (a : ℕ) → a < t .count → lookedVerdict img t [] a ≡ otherThan21 (sectorVerdict img (entries img (indexOffset img)) t a)
-  unfolding otherThan21 same choose entryForm sectorVerdict
-  address-whole a l =
-      ⊎-elim (λ e. not-written img t [] a e ∙ sym (ap otherThan21 (sector-21 img _ t a e)))
-      (λ e. written img t [] a e
-      ∙ then-assoc _ _ _ ∙ ap (λ (v : Verdict). row (unknownStatus img t a) (refusal 73 0) then v) (pointer-whole (tableEntryAt t a) (pointerAt img t a))
-      ∙ sym (keeps-others _ (λ g. never (gives-21 img (entries img (indexOffset img)) t a .0 g) e) ∙ then-rest _ _ (row-iff (refusal 21 0) Iff·rfl .1 e)))
-      (on-or-off (notWritten img t a))
+  -- what is looked at is written, and is in some scope
+  module _ (looks within : ℕ → Bool) (both : (a : ℕ) → looks a ≡ (not (notWritten img t a) and within a)) where
+    abbrev wanted : ℕ → Verdict
+    wanted a = otherThan21 (sectorVerdict img (entries img (indexOffset img)) t a)
 
-  pub all-looked-at : (left p : ℕ) {first : First} → left ≤ 0 → FirstFrom img t left p first → FirstRefused img t first
-  all-looked-at left p {first} h f =
-      first-same _ _ _ address-whole (subst (λ (l : List ℕ). FirstLeft img t l first) (offsets-done (isUserData DBLK) img left p h) f)
+    in-scope : (a : ℕ) → within a ≡ true → lookedVerdict img t looks [] a ≡ wanted a
+    unfolding otherThan21 same choose entryForm sectorVerdict
+    in-scope a k =
+        ⊎-elim (λ e. passed-over img t looks [] a (both a ∙ and-iff not-iff Iff·rfl .1 (inl e)) ∙ sym (ap otherThan21 (sector-21 img _ t a e)))
+        (λ e. looked-at img t looks [] a (both a ∙ and-true _ _ (ap not e) k)
+        ∙ then-assoc _ _ _ ∙ ap (λ (v : Verdict). row (unknownStatus img t a) (refusal 73 0) then v) (pointer-whole (tableEntryAt t a) (pointerAt img t a))
+        ∙ sym (keeps-others _ (λ g. never (gives-21 img (entries img (indexOffset img)) t a .0 g) e) ∙ then-rest _ _ (row-iff (refusal 21 0) Iff·rfl .1 e)))
+        (on-or-off (notWritten img t a))
+
+    address-whole : (a : ℕ) → a < t .count → lookedVerdict img t looks [] a ≡ choose (within a) (wanted a) Passes
+    address-whole a l =
+        ⊎-elim (λ k. in-scope a k ∙ sym (choose-true _ _ _ k))
+        (λ k. passed-over img t looks [] a (both a ∙ and-iff Iff·rfl Iff·rfl .1 (inr k)) ∙ sym (choose-false _ _ _ k)) (on-or-off (within a))
+
+    pub all-looked-at : (left p : ℕ) {first : First} → left ≤ 0 → FirstFrom img t looks left p first → FirstWithin img t within first
+    all-looked-at left p {first} h f =
+        first-same _ _ _ address-whole (subst (λ (l : List ℕ). FirstLeft img t looks l first) (offsets-done (isUserData DBLK) img left p h) f)
+
+  -- where the scope is all
+  pub all-within : (within : ℕ → Bool) {first : First} → ((a : ℕ) → within a ≡ true) → FirstWithin img t within first → FirstRefused img t first
+  all-within within k = first-same _ _ _ (λ a l. choose-true _ _ _ (k a))
 
   pub first-verdict : {first : First} → FirstRefused img t first → first .verdict ≡ sectorsVerdict img (entries img (indexOffset img)) t
   unfolding sectorsVerdict

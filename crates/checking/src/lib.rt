@@ -1,21 +1,23 @@
 // Internal: the checks of all sectors of an opened disc by rising address. A commit makes 74 of its table (11/13) and 20 of its addresses before them, and
-// leaves out 21, as an export does (9/13); one by 4/13's rule gives 21 too.
+// leaves out 21, as an export does (9/13); one by 4/13's rule gives 21 too. Also the checks of those sectors of a parent that a child leaves to it (8/13).
 //
 // Cost, with E table entries and I index entries: each data block that the index names is summed once at most, however often it is named. To
 // look blocks up takes at most E times I comparisons of numbers, and E plus I for each run of neighbours where neighbouring entries share
-// a block; to see that an entry's block is named again, at most half of I times I; each damaged block, at most E.
-ghost use mathlib.Core.Bool.{true, false};
+// a block; to see that an entry's block is named again, at most half of I times I; each damaged block, at most E. To see whether a child leaves a
+// written entry to its parent, one of the child's table entries is read each time that the parent's is.
+ghost use mathlib.Core.Bool.{true, false, not};
 ghost use mathlib.Core.List.{List, _∷_};
 ghost use mathlib.Core.Path.{_≡_};
-ghost use Prim.Native.Nat.{ℕ, _+_, _-_, _*_, _≤_, _<_};
+ghost use Prim.Native.Nat.{ℕ, _+_, _-_, _*_, _^_, _≤_, _<_};
 ghost use lib.ListN.{length};
+ghost use Rattle.format.specs.Tests.{_and_};
 ghost use Rattle.format.specs.Refusals.{accepted, firstRefusal};
 ghost use Rattle.format.specs.Layouts.{indexOffset, entryLength, entries};
 ghost use Rattle.format.specs.Opening.{opening};
-ghost use Rattle.format.specs.Reading.{tableEntry, has, pointerAt, sectorVerdict};
+ghost use Rattle.format.specs.Reading.{tableEntry, unwritten, has, pointerAt, sectorVerdict};
 ghost use Rattle.format.specs.Committing.{anyOutside, sectorsVerdict, discVerdict};
 ghost use Rattle.opening.specs.Answers.{contents, held};
-ghost use Rattle.checking.specs.Checked.{indexed, formVerdict, entryForm, Formed, damaged, FirstLeft, FirstFrom, FirstRefused, FirstOfAll};
+ghost use Rattle.checking.specs.Checked.{leaves, inScope, Lent, lookedAt, indexed, formVerdict, entryForm, Formed, damaged, FirstLeft, FirstFrom, FirstWithin, FirstRefused, FirstOfAll};
 use fields::get;
 use fields::part;
 use format::ByteOffset;
@@ -26,12 +28,25 @@ use format::Refusal;
 use format::SectorAddress;
 use format::Verdict;
 use opening::Image;
+use opening::Numbered;
 use opening::Opened;
 
 // The first table entry that is refused, and how; their number where none is.
-struct First {
-    number: EntryNumber,
-    verdict: Verdict,
+pub struct First {
+    pub number: EntryNumber,
+    pub verdict: Verdict,
+}
+
+// Which table entries are looked at: all, or those of a parent whose addresses a child has not written.
+enum Scope {
+    All,
+    Gaps(Child),
+}
+
+// What opening found of the child, and the first of its table entries that doesn't count.
+struct Child {
+    opened: Opened,
+    limit: EntryNumber,
 }
 
 // Whether an address of the list has no table entry.
@@ -47,6 +62,48 @@ fn any_outside(t: Opened, addresses: &[i64]) -> bool
         k += 1;
     }
     false
+}
+
+// Whether the child leaves table entry n of the parent that opened as t to it: its address has a table entry of the child below the limit, and that
+// one is not written.
+fn is_left(child: &[u8], c: Child, t: Opened, n: EntryNumber) -> bool
+    requires { ⌜ (opening (now child) ≡ accepted (contents (c .opened))) × (n .0 < 2 ^ 63) ⌝ }
+    ensures { λ r. ⌜ r ≡ leaves (now (child .entry)) (contents (c .opened)) (c .limit .0) (contents t) (n .0) ⌝ }
+{
+    let u = c.opened;
+    let numbered = opening::entry_number(u, opening::address(t, n));
+    match numbered {
+        Numbered::Outside => false,
+        Numbered::At(m) => {
+            let limit = c.limit;
+            if m.0 < limit.0 {
+                return opening::is_unwritten(u, opening::table_entry(child, u, m));
+            }
+            false
+        }
+    }
+}
+
+// Whether table entry n of the disc that opened as t is in the scope.
+fn is_in_scope(child: &[u8], scope: Scope, t: Opened, n: EntryNumber) -> bool
+    requires { ⌜ Lent (now child) scope × (n .0 < 2 ^ 63) ⌝ }
+    ensures { λ r. ⌜ r ≡ inScope (now (child .entry)) scope (contents t) (n .0) ⌝ }
+{
+    match scope {
+        Scope::All => true,
+        Scope::Gaps(c) => is_left(child, c, t, n),
+    }
+}
+
+// Whether table entry n, whose number is e, is looked at: it is written and in the scope.
+fn is_looked_at(child: &[u8], scope: Scope, t: Opened, n: EntryNumber, e: u64) -> bool
+    requires { ⌜ Lent (now child) scope × (n .0 < 2 ^ 63) ⌝ }
+    ensures { λ r. ⌜ r ≡ (not (unwritten (contents t .kind) e) and inScope (now (child .entry)) scope (contents t) (n .0)) ⌝ }
+{
+    if opening::is_unwritten(t, e) {
+        return false;
+    }
+    is_in_scope(child, scope, t, n)
 }
 
 // What p, whose table entry stands at `place`, points to, but for the block's checksums: checks 22 to 26. Of the block that is known only
@@ -81,10 +138,10 @@ fn entry_form(s: &[u8], t: Opened, n: EntryNumber, e: u64, p: Pointer, known: By
     form_verdict(s, t, opening::entry_place(t, n), p, known)
 }
 
-// The first table entry that is refused other than with 21, by all checks but that of the checksums.
-fn first_form(s: &[u8], t: Opened) -> First
-    requires { ⌜ opening (now s) ≡ accepted (contents t) ⌝ }
-    ensures { λ r. ⌜ FirstLeft (now (s .entry)) (contents t) (indexed (now (s .entry))) r ⌝ }
+// The first table entry of the scope that is refused other than with 21, by all checks but that of the checksums.
+fn first_form(s: &[u8], t: Opened, child: &[u8], scope: Scope) -> First
+    requires { ⌜ (opening (now s) ≡ accepted (contents t)) × Lent (now child) scope ⌝ }
+    ensures { λ r. ⌜ FirstLeft (now (s .entry)) (contents t) (lookedAt (now (s .entry)) (contents t) (now (child .entry)) scope) (indexed (now (s .entry))) r ⌝ }
 {
     let count = opening::count(t);
     let mut known = ByteOffset(0);
@@ -94,7 +151,7 @@ fn first_form(s: &[u8], t: Opened) -> First
         let here = EntryNumber(a);
         a += 1;
         let e = opening::table_entry(s, t, here);
-        if !opening::is_unwritten(t, e) {
+        if is_looked_at(child, scope, t, here, e) {
             let p = opening::entry_decoded(t, e);
             let v = entry_form(s, t, here, e, p, known);
             if let Verdict::Refuses(r) = v {
@@ -128,10 +185,10 @@ fn is_damaged(s: &[u8], b: ByteOffset) -> bool
     )
 }
 
-// The first table entry below `first` that points into the damaged block at b, with 27; `first` where there is none.
-fn first_into(s: &[u8], t: Opened, b: ByteOffset, first: First) -> First
-    requires { ⌜ (opening (now s) ≡ accepted (contents t)) × (first .number .0 ≤ contents t .count) × (damaged (now s) (b .0) ≡ true) ⌝ }
-    ensures { λ r. ⌜ ((left : List ℕ) → has (b .0) left ≡ false → FirstLeft (now (s .entry)) (contents t) (b .0 ∷ left) first → FirstLeft (now (s .entry)) (contents t) left r) ⌝ }
+// The first table entry of the scope below `first` that points into the damaged block at b, with 27; `first` where there is none.
+fn first_into(s: &[u8], t: Opened, child: &[u8], scope: Scope, b: ByteOffset, first: First) -> First
+    requires { ⌜ (opening (now s) ≡ accepted (contents t)) × Lent (now child) scope × (first .number .0 ≤ contents t .count) × (damaged (now s) (b .0) ≡ true) ⌝ }
+    ensures { λ r. ⌜ ((left : List ℕ) → has (b .0) left ≡ false → FirstLeft (now (s .entry)) (contents t) (lookedAt (now (s .entry)) (contents t) (now (child .entry)) scope) (b .0 ∷ left) first → FirstLeft (now (s .entry)) (contents t) (lookedAt (now (s .entry)) (contents t) (now (child .entry)) scope) left r) ⌝ }
 {
     let limit = first.number;
     let mut a: u64 = 0;
@@ -140,7 +197,7 @@ fn first_into(s: &[u8], t: Opened, b: ByteOffset, first: First) -> First
         let here = EntryNumber(a);
         a += 1;
         let e = opening::table_entry(s, t, here);
-        if !opening::is_unwritten(t, e) {
+        if is_looked_at(child, scope, t, here, e) {
             let p = opening::entry_decoded(t, e);
             let block = p.block;
             if block.0 == b.0 {
@@ -159,9 +216,17 @@ fn first_into(s: &[u8], t: Opened, b: ByteOffset, first: First) -> First
 
 // The first table entry once the block of the index entry at p, the first of `left`, is looked at. An entry whose block a later one names
 // again is passed over, so that no block is summed twice.
-fn with_block(s: &[u8], t: Opened, p: ByteOffset, left: u64, first: First) -> First
-    requires { ⌜ (opening (now s) ≡ accepted (contents t)) × (0 < left) × (p .0 + entryLength * left ≤ length (now s)) × FirstFrom (now s) (contents t) left (p .0) first ⌝ }
-    ensures { λ r. ⌜ FirstFrom (now (s .entry)) (contents t) (left - 1) (p .0 + entryLength) r ⌝ }
+fn with_block(
+    s: &[u8],
+    t: Opened,
+    child: &[u8],
+    scope: Scope,
+    p: ByteOffset,
+    left: u64,
+    first: First,
+) -> First
+    requires { ⌜ (opening (now s) ≡ accepted (contents t)) × Lent (now child) scope × (0 < left) × (p .0 + entryLength * left ≤ length (now s)) × FirstFrom (now s) (contents t) (lookedAt (now s) (contents t) (now child) scope) left (p .0) first ⌝ }
+    ensures { λ r. ⌜ FirstFrom (now (s .entry)) (contents t) (lookedAt (now (s .entry)) (contents t) (now (child .entry)) scope) (left - 1) (p .0 + entryLength) r ⌝ }
 {
     let e = index::entry(s, p);
     if !index::is_user_data(e, b"DBLK") {
@@ -172,30 +237,46 @@ fn with_block(s: &[u8], t: Opened, p: ByteOffset, left: u64, first: First) -> Fi
         return first;
     }
     if is_damaged(s, b) {
-        return first_into(s, t, b, first);
+        return first_into(s, t, child, scope, b, first);
     }
     first
 }
 
-// All sectors by rising address, that is, by the numbers of their table entries: the first that is refused other than with 21.
-fn first_refused(s: &[u8], t: Opened) -> First
-    requires { ⌜ opening (now s) ≡ accepted (contents t) ⌝ }
-    ensures { λ r. ⌜ FirstRefused (now (s .entry)) (contents t) r ⌝ }
+// All sectors of the scope by rising address, that is, by the numbers of their table entries: the first that is refused other than with 21.
+fn first_within(s: &[u8], t: Opened, child: &[u8], scope: Scope) -> First
+    requires { ⌜ (opening (now s) ≡ accepted (contents t)) × Lent (now child) scope ⌝ }
+    ensures { λ r. ⌜ FirstWithin (now (s .entry)) (contents t) (inScope (now (child .entry)) scope (contents t)) r ⌝ }
 {
-    let mut first = first_form(s, t);
+    let mut first = first_form(s, t, child, scope);
     let index = get(s, INDEX_OFFSET, 8);
     let mut left = get(s, index + 4, 8);
     let mut p = index + 20;
     // an iteration for each index entry
     while 0 < left {
-        first = with_block(s, t, ByteOffset(p), left, first);
+        first = with_block(s, t, child, scope, ByteOffset(p), left, first);
         p += 16;
         left -= 1;
     }
     first
 }
 
-// Its refusal.
+// The first of all sectors that is refused other than with 21.
+pub fn first_refused(s: &[u8], t: Opened) -> First
+    requires { ⌜ opening (now s) ≡ accepted (contents t) ⌝ }
+    ensures { λ r. ⌜ FirstRefused (now (s .entry)) (contents t) r ⌝ }
+{
+    first_within(s, t, s, Scope::All)
+}
+
+// The first of the sectors that a child, which opened as u, leaves to this parent by its table entries below the limit.
+pub fn first_left(s: &[u8], t: Opened, child: &[u8], u: Opened, limit: EntryNumber) -> First
+    requires { ⌜ (opening (now s) ≡ accepted (contents t)) × (opening (now child) ≡ accepted (contents u)) ⌝ }
+    ensures { λ r. ⌜ FirstWithin (now (s .entry)) (contents t) (leaves (now (child .entry)) (contents u) (limit .0) (contents t)) r ⌝ }
+{
+    first_within(s, t, child, Scope::Gaps(Child { opened: u, limit }))
+}
+
+// The refusal of the first of all.
 pub fn sectors_verdict(s: &[u8], t: Opened) -> Verdict
     requires { ⌜ opening (now s) ≡ accepted (contents t) ⌝ }
     ensures { λ r. ⌜ r ≡ sectorsVerdict (now (s .entry)) (entries (now (s .entry)) (indexOffset (now (s .entry)))) (contents t) ⌝ }
@@ -205,7 +286,7 @@ pub fn sectors_verdict(s: &[u8], t: Opened) -> Verdict
 }
 
 // The first table entry that is refused, 21 too: one below `first`, the first that is refused other than with 21, that is not written, or `first`.
-fn first_unwritten(s: &[u8], t: Opened, first: First) -> First
+pub fn first_unwritten(s: &[u8], t: Opened, first: First) -> First
     requires { ⌜ (opening (now s) ≡ accepted (contents t)) × FirstRefused (now s) (contents t) first ⌝ }
     ensures { λ r. ⌜ FirstOfAll (now (s .entry)) (contents t) r ⌝ }
 {

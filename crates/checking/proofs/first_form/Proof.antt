@@ -2,57 +2,61 @@
 use native.Mathlib.Omega.{arith}
 use borrow.Author.Count.{below-more}
 use borrow.Author.Needs.{needs}
-use borrow.Author.Tests.{not-true, not-false}
 use denote.Ref.{now}
 use mathlib.Core.Logic.{inl, inr}
 use mathlib.Core.Path.{_≡_, refl, sym, _∙_}
 use Prim.Native.Nat.{ℕ, _-_, _≤_, _<_}
 use Rattle.format.specs.declared.Verdict.the-variants.{Passes}
-use Rattle.format.specs.Reading.{notWritten}
 use Rattle.format.proofs.Chains.{by}
 use Rattle.opening.specs.Answers.{contents}
-use Rattle.opening.proofs.Accepted.{decodes}
-use Rattle.opening.proofs.Entries.{written-is, pointer-is}
-use Rattle.checking.specs.Checked.{indexed, Formed, lookedVerdict}
+use Rattle.opening.proofs.Accepted.{few, decodes}
+use Rattle.opening.proofs.Entries.{pointer-is}
+use Rattle.checking.specs.Checked.{lookedAt, indexed, Formed, lookedVerdict}
 use Rattle.checking.proofs.Firsts.{first-at, first-none}
-use Rattle.checking.proofs.Forms.{entry-form-ok, form-only, not-written}
+use Rattle.checking.proofs.Forms.{entry-form-ok, passed-over, form-only}
+use Rattle.checking.proofs.Scopes.{looked-is}
 use Rattle.checking.proofs.first_form.Statement.{statement}
 use Rattle.checking.proofs.first_form.Tie as tie
 
 abbrev Inv-loop : tie.InvT-loop
-Inv-loop s t count known₀ a₀ known a =
-    (a ≤ contents t .count) × ((i : ℕ) → i < a → lookedVerdict s (contents t) (indexed s) i ≡ Passes) × Formed s (known .0)
+Inv-loop s t child scope count known₀ a₀ known a =
+    (a ≤ contents t .count) × ((i : ℕ) → i < a → lookedVerdict s (contents t) (lookedAt s (contents t) child scope) (indexed s) i ≡ Passes) × Formed s (known .0)
 
 abbrev μ-loop : tie.MeasureT-loop
-μ-loop s t count known₀ a₀ known a = contents t .count - a
+μ-loop s t child scope count known₀ a₀ known a = contents t .count - a
 
 loop-holds : tie.Need-loop-holds Inv-loop μ-loop
 loop-holds c = (omega arith, (λ i l. absurd (omega arith)), inl refl)
 
 table-entry-requires : tie.Need-table-entry-requires Inv-loop μ-loop
-table-entry-requires c κs = (c .before .before .before .before .pre, omega arith)
+table-entry-requires c κs = (c .before .before .before .before .before .pre .0, omega arith)
+
+is-looked-at-requires : tie.Need-is-looked-at-requires Inv-loop μ-loop
+is-looked-at-requires c κs =
+    let k = c .before .before .before .before .before .before .pre in
+    let f = few _ _ (k .0) in (k .1, omega arith)
 
 entry-decoded-requires : tie.Need-entry-decoded-requires Inv-loop μ-loop
-entry-decoded-requires c κs = decodes _ _ (c .before .before .before .before .before .before .before .pre)
+entry-decoded-requires c κs = decodes _ _ (c .before .before .before .before .before .before .before .before .pre .0)
 
 entry-form-requires : tie.Need-entry-form-requires Inv-loop μ-loop
 entry-form-requires c κs =
     let e = c .before .before .before .table-entry .ensures in
-    (c .before .before .before .before .before .before .before .before .pre, omega arith, e, pointer-is _ _ _ e (c .entry-decoded .ensures), c .before .before .before .before .before .loop .inv .2)
+    (c .before .before .before .before .before .before .before .before .before .pre .0, omega arith, e, pointer-is _ _ _ e (c .entry-decoded .ensures), c .before .before .before .before .before .loop .inv .2)
 
--- whether it is written
-gap : (c : tie.After-is-unwritten Inv-loop μ-loop)
+-- whether it is looked at
+looks : (c : tie.After-is-looked-at Inv-loop μ-loop)
     → let l = c .before .before .before in
-    let r = l .before .before .before .args in
-    c .is-unwritten .result ≡ notWritten (now (r .s)) (contents (r .t)) (l .loop .a)
-gap c = written-is _ _ _ (c .before .table-entry .ensures) (c .is-unwritten .ensures)
+    let r = l .before .before .before .before .args in
+    c .is-looked-at .result ≡ lookedAt (now (r .s)) (contents (r .t)) (now (r .child)) (r .scope) (l .loop .a)
+looks c = looked-is _ _ _ _ _ (c .before .table-entry .ensures) (c .is-looked-at .ensures)
 
--- a written address, by its form
+-- an address that is looked at, by its form
 form-is : (c : tie.After-entry-form Inv-loop μ-loop)
     → let l = c .before .before .before .before .before .before in
-    let r = l .before .before .before .args in
-    lookedVerdict (now (r .s)) (contents (r .t)) (indexed (now (r .s))) (l .loop .a) ≡ c .entry-form .result
-form-is c = let i = c .before .before in form-only _ _ _ (by (gap (i .before)) (not-true _ (i .if1 .taken))) ∙ sym (c .entry-form .ensures)
+    let r = l .before .before .before .before .args in
+    lookedVerdict (now (r .s)) (contents (r .t)) (lookedAt (now (r .s)) (contents (r .t)) (now (r .child)) (r .scope)) (indexed (now (r .s))) (l .loop .a) ≡ c .entry-form .result
+form-is c = let i = c .before .before in form-only _ _ _ _ (by (looks (i .before)) (i .if1 .taken)) ∙ sym (c .entry-form .ensures)
 
 returns : tie.Need-returns Inv-loop μ-loop
 returns c =
@@ -72,7 +76,7 @@ loop-again-2 : tie.Need-loop-again-2 Inv-loop μ-loop
 loop-again-2 c =
     let l = c .before .before .before .before in (
       omega arith,
-      below-more _ _ (l .loop .inv .1) (not-written _ _ _ _ (by (gap (c .before)) (not-false _ (c .if1 .left)))),
+      below-more _ _ (l .loop .inv .1) (passed-over _ _ _ _ _ (by (looks (c .before)) (c .if1 .left))),
       l .loop .inv .2,
     )
 
@@ -89,7 +93,7 @@ first-form-spec =
     loop-holds
     (λ c. omega arith)
     table-entry-requires
-    (λ c κs. search needs)
+    is-looked-at-requires
     entry-decoded-requires
     entry-form-requires
     (λ c. search needs)
