@@ -3,6 +3,6 @@ pub mod Firsts
 mod Forms
 mod Scopes
 mod Looked
-mod Whole
+pub mod Whole
 pub mod Disc
 mod Promises

@@ -70,7 +70,7 @@ module _ (img : List ℕ) (t : Opened) where
 
 -- ---- 21 too: the first entry below it that is not written, or itself
 -- a verdict that is not left out is itself
-kept : (v : Verdict) → otherThan21 v ≢ Passes → v ≡ otherThan21 v
+pub kept : (v : Verdict) → otherThan21 v ≢ Passes → v ≡ otherThan21 v
 unfolding otherThan21
 kept Passes h = absurd (h refl)
 kept (Refuses r) h = ⊎-elim (λ e. absurd (h (choose-true _ _ _ e))) (λ e. sym (choose-false _ _ _ e)) (on-or-off (same (r .number) 21))
