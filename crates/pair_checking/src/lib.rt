@@ -25,8 +25,8 @@ pub fn pair_verdict(child: &[u8], t: Opened, parent: &[u8], p: Opening) -> Verdi
             let gap = checking::first_unwritten(child, t, own);
             let here = gap.number;
             if here.0 < limit.0 {
-                let q = pairs::parent_refusal(r);
-                return Verdict::Refuses(q);
+                let unopened = pairs::parent_refusal(r);
+                return Verdict::Refuses(unopened);
             }
             own.verdict
         }
@@ -34,8 +34,8 @@ pub fn pair_verdict(child: &[u8], t: Opened, parent: &[u8], p: Opening) -> Verdi
             let other = checking::first_left(parent, u, child, t, limit);
             let v = other.verdict;
             if let Verdict::Refuses(r) = v {
-                let q = pairs::parent_refusal(r);
-                return Verdict::Refuses(q);
+                let lower = pairs::parent_refusal(r);
+                return Verdict::Refuses(lower);
             }
             own.verdict
         }
