@@ -83,8 +83,7 @@ module _ (u : Opened) where
 -- ---- what the child leaves to its parent, where the child's lowest address is 0
 module _ (t : Opened) (flat : t .negative ≡ 0) where
   pub number-flat : (n : ℕ) → n < t .count → Numbered t (pos n) n
-  unfolding displaced
-  number-flat n l = let e : n + t .negative ≡ n = omega (arith, flat) in record { is = ap pos e; inside = l }
+  number-flat n l = numbered-up t n n (omega (arith, flat)) l
 
   module _ (child : List ℕ) (limit : ℕ) (u : Opened) where
     pub left-on : (k : ℕ) → leaves child t limit u k ≡ true

@@ -13,17 +13,18 @@ use Rattle.format.specs.declared.TableKind.the-variants.{First as firstKind}
 use Rattle.format.specs.declared.Verdict.{Verdict}
 use Rattle.format.specs.declared.Verdict.the-variants.{Passes, Refuses}
 use Rattle.format.specs.Tests.{same}
-use Rattle.format.specs.Refusals.{refusal, firstRefusal, refused, accepted, answer}
+use Rattle.format.specs.Refusals.{refusal, firstRefusal, refused, accepted}
 use Rattle.format.specs.Layouts.{indexOffset, entries}
 use Rattle.format.specs.Opening.{Opened, opening}
 use Rattle.format.specs.Reading.{outside, entryNumber, notWritten, sectorVerdict}
 use Rattle.format.specs.Committing.{otherThan21}
 use Rattle.format.specs.Overlaying.{parentRefusal}
-use Rattle.format.specs.Flattening.{pairAt, verdictOf, pairVerdict}
+use Rattle.format.specs.Flattening.{pairVerdict}
 use Rattle.format.proofs.Tests.{on-or-off, never, same-iff, same-on, same-true, choose-true, choose-false}
-use Rattle.format.proofs.Refusals.{not-passes}
-use Rattle.format.proofs.Checks.{sector-ok, sector-21, address-ok, first-flat}
-use Rattle.format.proofs.Overlaying.{parent-20, parent-21, parent-other, parentVerdict, overVerdict, over-verdict-other, over-verdict-21, readBy, read-over}
+use Rattle.format.proofs.Refusals.{not-passes, Gives}
+use Rattle.format.proofs.Checks.{keeps-others, sector-ok, sector-21, address-ok, first-flat}
+use Rattle.format.proofs.Overlaying.{parent-20, parent-21, parent-other, parentVerdict, overVerdict, over-verdict-other, over-verdict-21, readBy, bothBy}
+use Rattle.format.proofs.Flattening.{pair-verdict}
 use Rattle.opening.proofs.Accepted.{opened-is}
 use Rattle.checking.specs.declared.First.{First}
 use Rattle.checking.specs.Checked.{addressOf, leaves, IsFirst, FirstOfAll, FirstRefused, FirstWithin}
@@ -31,19 +32,10 @@ use Rattle.checking.proofs.Firsts.{first-at, first-refusal}
 use Rattle.checking.proofs.Whole.{kept}
 use Rattle.pair_checking.proofs.Images.{read-entry, read-outside, read-unopened, Added, opening-added, sector-added, inside-up, number-flat, numbered-up, left-on, left-true}
 
-verdict-answer : {A : Type 0} (v : Verdict) (x : A) → verdictOf (answer v x) ≡ v
-unfolding verdictOf answer
-verdict-answer Passes x = refl
-verdict-answer (Refuses r) x = refl
-
 -- ---- a verdict but for 21
 as-passed : (r : Refusal) → r .number ≡ 21 → otherThan21 (Refuses r) ≡ Passes
 unfolding otherThan21
 as-passed r e = choose-true _ _ _ (same-true _ _ e)
-
-as-refused : (r : Refusal) → r .number ≢ 21 → otherThan21 (Refuses r) ≡ Refuses r
-unfolding otherThan21
-as-refused r d = choose-false _ _ _ (same-iff .1 d)
 
 -- what it still refuses with
 refused-by : (v : Verdict) (r : Refusal) → otherThan21 v ≡ Refuses r → (v ≡ Refuses r) × (r .number ≢ 21)
@@ -58,17 +50,17 @@ over-kept (Refuses r) w h = ap otherThan21 (over-verdict-other r w (λ n. h (as-
 
 -- ---- by the parent's
 parent-kept : (r : Refusal) → Added r → otherThan21 (parentVerdict (Refuses r)) ≡ Refuses (parentRefusal r)
-unfolding parentVerdict
+unfolding parentVerdict Gives
 parent-kept r a =
     let e : parentRefusal r .number ≡ 100 + r .number = ap (λ (q : Refusal). q .number) (parent-other r (a .0) (a .1)) in
-    as-refused (parentRefusal r) (λ z. omega (arith, e, z))
+    keeps-others (Refuses (parentRefusal r)) (λ z. omega (arith, e, z))
 
 parent-passed : (w : Verdict) → otherThan21 w ≡ Passes → otherThan21 (parentVerdict w) ≡ Passes
-unfolding parentVerdict
+unfolding parentVerdict Gives
 parent-passed Passes h = h
 parent-passed (Refuses r) h =
     ⊎-elim (λ n. ap (λ (q : Refusal). otherThan21 (Refuses q)) (parent-21 r (same-on _ _ n)) ∙ as-passed (refusal 21 0) refl)
-    (λ n. absurd (not-passes (sym (as-refused r (same-iff .0 n)) ∙ h))) (on-or-off (same (r .number) 21))
+    (λ n. absurd (not-passes (sym (keeps-others (Refuses r) (same-iff .0 n)) ∙ h))) (on-or-off (same (r .number) 21))
 
 outside-passed : otherThan21 (parentVerdict (Refuses (refusal 20 0))) ≡ Passes
 unfolding parentVerdict
@@ -84,17 +76,14 @@ module _ (child parent : List ℕ) (t : Opened) (e : opening child ≡ accepted 
 
   -- the pair's sector n, and the parent's where the child has not written
   abbrev sector : ℕ → Verdict
-  sector n = otherThan21 (verdictOf (pairAt child parent n))
+  sector n = otherThan21 (bothBy child parent (pos n))
 
   abbrev under : ℕ → Verdict
   under n = otherThan21 (parentVerdict (readBy parent (pos n)))
 
   sector-is : (n : ℕ) → n < t .count → sector n ≡ otherThan21 (overVerdict (sectorVerdict child es t n) (readBy parent (pos n)))
-  unfolding pairAt
   sector-is n l =
-      ap otherThan21
-      (ap verdictOf (read-over child parent (pos n)) ∙ verdict-answer _ _
-      ∙ ap (λ (v : Verdict). overVerdict v (readBy parent (pos n))) (read-entry child t e (pos n) n (number-flat t flat n l)))
+      ap (λ (v : Verdict). otherThan21 (overVerdict v (readBy parent (pos n)))) (read-entry child t e (pos n) n (number-flat t flat n l))
 
   sector-left : (n : ℕ) → n < t .count → notWritten child t n ≡ true → sector n ≡ under n
   sector-left n l g =
@@ -103,9 +92,10 @@ module _ (child parent : List ℕ) (t : Opened) (e : opening child ≡ accepted 
       (ap (λ (v : Verdict). overVerdict v (readBy parent (pos n))) (sector-21 child es t n g) ∙ over-verdict-21 (refusal 21 0) (readBy parent (pos n)) refl)
 
   pair-first : {first : First} → IsFirst sector (t .count) first → first .verdict ≡ pairVerdict child parent
-  unfolding pairVerdict
   pair-first {first} k =
-      sym (ap (λ (n : ℕ). firstRefusal sector n 0) (ap (λ (u : Opened). u .count) (opened-is child t e)) ∙ first-refusal sector (t .count) first k)
+      sym
+      (pair-verdict child parent ∙ ap (λ (u : Opened). firstRefusal sector (u .count) 0) (opened-is child t e)
+      ∙ first-refusal sector (t .count) first k)
 
   -- the child's first
   module _ {own : First} (p : FirstRefused child t own) where
