@@ -16,8 +16,8 @@
  *   - every other pointer points to a number of its own;
  *   - pointers to numbers, and `addresses`, are aligned as their type asks;
  *   - what a call may write, the buffer, an export's `out` and the numbers behind its last pointers, overlaps nothing
- *     else that it is handed, and nobody else reads or writes it during the call. What it only reads may overlap, but
- *     nobody may write it during the call.
+ *     else that it is handed, and nobody else reads or writes it during the call. What it only reads may overlap, as a
+ *     child that is its own parent, but nobody may write it during the call.
  * The library has no heap and no state of its own; calls on different buffers may run at the same time. Compiled for
  * x86-64, no call takes more than 20 KiB of stack.
  *
@@ -63,8 +63,13 @@
  *
  * The other checks, 30 to 35, 41 and 42, are of what the caller hands in, not of the image: their place is 0. That of
  * 40 is 0 too, and so is that of
- *   74  the image's table, for aaru_rollback the one that the index at its offset names, is a 'DDT2': only 'DDT*' is
- *       written
+ *   74  the image's table, for aaru_rollback the one that the index at its offset names and for aaru_flatten the
+ *       child's, is a 'DDT2': only 'DDT*' is written
+ *
+ * A disc of changes, the child, may lie over a parent, an image whose sectors stand where the child's are not written.
+ * The caller lends both; each may have either kind of table. What refuses the parent has 100 added to its number: 101
+ * to 114 and 170 to 172 are its opening's, 122 to 127 and 173 its sector's. Their place is the same as without the 100,
+ * and is one in the parent.
  *
  * A flat file is the sectors of a disc by rising address, all of one size, one after another and nothing else.
  */
@@ -92,6 +97,20 @@ uint32_t aaru_sector_count(const uint8_t *image, size_t used, uint64_t *sectors,
  */
 uint32_t aaru_locate(const uint8_t *image, size_t used, int64_t address, uint64_t *start, uint64_t *size,
                      uint64_t *place);
+
+/*
+ * Where the sector at an address of a child over its parent lies: it is the `*size` bytes from `*start` on of the child
+ * if `*which` is 0, and of the parent if it is 1, which lie inside that image. The answer is aaru_locate's of the child
+ * unless that is 21. Only then is the parent looked at, at the same address. Child and parent may be the same bytes, or
+ * overlap.
+ * Refused with, in this order:
+ *    1 to 14, 70 to 72, 20, 22 to 27 and 73, as above, of the child
+ *  101 to 114, 170 to 172, 122 to 127 and 173, as above, of the parent
+ *   21  the sector is not written on the child, and on the parent it is not written either or the address is none of
+ *       its own
+ */
+uint32_t aaru_locate_over(const uint8_t *child, size_t child_used, const uint8_t *parent, size_t parent_used,
+                          int64_t address, uint64_t *which, uint64_t *start, uint64_t *size, uint64_t *place);
 
 /*
  * Makes a new image at the start of the buffer, of `sectors` sectors that are not written: 189 + 8 x sectors bytes.
@@ -191,6 +210,29 @@ uint32_t aaru_import(uint8_t *buffer, size_t length, const uint8_t *flat, size_t
                      const uint8_t *application, size_t application_length, uint8_t major, uint8_t minor,
                      uint32_t media_type, uint64_t created, uint64_t written, uint64_t *used, uint64_t *index,
                      uint64_t *place);
+
+/*
+ * Makes one new image of a child over its parent at the start of the buffer, which reads at every address as the two
+ * do. What it leaves and answers is what aaru_create would, with as many sectors as the child has and the same name,
+ * version, media type and times, and then one aaru_commit, at the time `written`, of all sectors that aaru_locate_over
+ * finds: so equal sectors are stored once, and `*used` and `*index` are the commit's. Where it finds none they are the
+ * creation's, and nothing is committed. Later bytes of the buffer stay as they are. Child and parent may be the same
+ * bytes, or overlap, but the buffer overlaps neither.
+ * Refused with, in this order:
+ *   31  the buffer is longer than 4,294,967,296 bytes
+ *   33  `application_length` is not 64
+ *    1 to 14 and 70 to 72, as above, of the child
+ *   74  as above, of the child
+ *   22 to 27, 101 to 114, 170 to 172, 122 to 127 and 173, as for aaru_locate_over: every address of the child is looked
+ *      at, by rising address, and the first that is refused other than with 21 gives its number and place
+ *   40  the sectors that it finds differ in size
+ *   30  the child has no sectors or over 1,048,576, or those that it finds are over 65,536 or longer than 65,536 bytes
+ *   35  the image would not fit into the buffer
+ */
+uint32_t aaru_flatten(uint8_t *buffer, size_t length, const uint8_t *child, size_t child_used, const uint8_t *parent,
+                      size_t parent_used, const uint8_t *application, size_t application_length, uint8_t major,
+                      uint8_t minor, uint32_t media_type, uint64_t created, uint64_t written, uint64_t *used,
+                      uint64_t *index, uint64_t *place);
 
 #ifdef __cplusplus
 }

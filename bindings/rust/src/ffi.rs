@@ -15,6 +15,17 @@ extern "C" {
         size: *mut u64,
         place: *mut u64,
     ) -> u32;
+    pub fn aaru_locate_over(
+        child: *const u8,
+        child_used: usize,
+        parent: *const u8,
+        parent_used: usize,
+        address: i64,
+        which: *mut u64,
+        start: *mut u64,
+        size: *mut u64,
+        place: *mut u64,
+    ) -> u32;
     pub fn aaru_create(
         buffer: *mut u8,
         length: usize,
@@ -77,6 +88,24 @@ extern "C" {
         flat: *const u8,
         flat_length: usize,
         sector_size: u64,
+        application: *const u8,
+        application_length: usize,
+        major: u8,
+        minor: u8,
+        media_type: u32,
+        created: u64,
+        written: u64,
+        used: *mut u64,
+        index: *mut u64,
+        place: *mut u64,
+    ) -> u32;
+    pub fn aaru_flatten(
+        buffer: *mut u8,
+        length: usize,
+        child: *const u8,
+        child_used: usize,
+        parent: *const u8,
+        parent_used: usize,
         application: *const u8,
         application_length: usize,
         major: u8,

@@ -26,6 +26,20 @@
 //! let made = aaru::import(&mut buffer, &about)?;
 //! assert_eq!(aaru::export_exact(&buffer[..made.used as usize], &mut out)?, 12);
 //! assert_eq!(out[..12], flat[..]);
+//!
+//! // a disc of changes over that one: only address 1 is written, the others come from the parent
+//! let parent = &buffer[..made.used as usize];
+//! let (mut changes, mut whole) = ([0; 1024], [0; 1024]);
+//! let about = aaru::Creation { sectors: 3, application, major, minor, media_type, created: 0, written: 3 };
+//! let made = aaru::create(&mut changes, &about)?;
+//! let made = aaru::commit(&mut changes, made.used, &[1], 4, b"CCCC", 4)?;
+//! let child = &changes[..made.used as usize];
+//! assert!(matches!(aaru::read_over(child, parent, 1)?, aaru::Layered::Child(s) if s.bytes == b"CCCC"));
+//! assert!(matches!(aaru::read_over(child, parent, 2)?, aaru::Layered::Parent(s) if s.bytes == b"AAAA"));
+//! let about = aaru::Flattening { child, parent, application, major, minor, media_type, created: 0, written: 5 };
+//! let made = aaru::flatten(&mut whole, &about)?; // one disc that reads so
+//! assert_eq!(aaru::export_exact(&whole[..made.used as usize], &mut out)?, 12);
+//! assert_eq!(out[..12], *b"AAAACCCCAAAA");
 //! # Ok::<(), aaru::Refusal>(())
 //! ```
 use std::{error, fmt};
@@ -36,7 +50,8 @@ pub mod ffi;
 #[derive(Clone, Copy, Debug, PartialEq, Eq)]
 pub struct Refusal {
     pub number: u32,
-    /// The byte offset, in the image, that `bindings/c/aaru.h` gives for the number.
+    /// The byte offset that `bindings/c/aaru.h` gives for the number: in the image, or in the parent for a number
+    /// above 100.
     pub place: u64,
 }
 
@@ -54,6 +69,22 @@ pub struct Sector<'a> {
     /// Where its first byte stands in the image.
     pub start: u64,
     pub bytes: &'a [u8],
+}
+
+/// A sector of a child over its parent: a part of the one image or of the other.
+#[derive(Clone, Copy, Debug, PartialEq, Eq)]
+pub enum Layered<'c, 'p> {
+    Child(Sector<'c>),
+    Parent(Sector<'p>),
+}
+
+impl<'a> Layered<'a, 'a> {
+    /// The sector, whichever image it is a part of.
+    pub fn sector(self) -> Sector<'a> {
+        match self {
+            Layered::Child(sector) | Layered::Parent(sector) => sector,
+        }
+    }
 }
 
 /// Where a call that writes left the image: how many bytes of the buffer it has, and where its index stands.
@@ -80,6 +111,19 @@ pub struct Creation<'a> {
 pub struct Import<'a> {
     pub flat: &'a [u8],
     pub sector_size: u64,
+    pub application: &'a [u8],
+    pub major: u8,
+    pub minor: u8,
+    pub media_type: u32,
+    pub created: u64,
+    pub written: u64,
+}
+
+/// What one image is made of a child over its parent with: both, and all else as for a `Creation`.
+#[derive(Clone, Copy, Debug)]
+pub struct Flattening<'a> {
+    pub child: &'a [u8],
+    pub parent: &'a [u8],
     pub application: &'a [u8],
     pub major: u8,
     pub minor: u8,
@@ -142,6 +186,43 @@ pub fn read(image: &[u8], address: i64) -> Result<Sector<'_>, Refusal> {
     Ok(Sector {
         start,
         bytes: &image[start as usize..][..size as usize],
+    })
+}
+
+/// The sector at an address of a child over its parent: the child's, or the parent's where the child's is not written.
+/// Refused with 1 to 14, 70 to 72, 20, 22 to 27, 73, then the parent's numbers, 101 to 114, 170 to 172, 122 to 127,
+/// 173, then 21.
+pub fn read_over<'c, 'p>(
+    child: &'c [u8],
+    parent: &'p [u8],
+    address: i64,
+) -> Result<Layered<'c, 'p>, Refusal> {
+    let (mut which, mut start, mut size, mut place) = (0, 0, 0, 0);
+    // SAFETY: both slices are valid for their lengths and only read, and the numbers are parts of neither.
+    let number = unsafe {
+        ffi::aaru_locate_over(
+            child.as_ptr(),
+            child.len(),
+            parent.as_ptr(),
+            parent.len(),
+            address,
+            &mut which,
+            &mut start,
+            &mut size,
+            &mut place,
+        )
+    };
+    answer(number, place, ())?;
+    let part = start as usize..(start + size) as usize;
+    Ok(match which {
+        0 => Layered::Child(Sector {
+            start,
+            bytes: &child[part],
+        }),
+        _ => Layered::Parent(Sector {
+            start,
+            bytes: &parent[part],
+        }),
     })
 }
 
@@ -281,6 +362,35 @@ pub fn import(buffer: &mut [u8], about: &Import) -> Result<Placed, Refusal> {
             about.flat.as_ptr(),
             about.flat.len(),
             about.sector_size,
+            about.application.as_ptr(),
+            about.application.len(),
+            about.major,
+            about.minor,
+            about.media_type,
+            about.created,
+            about.written,
+            &mut placed.used,
+            &mut placed.index,
+            &mut place,
+        )
+    };
+    answer(number, place, placed)
+}
+
+/// Makes one new image of a child over its parent at the start of the buffer, as creating and one commit at the time
+/// `written` of all sectors that `read_over` finds would, and creating alone if there are none. Refused with 31, 33,
+/// 1 to 14, 70 to 72, 74, 22 to 27, 101 to 114, 170 to 172, 122 to 127, 173, 40, 30, 35.
+pub fn flatten(buffer: &mut [u8], about: &Flattening) -> Result<Placed, Refusal> {
+    let (mut placed, mut place) = (Placed { used: 0, index: 0 }, 0);
+    // SAFETY: as for `create`; child and parent are only read.
+    let number = unsafe {
+        ffi::aaru_flatten(
+            buffer.as_mut_ptr(),
+            buffer.len(),
+            about.child.as_ptr(),
+            about.child.len(),
+            about.parent.as_ptr(),
+            about.parent.len(),
             about.application.as_ptr(),
             about.application.len(),
             about.major,
