@@ -72,7 +72,8 @@ pub fn import(random: &mut Random, count: usize, size: usize) -> Import {
     }
 }
 
-fn about(random: &mut Random) -> About {
+/// Creating's arguments but the number of sectors.
+pub fn about(random: &mut Random) -> About {
     About {
         application: random.bytes(APPLICATION),
         major: random.number() as u8,

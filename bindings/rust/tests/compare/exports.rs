@@ -155,7 +155,7 @@ fn whole(sides: &mut Sides, image: &[u8], random: &mut Random) {
     assert_eq!(again, sectors);
 }
 
-fn edited(image: &[u8], edits: &[Edit]) -> Vec<u8> {
+pub fn edited(image: &[u8], edits: &[Edit]) -> Vec<u8> {
     let mut edited = image.to_vec();
     edit_image(&mut edited, &Layout::of(image), edits);
     edited
@@ -177,7 +177,7 @@ fn one_changed(sides: &mut Sides, image: &[u8], random: &mut Random) {
 }
 
 /// An even image's sector becomes one of another size.
-fn other_size(image: &[u8], number: usize) -> Edit {
+pub fn other_size(image: &[u8], number: usize) -> Edit {
     let layout = Layout::of(image);
     let entry = spare_entry(image, &layout);
     Field(layout.table_entry(number), layout.kind.width(), entry)
@@ -198,7 +198,7 @@ fn sets_of(count: usize, random: &mut Random) -> Vec<usize> {
 }
 
 /// The image with these sectors not written: of the second kind not dumped, whatever the pointer is.
-fn without(image: &[u8], missing: &[usize], random: &mut Random) -> Vec<u8> {
+pub fn without(image: &[u8], missing: &[usize], random: &mut Random) -> Vec<u8> {
     let layout = Layout::of(image);
     let unwritten = |&number: &usize| {
         let entry = match layout.kind {

@@ -54,7 +54,7 @@ fn one_image(sides: &mut Sides, image: &[u8], random: &mut Random) {
 }
 
 /// Addresses that a damaged record concerns.
-fn concerned(image: &[u8], layout: &Layout, record: Record) -> Vec<i64> {
+pub fn concerned(image: &[u8], layout: &Layout, record: Record) -> Vec<i64> {
     match record {
         Record::Table => read_addresses(image, layout),
         Record::TableEntry(number) => vec![layout.address(number)],
@@ -64,7 +64,7 @@ fn concerned(image: &[u8], layout: &Layout, record: Record) -> Vec<i64> {
 }
 
 /// The telling values that a field is wide enough for, without the one that stands there.
-fn telling(image: &[u8], layout: &Layout, place: Place) -> Vec<u64> {
+pub fn telling(image: &[u8], layout: &Layout, place: Place) -> Vec<u64> {
     let old = get(image, place.at, place.width);
     let length = image.len() as u64;
     let mut values = vec![0, 1, 33, 103, 104, 255, (1 << 32) - 4, (1 << 32) - 1];
@@ -116,7 +116,7 @@ fn telling(image: &[u8], layout: &Layout, place: Place) -> Vec<u64> {
 }
 
 /// Fields that only together get past the checks that compare them.
-fn several_fields(image: &[u8], layout: &Layout) -> Vec<(Record, Fault)> {
+pub fn several_fields(image: &[u8], layout: &Layout) -> Vec<(Record, Fault)> {
     let (length, count) = (image.len() as u64, layout.count as u64);
     let kind = layout.kind;
     let fits = (image.len() - layout.table_entry(0)) as u64 / kind.width() as u64;

@@ -159,12 +159,17 @@ impl Description {
         random.shuffle(&mut sizes);
         let size = sizes[0];
         sizes.retain(|&other| other != size);
+        Description::even_of(kind, size, sizes[0], random)
+    }
+
+    /// One of these sizes, of which the second is that of the block that stands by.
+    pub fn even_of(kind: Kind, size: usize, other: usize, random: &mut Random) -> Description {
         let mut blocks: Vec<Block> = (0..1 + random.below(2))
             .map(|_| block_of(size, 1 + random.below(4), random))
             .collect();
         blocks.push(Block {
             spare: true,
-            ..block_of(sizes[0], 1 + random.below(4), random)
+            ..block_of(other, 1 + random.below(4), random)
         });
         for block in &mut blocks {
             block.data_type = 1;

@@ -1,10 +1,10 @@
 //! Document 01 in plain Rust, in the paper's order: layouts, checksum, opening, reading, creating,
-//! committing, rolling back; then the flat files of 4/13 and 9/13. Each refusal carries the place that
-//! request 1/13 gives it; the header is that of 2/13; tables are of both kinds of 11/13, and
-//! addresses are signed. All is written from the papers alone and shares no code with the library;
-//! it is there to compare the library with.
+//! committing, rolling back; then the flat files of 4/13 and 9/13, and the disc over its parent of
+//! 8/13. Each refusal carries the place that request 1/13 gives it; the header is that of 2/13; tables
+//! are of both kinds of 11/13, and addresses are signed. All is written from the papers alone and
+//! shares no code with the library; it is there to compare the library with.
 
-use aaru::{AddressRange, Creation, Flat, Import, Refusal};
+use aaru::{AddressRange, Creation, Flat, Flattening, Import, Refusal};
 use std::collections::BTreeMap;
 
 // Layouts.
@@ -391,9 +391,7 @@ fn open_second(header: &[u8]) -> Result<(u64, u64, u64), Refusal> {
 
 /// Reads a sector: the place of its first byte in the image, and its size.
 pub fn locate(image: &[u8], address: i64) -> Result<(u64, u64), Refusal> {
-    let disc = open_disc(image)?;
-    let entry_number = disc.table.entry_number(address)?;
-    read(&disc, entry_number, &mut BTreeMap::new())
+    read_at(&open_disc(image)?, address, &mut BTreeMap::new())
 }
 
 /// The same for many addresses of one image, which is opened once.
@@ -403,11 +401,19 @@ pub fn locate_each(image: &[u8], addresses: &[i64]) -> Vec<Result<(u64, u64), Re
         Err(refused) => return vec![Err(refused); addresses.len()],
     };
     let mut right = BTreeMap::new();
-    let mut locate = |&address: &i64| {
-        let entry_number = disc.table.entry_number(address)?;
-        read(&disc, entry_number, &mut right)
-    };
-    addresses.iter().map(&mut locate).collect()
+    let addresses = addresses.iter();
+    addresses
+        .map(|&address| read_at(&disc, address, &mut right))
+        .collect()
+}
+
+/// Reading's checks, by the address.
+fn read_at(
+    disc: &Disc,
+    address: i64,
+    right: &mut BTreeMap<u64, bool>,
+) -> Result<(u64, u64), Refusal> {
+    read(disc, disc.table.entry_number(address)?, right)
 }
 
 /// Reading's checks after 20, by the number of the table entry: "the place of the table entry for
@@ -857,18 +863,144 @@ pub fn import(buffer: &mut [u8], import: &Import) -> Result<(u64, u64), Refusal>
         created: import.created,
         written: import.written,
     };
-    let (mut image, _) = created_image(&creation);
-    let disc = open_disc(&image)?;
     let numbers: Vec<u64> = (0..creation.sectors).collect();
-    let commit = Commit::new(&disc, &numbers, size, import.flat)?;
-    // The commit only adds to what creating makes, so that the end decides.
+    create_and_commit(buffer, &creation, &numbers, size, import.flat)
+}
+
+/// "As creating and one commit at the last time would", of sectors of one size for the table entries
+/// with these numbers. Of their checks only 35 is left. The commit only adds to what creating makes,
+/// so that its end decides.
+fn create_and_commit(
+    buffer: &mut [u8],
+    creation: &Creation,
+    numbers: &[u64],
+    size: u64,
+    sectors: &[u8],
+) -> Result<(u64, u64), Refusal> {
+    let (mut image, _) = created_image(creation);
+    let disc = open_disc(&image)?;
+    let commit = Commit::new(&disc, numbers, size, sectors)?;
     if commit.used > buffer.len() as u64 {
         return Err(refusal(35));
     }
     let (appended, index_offset) = (commit.appended(), commit.index_offset);
     image.extend_from_slice(&appended);
-    set_header(&mut image, index_offset, import.written);
+    set_header(&mut image, index_offset, creation.written);
     fill(buffer, &image, index_offset)
+}
+
+// A disc over its parent (8/13).
+
+/// "One image or the other".
+#[derive(Clone, Copy, Debug, PartialEq)]
+pub enum Which {
+    Child,
+    Parent,
+}
+
+/// Which image a sector of the pair lies in, the place of its first byte there, and its size.
+type Located = (Which, u64, u64);
+
+/// A read of the pair.
+pub fn locate_over(child: &[u8], parent: &[u8], address: i64) -> Result<Located, Refusal> {
+    read_over(
+        &open_disc(child)?,
+        &open_disc(parent),
+        address,
+        &mut Default::default(),
+    )
+}
+
+/// "The parent is looked at only where the child answers 21; if the parent's own answer is 20 or 21,
+/// the answer is 21." "Other parent numbers come back with 100 added, places in the parent, after the
+/// child's." The parent's opening is part of its answer, and is left aside where it isn't looked at.
+/// `right` is what `read` remembers of the child and of the parent.
+fn read_over(
+    child: &Disc,
+    parent: &Result<Disc, Refusal>,
+    address: i64,
+    right: &mut [BTreeMap<u64, bool>; 2],
+) -> Result<Located, Refusal> {
+    match read_at(child, address, &mut right[0]) {
+        Err(refused) if refused.number == 21 => {}
+        answer => return answer.map(|(place, size)| (Which::Child, place, size)),
+    }
+    let parents_answer = match parent {
+        Ok(disc) => read_at(disc, address, &mut right[1]),
+        Err(refused) => Err(*refused),
+    };
+    match parents_answer {
+        Ok((place, size)) => Ok((Which::Parent, place, size)),
+        Err(refused) if matches!(refused.number, 20 | 21) => Err(refusal(21)),
+        Err(refused) => Err(refusal_at(refused.number + 100, refused.place)),
+    }
+}
+
+/// "Flattening makes a new image in a third buffer, as creating with the child's count and one commit
+/// (timed as in import) of all sectors of the pair that aren't 21 would (creating alone if there are
+/// none)." Order: "31, 33, the child's opening numbers, the sectors' other than 21 by rising address,
+/// 40, mixed sizes, 30, 35", with 74 "after opening's" (11/13). Gives `used` and the index's offset.
+pub fn flatten(buffer: &mut [u8], flattening: &Flattening) -> Result<(u64, u64), Refusal> {
+    if buffer.len() as u64 > MOST_BYTES {
+        return Err(refusal(31));
+    }
+    if flattening.application.len() != APPLICATION_LENGTH {
+        return Err(refusal(33));
+    }
+    let child = open_disc(flattening.child)?;
+    refuse_second(&child)?;
+    let (numbers, sectors) = sectors_over(&child, flattening)?;
+
+    let mut sizes = sectors.iter().map(|sector| sector.len() as u64);
+    let size = sizes.next();
+    if sizes.any(|other| Some(other) != size) {
+        return Err(refusal(40));
+    }
+    if child.table.count == 0
+        || child.table.count > MOST_SECTORS
+        || size.is_some_and(|size| size > MOST_SECTOR_SIZE)
+        || numbers.len() > MOST_ADDRESSES
+    {
+        return Err(refusal(30));
+    }
+    let creation = Creation {
+        sectors: child.table.count,
+        application: flattening.application,
+        major: flattening.major,
+        minor: flattening.minor,
+        media_type: flattening.media_type,
+        created: flattening.created,
+        written: flattening.written,
+    };
+    match size {
+        Some(size) => create_and_commit(buffer, &creation, &numbers, size, &sectors.concat()),
+        None => create(buffer, &creation),
+    }
+}
+
+/// "All sectors of the pair that aren't 21", each with the number of its table entry in the child;
+/// "the sectors' [numbers] other than 21 by rising address".
+fn sectors_over<'a>(
+    child: &Disc,
+    flattening: &Flattening<'a>,
+) -> Result<(Vec<u64>, Vec<&'a [u8]>), Refusal> {
+    let parent = open_disc(flattening.parent);
+    let (mut numbers, mut sectors) = (Vec::new(), Vec::new());
+    let mut right = Default::default();
+    for number in 0..child.table.count {
+        // The lowest address is 0: the child is of the old kind.
+        let (which, place, size) = match read_over(child, &parent, number as i64, &mut right) {
+            Err(refused) if refused.number == 21 => continue,
+            answer => answer?,
+        };
+        let image = match which {
+            Which::Child => flattening.child,
+            Which::Parent => flattening.parent,
+        };
+        numbers.push(number);
+        sectors.push(&image[place as usize..(place + size) as usize]);
+    }
+    Ok((numbers, sectors))
 }
 
 /// "A small disc, worked out", and where its damaged copies are refused.

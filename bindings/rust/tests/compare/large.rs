@@ -1,13 +1,14 @@
 //! A few large inputs, at the limits of what a call takes.
 
 use crate::arguments::{self, telling_addresses, with_room};
-use crate::exports::in_every_room;
+use crate::exports::{in_every_room, without};
 use crate::faults::{edit_image, table_blocks, Edit::Field};
 use crate::images::Description;
 use crate::imports;
-use crate::layout::{get, Kind, Layout};
+use crate::layout::{get, Kind, Layout, CREATED};
+use crate::parents;
 use crate::random::Random;
-use crate::sides::{refused, Call, Commit, Rule, Sides};
+use crate::sides::{refused, Call, Commit, Flatten, Parent, Rule, Sides};
 
 pub fn run(sides: &mut Sides, seed: u64) {
     let mut random = Random::new(seed);
@@ -20,6 +21,9 @@ pub fn run(sides: &mut Sides, seed: u64) {
             most_imported(sides, &mut random);
             longest_export(sides, &mut random);
             longer_sectors(sides, &mut random);
+            many_flattened(sides, &mut random);
+            most_flattened(sides, &mut random);
+            most_sectors_flattened(sides, &mut random);
         }
         Kind::Second => most_negative(sides, &mut random),
     }
@@ -207,6 +211,116 @@ fn longer_sectors(sides: &mut Sides, random: &mut Random) {
     let mut import = arguments::import(random, 0, 2 * size);
     import.flat = sides.left()[used as usize..][..length].to_vec();
     assert_eq!(sides.run(&buffer, 0, &Call::Import(import)), refused(30));
+
+    // Nor are they flattened; with one of another size that comes first, in any buffer.
+    let image = buffer[..used as usize].to_vec();
+    let (mut child, room) = created(sides, 1000, 2, random);
+    child.truncate(room as usize);
+    let call = flattening(&child, Parent::Other(image.clone()), random);
+    assert_eq!(sides.run(&buffer, 0, &call), refused(30));
+    assert_eq!(sides.run(&[], 0, &call), refused(30));
+    let call = flattening(&image, Parent::Child, random);
+    assert_eq!(sides.run(&buffer, 0, &call), refused(30));
+    child.resize(1000, 0xEE);
+    let commit = Call::Commit(Commit {
+        addresses: vec![1],
+        size: 3,
+        sectors: b"AAA".to_vec(),
+        time: 7,
+    });
+    let (used, _) = sides
+        .run_on(&mut child, room, &commit)
+        .expect("room enough");
+    let call = flattening(&child[..used as usize], Parent::Other(image), random);
+    assert_eq!(sides.run(&buffer, 0, &call), refused(40));
+    assert_eq!(sides.run(&[], 0, &call), refused(40));
+}
+
+fn flattening(child: &[u8], parent: Parent, random: &mut Random) -> Call {
+    Call::Flatten(Flatten {
+        child: child.to_vec(),
+        parent,
+        about: arguments::about(random),
+    })
+}
+
+/// Some hundred different sectors of each image, and sectors of the largest size.
+fn many_flattened(sides: &mut Sides, random: &mut Random) {
+    for (count, size) in [(700, 2), (1500, 4), (3, 65_535), (3, 65_536)] {
+        let images = [0, 1].map(|_| {
+            let (mut image, used) =
+                created(sides, 1000 + count * (size + 24), count as u64, random);
+            let written: Vec<i64> = (0..count as i64).filter(|_| random.once_in(2)).collect();
+            let commit = Call::Commit(Commit {
+                sectors: random.bytes(written.len() * size),
+                addresses: written,
+                size: size as u64,
+                time: 8,
+            });
+            let (used, _) = sides
+                .run_on(&mut image, used, &commit)
+                .expect("room enough");
+            image.truncate(used as usize);
+            image
+        });
+        let [child, parent] = images;
+        let flatten = Flatten {
+            child,
+            parent: Parent::Other(parent),
+            about: arguments::about(random),
+        };
+        let answer = parents::in_every_buffer(sides, flatten, random);
+        answer.expect("room enough");
+    }
+}
+
+/// As many sectors as a commit takes, of a disc of one more, then all of these.
+fn most_flattened(sides: &mut Sides, random: &mut Random) {
+    let count = 65_537;
+    let parent = Description::even(Kind::Old, random)
+        .with_count(count)
+        .build(random);
+    let buffer = random.bytes(2_000_000);
+    let (mut child, used) = created(sides, CREATED + 8 * count, count as u64, random);
+    child.truncate(used as usize);
+    let gap = random.below(count);
+    for (parent, answers) in [(without(&parent, &[gap], random), true), (parent, false)] {
+        for (child, parent) in [
+            (&parent, Parent::Child),
+            (&child, Parent::Other(parent.clone())),
+        ] {
+            let call = flattening(child, parent, random);
+            let answer = sides.run(&buffer, 0, &call);
+            assert_eq!(answer.is_ok(), answers);
+            let Ok((used, _)) = answer else {
+                assert_eq!(answer, refused(30));
+                assert_eq!(sides.run(&[], 0, &call), refused(30));
+                continue;
+            };
+            let used = used as usize;
+            assert_eq!(sides.run(&buffer[..used], 0, &call), answer);
+            assert_eq!(sides.run(&buffer[..used - 1], 0, &call), refused(35));
+        }
+    }
+}
+
+/// A child of the most sectors that are created, few of them written, and of one more.
+fn most_sectors_flattened(sides: &mut Sides, random: &mut Random) {
+    let most = 1_048_576;
+    let parent = Parent::Other(Description::even(Kind::Old, random).build(random));
+    let buffer = random.bytes(CREATED + 16 * most + 1000);
+    for count in [most, most + 1] {
+        let child = Description::even(Kind::Old, random)
+            .with_count(count)
+            .build(random);
+        let every: Vec<usize> = (0..count).collect();
+        let call = flattening(&without(&child, &every, random), parent.clone(), random);
+        let answer = sides.run(&buffer, 0, &call);
+        match count == most {
+            true => assert!(answer.is_ok()),
+            false => assert_eq!(answer, refused(30)),
+        }
+    }
 }
 
 /// More sectors than an import takes, of the second kind nearly all at negative addresses.

@@ -15,6 +15,8 @@ mod layout;
 mod lengths;
 mod mixed;
 mod pairs;
+mod parent_cases;
+mod parents;
 mod random;
 mod sides;
 mod sparse;
@@ -34,7 +36,7 @@ type Part = (Kind, fn(&mut Sides));
 
 /// Each part has images of one kind. The numbers after `sides` are seeds, to which that of the run
 /// is added; those after them say how many images or histories.
-const PARTS: [Part; 21] = [
+const PARTS: [Part; 25] = [
     (Kind::Old, |sides| fields::run(sides, 1, 9)),
     (Kind::Old, |sides| fields::run(sides, 2, 9)),
     (Kind::Old, |sides| pairs::run(sides, 3, 18)),
@@ -46,6 +48,8 @@ const PARTS: [Part; 21] = [
     (Kind::Old, |sides| mixed::run(sides, 9, 60)),
     (Kind::Old, |sides| exports::run(sides, 20, 260)),
     (Kind::Old, |sides| imports::run(sides, 21, 400)),
+    (Kind::Old, |sides| parents::run(sides, 23, 400)),
+    (Kind::Old, |sides| parents::run_faults(sides, 24, 24)),
     (Kind::Second, |sides| fields::run(sides, 11, 9)),
     (Kind::Second, |sides| fields::run(sides, 12, 9)),
     (Kind::Second, |sides| pairs::run(sides, 13, 18)),
@@ -56,6 +60,8 @@ const PARTS: [Part; 21] = [
     (Kind::Second, |sides| sparse::run(sides, 18)),
     (Kind::Second, |sides| mixed::run(sides, 19, 60)),
     (Kind::Second, |sides| exports::run(sides, 22, 260)),
+    (Kind::Second, |sides| parents::run(sides, 25, 400)),
+    (Kind::Second, |sides| parents::run_faults(sides, 26, 24)),
 ];
 
 #[test]
@@ -98,7 +104,7 @@ fn null_pointers_to_nothing() {
     let (start, length) = (buffer.as_mut_ptr(), buffer.len());
     let (mut a, mut b) = (0, 0);
     // One for each call: a refused one sets it.
-    let mut places = [7; 8];
+    let mut places = [7; 10];
     // SAFETY: those pointers that are not null are valid for their lengths and apart from others.
     unsafe {
         let mut lowest = 0;
@@ -161,6 +167,32 @@ fn null_pointers_to_nothing() {
             &mut places[7],
         );
         assert_eq!(import, 30);
+        let (mut which, place) = (0, &mut places[8]);
+        let over = aaru_locate_over(
+            nothing.0, 0, nothing.0, 0, 0, &mut which, &mut a, &mut b, place,
+        );
+        assert_eq!(over, 1);
+        // The child has no sector that is written, so that the parent is looked at.
+        let name = about.application;
+        let flatten = aaru_flatten(
+            nothing.1,
+            0,
+            start,
+            used as usize,
+            nothing.0,
+            0,
+            name.as_ptr(),
+            name.len(),
+            1,
+            0,
+            0,
+            0,
+            0,
+            &mut a,
+            &mut b,
+            &mut places[9],
+        );
+        assert_eq!(flatten, 4);
     }
-    assert_eq!(places, [0, 0, 0, 0, 7, 0, 0, 0]);
+    assert_eq!(places, [0, 0, 0, 0, 7, 0, 0, 0, 0, 286]);
 }

@@ -2,24 +2,44 @@
 //! everything that they give compared.
 
 use crate::arguments::outside;
-use crate::independent;
+use crate::independent::{self, Which};
 use crate::layout::{get, Kind, Layout, INDEX, INDEX_OFFSET};
 use crate::random::Random;
 use crate::tally::Tally;
-use aaru::{ffi, AddressRange, Creation, Flat, Placed, Refusal};
+use aaru::{ffi, AddressRange, Creation, Flat, Flattening, Layered, Placed, Refusal};
 use std::ops::Range;
 
 /// A call without its buffer. For opening, reading and exporting the image is the buffer's first
-/// `used` bytes; the bytes behind it are what an export may fill.
+/// `used` bytes; the bytes behind it are what an export may fill. Where a parent is read too, the
+/// image is its child.
 #[derive(Clone, Debug)]
 pub enum Call {
     SectorCount,
     Locate(i64),
+    LocateOver(Parent, i64),
     Create(Create),
     Commit(Commit),
     Rollback { offset: u64, time: u64 },
     Export(Rule),
     Import(Import),
+    Flatten(Flatten),
+}
+
+/// What a child lies over.
+#[derive(Clone, Debug)]
+pub enum Parent {
+    Other(Vec<u8>),
+    /// The child itself, its very bytes.
+    Child,
+}
+
+impl Parent {
+    pub fn of<'a>(&'a self, child: &'a [u8]) -> &'a [u8] {
+        match self {
+            Parent::Other(image) => image,
+            Parent::Child => child,
+        }
+    }
 }
 
 /// What an export does about a sector that is not written.
@@ -64,6 +84,13 @@ pub struct Import {
     pub about: About,
 }
 
+#[derive(Clone, Debug)]
+pub struct Flatten {
+    pub child: Vec<u8>,
+    pub parent: Parent,
+    pub about: About,
+}
+
 impl Create {
     fn lent(&self) -> Creation<'_> {
         let about = &self.about;
@@ -100,6 +127,27 @@ impl Import {
     }
 }
 
+impl Flatten {
+    fn lent(&self) -> Flattening<'_> {
+        self.about.over(&self.child, self.parent.of(&self.child))
+    }
+}
+
+impl About {
+    pub fn over<'a>(&'a self, child: &'a [u8], parent: &'a [u8]) -> Flattening<'a> {
+        Flattening {
+            child,
+            parent,
+            application: &self.application,
+            major: self.major,
+            minor: self.minor,
+            media_type: self.media_type,
+            created: self.created,
+            written: self.written,
+        }
+    }
+}
+
 impl Call {
     /// Its place in `tally::CALLS`.
     pub fn column(&self) -> usize {
@@ -112,22 +160,34 @@ impl Call {
             Call::Export(Rule::Plain) => 5,
             Call::Export(Rule::Exact) => 6,
             Call::Import(_) => 7,
+            Call::LocateOver(..) => 8,
+            Call::Flatten(_) => 9,
         }
     }
 
     /// Whether it writes an image.
     pub fn writes(&self) -> bool {
-        !matches!(self, Call::SectorCount | Call::Locate(_) | Call::Export(_))
+        let reads = matches!(
+            self,
+            Call::SectorCount | Call::Locate(_) | Call::LocateOver(..) | Call::Export(_)
+        );
+        !reads
     }
 
-    /// Whether it makes a new image, whatever stands in the buffer.
-    fn makes(&self) -> bool {
-        matches!(self, Call::Create(_) | Call::Import(_))
+    /// The images that it reads. What stands in the buffer is none where a new image is made.
+    fn images<'a>(&'a self, image: &'a [u8]) -> Vec<&'a [u8]> {
+        match self {
+            Call::Create(_) | Call::Import(_) => Vec::new(),
+            Call::LocateOver(parent, _) => vec![image, parent.of(image)],
+            Call::Flatten(flatten) => vec![&flatten.child, flatten.parent.of(&flatten.child)],
+            _ => vec![image],
+        }
     }
 }
 
 /// Count and lowest address (its 64 bits), start and size, `used` and index offset, or a flat file's
-/// length and how many of its sectors are filled; or the refusal.
+/// length and how many of its sectors are filled; or the refusal. A sector of the parent has its
+/// start counted on from the child's end.
 pub type Answer = Result<(u64, u64), Refusal>;
 
 /// A refusal that is about no record of the image.
@@ -173,6 +233,11 @@ pub fn raw(buffer: &mut [u8], used: u64, call: &Call) -> Answer {
                 &mut second,
                 &mut place,
             ),
+            Call::LocateOver(parent, address) => {
+                let child = &buffer[..used as usize];
+                return raw_over(child, parent.of(child), *address);
+            }
+            Call::Flatten(flatten) => return raw_flatten(buffer, &flatten.lent()),
             Call::Create(create) => ffi::aaru_create(
                 start,
                 length,
@@ -255,12 +320,68 @@ pub fn raw(buffer: &mut [u8], used: u64, call: &Call) -> Answer {
             ),
         }
     };
+    answer(number, (first, second), place)
+}
+
+/// What a call answered, if it left what it has to leave.
+fn answer(number: u32, pair: (u64, u64), place: u64) -> Answer {
     if number != 0 {
-        assert_eq!((first, second), UNTOUCHED, "refused, but answered");
+        assert_eq!(pair, UNTOUCHED, "refused, but answered");
         return Err(Refusal { number, place });
     }
     assert_eq!(place, UNPLACED, "accepted, but placed");
-    Ok((first, second))
+    Ok(pair)
+}
+
+/// The C call that reads a child over its parent.
+pub fn raw_over(child: &[u8], parent: &[u8], address: i64) -> Answer {
+    let (mut which, (mut start, mut size), mut place) = (UNPLACED, UNTOUCHED, UNPLACED);
+    // SAFETY: both slices are valid for their lengths.
+    let number = unsafe {
+        ffi::aaru_locate_over(
+            child.as_ptr(),
+            child.len(),
+            parent.as_ptr(),
+            parent.len(),
+            address,
+            &mut which,
+            &mut start,
+            &mut size,
+            &mut place,
+        )
+    };
+    let (start, size) = answer(number, (start, size), place).inspect_err(|_| {
+        assert_eq!(which, UNPLACED, "refused, but an image named");
+    })?;
+    assert!(which <= 1, "an image that is neither: {which}");
+    Ok((start.wrapping_add(which * child.len() as u64), size))
+}
+
+/// The C call that flattens.
+pub fn raw_flatten(buffer: &mut [u8], about: &Flattening) -> Answer {
+    let ((mut used, mut index), mut place) = (UNTOUCHED, UNPLACED);
+    // SAFETY: all slices are valid for their lengths, and the buffer is borrowed alone.
+    let number = unsafe {
+        ffi::aaru_flatten(
+            buffer.as_mut_ptr(),
+            buffer.len(),
+            about.child.as_ptr(),
+            about.child.len(),
+            about.parent.as_ptr(),
+            about.parent.len(),
+            about.application.as_ptr(),
+            about.application.len(),
+            about.major,
+            about.minor,
+            about.media_type,
+            about.created,
+            about.written,
+            &mut used,
+            &mut index,
+            &mut place,
+        )
+    };
+    answer(number, (used, index), place)
 }
 
 fn pair_of(range: AddressRange) -> (u64, u64) {
@@ -277,10 +398,33 @@ pub fn addresses_of((count, lowest): (u64, u64)) -> Range<i64> {
     lowest..lowest + count as i64
 }
 
+fn placed_pair(placed: Placed) -> (u64, u64) {
+    (placed.used, placed.index)
+}
+
+/// The safe wrapper's read of a child over its parent.
+pub fn safe_over(child: &[u8], parent: &[u8], address: i64) -> Answer {
+    let (image, before, sector) = match aaru::read_over(child, parent, address)? {
+        Layered::Child(sector) => (child, 0, sector),
+        Layered::Parent(sector) => (parent, child.len() as u64, sector),
+    };
+    assert_eq!(sector.bytes, part(image, sector.start, sector.bytes.len()));
+    Ok((before + sector.start, sector.bytes.len() as u64))
+}
+
+pub fn safe_flatten(buffer: &mut [u8], about: &Flattening) -> Answer {
+    aaru::flatten(buffer, about).map(placed_pair)
+}
+
 /// The safe wrapper's call.
 pub fn safe(buffer: &mut [u8], used: u64, call: &Call) -> Answer {
-    let pair = |placed: Placed| (placed.used, placed.index);
+    let pair = placed_pair;
     match call {
+        Call::LocateOver(parent, address) => {
+            let child = &buffer[..used as usize];
+            safe_over(child, parent.of(child), *address)
+        }
+        Call::Flatten(flatten) => safe_flatten(buffer, &flatten.lent()),
         Call::SectorCount => aaru::sector_count(&buffer[..used as usize]).map(pair_of),
         Call::Locate(address) => {
             let image = &buffer[..used as usize];
@@ -311,9 +455,24 @@ pub fn safe(buffer: &mut [u8], used: u64, call: &Call) -> Answer {
     }
 }
 
+/// The independent implementation's read of a child over its parent.
+pub fn other_over(child: &[u8], parent: &[u8], address: i64) -> Answer {
+    let (which, start, size) = independent::locate_over(child, parent, address)?;
+    let before = match which {
+        Which::Child => 0,
+        Which::Parent => child.len() as u64,
+    };
+    Ok((before + start, size))
+}
+
 /// The independent implementation's call.
 pub fn other(buffer: &mut [u8], used: u64, call: &Call) -> Answer {
     match call {
+        Call::LocateOver(parent, address) => {
+            let child = &buffer[..used as usize];
+            other_over(child, parent.of(child), *address)
+        }
+        Call::Flatten(flatten) => independent::flatten(buffer, &flatten.lent()),
         Call::SectorCount => independent::sector_count(&buffer[..used as usize]).map(pair_of),
         Call::Locate(address) => independent::locate(&buffer[..used as usize], *address),
         Call::Create(create) => independent::create(buffer, &create.lent()),
@@ -386,14 +545,20 @@ impl Sides {
         }
 
         let image = &buffer[..buffer.len().min(used as usize)];
+        let images = call.images(image);
         self.tally.count(call, answer);
         if let Err(refusal) = answer {
-            if telling(image, call, refusal) {
+            let concerned = images.get(usize::from(refusal.number > 100));
+            if concerned.is_some_and(|image| telling(image, call, refusal)) {
                 self.tally.count_telling(call, refusal);
             }
         }
-        if !call.makes() && used <= buffer.len() as u64 {
+        // A parent is most often damaged, and counts where it is a child.
+        if let Some(image) = images.first().filter(|_| used <= buffer.len() as u64) {
             self.note(image);
+        }
+        if let (Call::LocateOver(..), Ok((start, _))) = (call, answer) {
+            self.tally.found[usize::from(start >= used)] += 1;
         }
         if call.writes() {
             self.compare_reads(match answer {
@@ -459,7 +624,7 @@ fn telling(image: &[u8], call: &Call, Refusal { number, place }: Refusal) -> boo
         Call::Rollback { offset, .. } => *offset,
         _ => named(),
     };
-    match number {
+    match number % 100 {
         4 => place > image.len() as u64,
         5 | 6 | 9 | 10 => place != named(),
         7 | 8 => place > index() + INDEX as u64,

@@ -6,8 +6,11 @@ use crate::faults::{self, read_addresses, Edit::Field};
 use crate::images::Description;
 use crate::independent;
 use crate::layout::{get, put, Kind, Layout, ALIGNMENT, HEADER, INDEX_OFFSET};
+use crate::parents;
 use crate::random::Random;
-use crate::sides::{other, raw, refused, safe, Answer, Call, Commit, Rule, Sides, RULES};
+use crate::sides::{other, other_over, raw, raw_flatten, raw_over};
+use crate::sides::{refused, safe, safe_flatten, safe_over};
+use crate::sides::{Answer, Call, Commit, Flatten, Parent, Rule, Sides, RULES};
 use std::ffi::c_void;
 use std::slice;
 
@@ -108,8 +111,13 @@ fn too_long(sides: &mut Sides, buffer: &mut [u8], random: &mut Random) {
     let import = arguments::import(random, 3, 4);
     let mut wrong_import = import.clone();
     wrong_import.size = 0;
+    let flatten = flatten(&image, random);
+    let mut wrong_flatten = flatten.clone();
+    wrong_flatten.about.application.pop();
     let offset = layout.index as u64;
     let mut calls = vec![
+        Call::Flatten(flatten),
+        Call::Flatten(wrong_flatten),
         Call::Commit(commit),
         Call::Commit(wrong_commit),
         Call::Rollback { offset, time: 5 },
@@ -129,6 +137,15 @@ fn too_long(sides: &mut Sides, buffer: &mut [u8], random: &mut Random) {
         }
     }
     buffer[..image.len()].fill(0);
+}
+
+/// An image over itself.
+fn flatten(image: &[u8], random: &mut Random) -> Flatten {
+    Flatten {
+        child: image.to_vec(),
+        parent: Parent::Child,
+        about: arguments::about(random),
+    }
 }
 
 /// The same calls over buffers that are just not too long, and what they leave read.
@@ -171,6 +188,9 @@ fn longest(sides: &mut Sides, mut buffers: [&mut [u8]; 3], random: &mut Random) 
     assert_eq!(answer, Ok((whole, offset)));
     let import = arguments::import(random, SECTORS as usize, 3);
     run(0, Call::Import(import)).expect("not too long");
+    let child = Description::even(Kind::Old, random).with_count(SECTORS as usize);
+    let flatten = flatten(&child.build(random), random);
+    run(0, Call::Flatten(flatten)).expect("not too long");
 }
 
 /// Runs a call on every side and compares the first and the last bytes, between which nothing is
@@ -269,13 +289,38 @@ fn far_behind(sides: &mut Sides, buffer: &mut [u8], layout: &Layout, random: &mu
     faults.extend(faults::of_reading(buffer, layout, address));
     let far = buffer.len() - FRONT;
     let (header, records) = (buffer[..HEADER].to_vec(), buffer[far..].to_vec());
+    let empty = parents::empty_child(layout.kind, address..address + 1, random);
     for fault in faults {
         faults::edit_image(buffer, layout, &fault);
         for call in &calls {
             on_one(sides, buffer, call).ok();
         }
+        over_and_under(sides, &empty, buffer, address, random);
         buffer[..HEADER].copy_from_slice(&header);
         buffer[far..].copy_from_slice(&records);
+    }
+}
+
+/// The far image over one that has nothing written, then under it.
+fn over_and_under(sides: &mut Sides, empty: &[u8], far: &[u8], address: i64, random: &mut Random) {
+    let before = random.bytes(1000);
+    let flatten = flatten(&[], random);
+    for (child, parent) in [(far, empty), (empty, far)] {
+        let answer = raw_over(child, parent, address);
+        assert_eq!(safe_over(child, parent, address), answer);
+        assert_eq!(other_over(child, parent, address), answer);
+        let call = Call::LocateOver(Parent::Child, address);
+        sides.tally.count(&call, answer);
+
+        let about = flatten.about.over(child, parent);
+        let mut left = [before.clone(), before.clone(), before.clone()];
+        let [first, second, third] = &mut left;
+        let answer = raw_flatten(first, &about);
+        assert_eq!(safe_flatten(second, &about), answer);
+        assert_eq!(independent::flatten(third, &about), answer);
+        assert!(left[0] == left[1] && left[1] == left[2]);
+        assert!(answer.is_ok() || left[0] == before);
+        sides.tally.count(&Call::Flatten(flatten.clone()), answer);
     }
 }
 

@@ -6,7 +6,7 @@ use aaru::Refusal;
 use std::collections::{BTreeMap, HashMap, HashSet};
 use std::hash::{DefaultHasher, Hasher};
 
-pub const CALLS: [&str; 8] = [
+pub const CALLS: [&str; 10] = [
     "sector_count",
     "locate",
     "create",
@@ -15,11 +15,14 @@ pub const CALLS: [&str; 8] = [
     "export",
     "export_exact",
     "import",
+    "locate_over",
+    "flatten",
 ];
-const NUMBERS: usize = 75;
+const NUMBERS: usize = 174;
 
 /// Whether a call can give a number on images of a kind; 0 stands for an accepted call. A rollback
-/// may lead from one kind to the other, and of the second kind what was exported is imported.
+/// may lead from one kind to the other, and of the second kind what was exported is imported. Where
+/// there is a parent, the child is of the kind; the parent, whose numbers are above 100, is of either.
 fn possible(kind: Kind, call: usize, number: usize) -> bool {
     let old = kind == Kind::Old;
     match (CALLS[call], number) {
@@ -29,9 +32,16 @@ fn possible(kind: Kind, call: usize, number: usize) -> bool {
         ("commit", 0 | 20 | 22..=27 | 35) => old,
         ("commit", 30..=34) => true,
         ("rollback", 31 | 32 | 70..=72 | 74) => true,
-        ("locate", 20..=27) | ("export" | "export_exact", 21..=27 | 40 | 41) => true,
+        ("flatten", 0 | 22..=27 | 30 | 35 | 40) => old,
+        ("flatten", 31 | 33) => true,
+        ("locate_over", 101..=114 | 122..=127 | 170..=173) => true,
+        ("flatten", 101..=114 | 122..=127 | 170..=173) => old,
+        ("locate" | "locate_over", 20..=27) | ("export" | "export_exact", 21..=27 | 40 | 41) => {
+            true
+        }
         (_, 0..=14) => true,
-        (_, 70..=72) | ("locate" | "export" | "export_exact", 73) | ("commit", 74) => !old,
+        (_, 70..=72) | ("commit" | "flatten", 74) => !old,
+        ("locate" | "locate_over" | "export" | "export_exact", 73) => !old,
         _ => false,
     }
 }
@@ -46,13 +56,13 @@ fn least(number: usize) -> u64 {
 
 /// Whether a number has a place; that of every other number is 0.
 fn placed(number: usize) -> bool {
-    matches!(number, 4..=14 | 22..=27)
+    matches!(number % 100, 4..=14 | 22..=27)
 }
 
 /// Whether some of a call's places with a number are telling: past the end (4), of an index that
 /// the header does not name (5, 6, 9, 10), or of an entry that is not the first (7, 8, 22).
 fn telling(call: usize, number: usize) -> bool {
-    match number {
+    match number % 100 {
         4 | 7 | 8 | 22 => true,
         5 | 6 | 9 | 10 => CALLS[call] == "rollback",
         _ => false,
@@ -82,7 +92,7 @@ impl Met {
         let far = places.iter().any(|&place| place >= 1 << 32);
         let enough = far || matches!(name, "create" | "commit" | "rollback" | "import");
         assert!(enough, "{name} met {number} at no place above 4 GiB");
-        let enough = number != 4 || places.contains(&u64::MAX);
+        let enough = number % 100 != 4 || places.contains(&u64::MAX);
         assert!(enough, "{name} never met the last offset");
     }
 }
@@ -104,6 +114,8 @@ pub struct Tally {
     negative: [u64; CALLS.len()],
     /// Exports that filled gaps.
     filled: u64,
+    /// How many sectors of a child over its parent were the child's, and how many the parent's.
+    pub found: [u64; 2],
 }
 
 impl Tally {
@@ -116,7 +128,7 @@ impl Tally {
 
     pub fn count(&mut self, call: &Call, answer: Answer) {
         let lowest = match call {
-            Call::Locate(address) => Some(address),
+            Call::Locate(address) | Call::LocateOver(_, address) => Some(address),
             Call::Commit(commit) => commit.addresses.first(),
             _ => None,
         };
@@ -161,6 +173,9 @@ impl Tally {
         self.two_faults += other.two_faults;
         self.reads += other.reads;
         self.filled += other.filled;
+        for (found, more) in self.found.iter_mut().zip(other.found) {
+            *found += more;
+        }
         for (times, more) in self.negative.iter_mut().zip(other.negative) {
             *times += more;
         }
@@ -205,6 +220,8 @@ impl Tally {
         );
         println!("{:>9} reads after calls that write", self.reads);
         println!("{:>9} exports that fill gaps", self.filled);
+        let [child, parent] = self.found;
+        println!("{child:>9} sectors of a child, and {parent} of its parent");
     }
 
     fn print_row(&self, number: usize) {
@@ -240,6 +257,8 @@ impl Tally {
             }
         }
         assert!(self.filled >= least(0), "few exports filled gaps");
+        let enough = self.found.iter().all(|&times| times >= least(0));
+        assert!(enough, "few sectors of the child or of the parent");
         assert!(self.inputs() >= 100_000);
         assert!(10 * self.two_faults >= self.inputs());
         assert!(2 * self.opened() >= self.images.len());
