@@ -75,7 +75,8 @@ struct pages {
     uint8_t *low, *high;
 };
 
-static struct pages image_pages, name_pages, address_pages, sector_pages, first_pages, second_pages, place_pages;
+static struct pages image_pages, parent_pages, name_pages, address_pages, sector_pages, first_pages, second_pages,
+    third_pages, place_pages;
 
 static void map_pages(struct pages *pages)
 {
@@ -99,9 +100,9 @@ static void *lend(const struct pages *pages, const void *bytes, size_t length, s
     return at;
 }
 
-/* The numbers behind a call's last pointers. A call that answers one number has no second. */
+/* The numbers behind a call's last pointers. A call that answers one number has no second, and few have a third. */
 struct numbers {
-    uint64_t *first, *second, *place;
+    uint64_t *first, *second, *third, *place;
 };
 
 static const uint64_t MARK = 0x0123456789ABCDEF;
@@ -112,6 +113,7 @@ static struct numbers lend_numbers(void)
 
     numbers.first = lend(&first_pages, &MARK, sizeof MARK, sizeof MARK);
     numbers.second = lend(&second_pages, &MARK, sizeof MARK, sizeof MARK);
+    numbers.third = NULL;
     numbers.place = lend(&place_pages, &MARK, sizeof MARK, sizeof MARK);
     return numbers;
 }
@@ -123,6 +125,8 @@ static uint32_t answered(uint32_t number, struct numbers numbers)
     expect((*numbers.first == MARK) == (number != 0), "a first number set exactly if accepted");
     expect(numbers.second == NULL || (*numbers.second == MARK) == (number != 0),
            "a second number set exactly if accepted");
+    expect(numbers.third == NULL || (*numbers.third == MARK) == (number != 0),
+           "a third number set exactly if accepted");
     expect((*numbers.place == MARK) == (number == 0), "a place set exactly if refused");
     return number;
 }
@@ -460,6 +464,188 @@ static void exports(const struct image *image)
         export_to(image, image->length, room);
 }
 
+/* Pairs of a child and its parent, each cut to a length. Where they are one image, it is lent once, as both. */
+
+struct pair {
+    const struct image *child, *parent;
+    size_t child_length, parent_length;
+};
+
+static void lend_pair(struct pair pair, const uint8_t **child, const uint8_t **parent)
+{
+    int one = pair.child == pair.parent && pair.child_length == pair.parent_length;
+
+    *child = lend(&image_pages, pair.child->bytes, pair.child_length, 1);
+    *parent = one ? *child : lend(&parent_pages, pair.parent->bytes, pair.parent_length, 1);
+}
+
+static void expect_pair_kept(struct pair pair, const uint8_t *child, const uint8_t *parent)
+{
+    expect(same(child, pair.child->bytes, 0, pair.child_length), "a child left as it was");
+    expect(same(parent, pair.parent->bytes, 0, pair.parent_length), "a parent left as it was");
+}
+
+/* What aaru_locate answers for each of the two says what the pair answers. */
+struct place_over {
+    uint64_t which, start, size, place;
+};
+
+static uint32_t locate_each(struct pair pair, int64_t address, struct place_over *over)
+{
+    uint32_t number = aaru_locate(pair.child->bytes, pair.child_length, address, &over->start, &over->size,
+                                  &over->place);
+
+    over->which = 0;
+    if (number != 21)
+        return number;
+    over->which = 1;
+    number = aaru_locate(pair.parent->bytes, pair.parent_length, address, &over->start, &over->size, &over->place);
+    return number == 0 ? 0 : number == 20 || number == 21 ? 21 : number + 100;
+}
+
+static void locate_over(struct pair pair)
+{
+    static const int64_t addresses[] = {INT64_MIN, -1, 0, 5, 15};
+    const uint8_t *child, *parent;
+
+    call = "aaru_locate_over";
+    for (size_t i = 0; i < LENGTH(addresses); i++) {
+        struct numbers numbers = lend_numbers();
+        struct place_over over;
+        uint32_t number;
+
+        lend_pair(pair, &child, &parent);
+        numbers.third = lend(&third_pages, &MARK, sizeof MARK, sizeof MARK);
+        number = aaru_locate_over(child, pair.child_length, parent, pair.parent_length, addresses[i], numbers.first,
+                                  numbers.second, numbers.third, numbers.place);
+        answered(number, numbers);
+        expect(number == locate_each(pair, addresses[i], &over), "as the two answer");
+        if (number != 0) {
+            expect(*numbers.place == over.place, "the place that one of the two answers");
+        } else {
+            expect(*numbers.first == over.which, "the image that has it");
+            expect(*numbers.second == over.start && *numbers.third == over.size, "where that image has it");
+        }
+        expect_pair_kept(pair, child, parent);
+    }
+}
+
+/* What creating and then one commit of what the pair has leave in a buffer, and their answers; or how it is refused,
+ * whatever the buffer. */
+static uint32_t make_flattened(struct pair pair, uint8_t *buffer, uint64_t *used, uint64_t *index, uint64_t *place)
+{
+    static uint8_t bytes[MOST];
+    static int64_t addresses[64];
+    uint64_t sectors, size = 0;
+    int64_t lowest;
+    size_t count = 0;
+    int mixed = 0;
+    uint32_t number = aaru_sector_count(pair.child->bytes, pair.child_length, &sectors, &lowest, place);
+
+    if (number != 0)
+        return number;
+    *place = 0;
+    if (pair.child->commit == 74)
+        return 74;
+    for (int64_t address = 0; address < (int64_t)sectors; address++) {
+        struct place_over over;
+
+        number = locate_each(pair, address, &over);
+        if (number == 21)
+            continue;
+        *place = over.place;
+        if (number != 0)
+            return number;
+        mixed |= count > 0 && over.size != size;
+        size = over.size;
+        if (!mixed)
+            memcpy(bytes + count * size, (over.which ? pair.parent : pair.child)->bytes + over.start, size);
+        addresses[count++] = address;
+    }
+    *place = 0;
+    if (mixed)
+        return 40;
+    number = aaru_create(buffer, MOST, sectors, application, NAME, 1, 0, 3, TIME, TIME + 1, used, index, place);
+    if (number == 0 && count > 0)
+        number = aaru_commit(buffer, MOST, *used, addresses, count, size, bytes, count * size, TIME + 1, used, index,
+                             place);
+    must(number == 0, "no disc made of a pair");
+    return 0;
+}
+
+/* Answers how many bytes are needed, or 0 for a pair that is refused in every buffer. */
+static size_t flatten(struct pair pair, size_t length, size_t name_length)
+{
+    static uint8_t before[MOST], made[MOST], name[2 * NAME];
+    uint64_t used = 0, index = 0, place = 0;
+    const uint8_t *child, *parent, *lent_name;
+    uint8_t *buffer;
+    struct numbers numbers = lend_numbers();
+    uint32_t number, expected = make_flattened(pair, made, &used, &index, &place);
+    size_t needed = expected == 0 ? used : 0;
+
+    if (name_length != NAME || length < needed) {
+        expected = name_length != NAME ? 33 : 35;
+        place = 0;
+    }
+    memset(before, 0xA5, length);
+    memcpy(name, application, NAME);
+    lend_pair(pair, &child, &parent);
+    buffer = lend(&sector_pages, before, length, 1);
+    lent_name = lend(&name_pages, name, name_length, 1);
+    call = "aaru_flatten";
+    number = aaru_flatten(buffer, length, child, pair.child_length, parent, pair.parent_length, lent_name, name_length,
+                          1, 0, 3, TIME, TIME + 1, numbers.first, numbers.second, numbers.place);
+    answered(number, numbers);
+    expect(number == expected, "as the pair, the length and the name are");
+    if (number != 0) {
+        expect(*numbers.place == place, "the place of its refusal");
+        expect(same(buffer, before, 0, length), "a buffer left as it was");
+    } else {
+        expect(*numbers.first == used && *numbers.second == index, "the length and index that it has to have");
+        expect(same(buffer, made, 0, used), "as creating and one commit leave the buffer");
+        expect(same(buffer, before, used, length), "bytes behind the image left as they were");
+    }
+    expect_pair_kept(pair, child, parent);
+    expect(memcmp(lent_name, name, name_length) == 0, "a name left as it was");
+    return needed;
+}
+
+/* The image's first bytes as the child and the parent in one, as a child, and as the parent of a disc that has nothing
+ * written. */
+static void over(const struct image *image, size_t length)
+{
+    const struct image *full = &images[7], *empty = &images[2];
+    const struct pair pairs[] = {
+        {image, image, length, length}, {image, full, length, full->length}, {empty, image, empty->length, length}};
+
+    for (size_t i = 0; i < LENGTH(pairs); i++) {
+        locate_over(pairs[i]);
+        flatten(pairs[i], 1000, NAME);
+    }
+}
+
+/* The image over every other: into just what is needed and into a byte less; over itself and one more into every
+ * number of bytes, and with names of every length. */
+static void flattenings(const struct image *image)
+{
+    for (size_t i = 0; i < LENGTH(images); i++) {
+        const struct pair pair = {image, &images[i], image->length, images[i].length};
+        size_t needed = flatten(pair, MOST / 2, NAME);
+
+        if (needed == 0)
+            continue;
+        flatten(pair, needed, NAME);
+        flatten(pair, needed - 1, NAME);
+        if (image != &images[i] && i != 12)
+            continue;
+        for (size_t length = 0; length <= needed + 9; length++)
+            flatten(pair, length, NAME);
+        for (size_t length = 0; length <= 2 * NAME; length++)
+            flatten(pair, needed, length);
+    }
+}
+
 /* What stands below the end may change in two fields of the header alone. */
 static void expect_kept(const uint8_t *buffer, const uint8_t *before, size_t used)
 {
@@ -748,13 +934,14 @@ static void every_length(const struct image *image)
         rollback(image, length);
         commit(image, length);
         export(image, length);
+        over(image, length);
     }
 }
 
 static void prepare(void)
 {
-    struct pages *const all[] = {&image_pages, &name_pages,   &address_pages, &sector_pages,
-                                 &first_pages, &second_pages, &place_pages};
+    struct pages *const all[] = {&image_pages, &parent_pages, &name_pages,  &address_pages, &sector_pages,
+                                 &first_pages, &second_pages, &third_pages, &place_pages};
 
     for (size_t i = 0; i < LENGTH(all); i++)
         map_pages(all[i]);
@@ -785,6 +972,7 @@ int main(void)
             lists(&images[i]);
             lent_length = images[i].length;
             exports(&images[i]);
+            flattenings(&images[i]);
         }
     }
     printf("guard: %lu calls, no fault\n", calls);
