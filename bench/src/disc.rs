@@ -57,7 +57,7 @@ impl Pointer {
 
 /// An opened image: its index's entries, and its table's entries and shift.
 pub struct Disc<'a> {
-    image: &'a [u8],
+    pub image: &'a [u8],
     entries: &'a [u8],
     table: &'a [u8],
     shift: u32,
@@ -132,7 +132,8 @@ fn payload(image: &[u8], block: u64) -> Result<&[u8], Refused> {
     part(image, block + 36, length).ok_or(23)
 }
 
-fn is_damaged(image: &[u8], block: u64) -> bool {
+/// Whether a block's checksum is wrong.
+pub fn is_damaged(image: &[u8], block: u64) -> bool {
     let at = block as usize;
     payload(image, block).is_ok_and(|p| {
         let sum = checksum(p);
@@ -175,14 +176,14 @@ impl<'a> Disc<'a> {
         self.table.chunks_exact(8).map(|entry| self.pointer(entry))
     }
 
-    fn blocks(&self) -> impl Iterator<Item = u64> + '_ {
+    pub fn blocks(&self) -> impl Iterator<Item = u64> + '_ {
         let entries = self.entries.chunks_exact(16);
         let blocks = entries.filter(|entry| is_user_data(entry, b"DBLK"));
         blocks.map(|entry| get::<8>(entry, 8))
     }
 
     /// Checks 22 to 26. Of the block that is known only the item's number is looked at.
-    fn check_form(&self, p: Pointer, known: Option<u64>) -> Result<(), Refused> {
+    pub fn check_form(&self, p: Pointer, known: Option<u64>) -> Result<(), Refused> {
         if known != Some(p.block) {
             refuse_if(self.blocks().all(|b| b != p.block), 22)?;
             payload(self.image, p.block)?;
@@ -233,6 +234,17 @@ impl<'a> Disc<'a> {
         &self.image[start..start + size as usize]
     }
 
+    /// The sector at an address of a checked disc whose sectors all have this size.
+    #[inline]
+    pub fn sector_of_size(&self, address: usize, size: usize) -> Option<&'a [u8]> {
+        let entry = get::<8>(self.table.get(8 * address..8 * address + 8)?, 0);
+        if entry == 0 {
+            return None;
+        }
+        let start = (entry >> self.shift) as usize + 36 + (entry & ((1 << self.shift) - 1)) as usize * size;
+        self.image.get(start..start + size)
+    }
+
     /// The old index entries that a commit keeps.
     fn kept(&self) -> impl Iterator<Item = &'a [u8]> {
         let entries = self.entries.chunks_exact(16);
@@ -261,7 +273,8 @@ impl<'a> Disc<'a> {
     }
 }
 
-fn put_entry(s: &mut [u8], at: usize, kind: &[u8; 4], offset: u64) {
+/// Writes an index entry of user data.
+pub fn put_entry(s: &mut [u8], at: usize, kind: &[u8; 4], offset: u64) {
     s[at..at + 4].copy_from_slice(kind);
     put::<4>(s, at + 4, 1);
     put::<8>(s, at + 8, offset);
@@ -298,7 +311,8 @@ pub fn seal_table(table: &mut [u8], shift: u32) {
     put::<8>(header, 41, sum);
 }
 
-fn seal_index(index: &mut [u8]) {
+/// Writes an index's header before its entries.
+pub fn seal_index(index: &mut [u8]) {
     let (header, entries) = index.split_at_mut(20);
     header[..4].copy_from_slice(b"IDX2");
     put::<8>(header, 4, entries.len() as u64 / 16);

@@ -4,6 +4,8 @@ mod commit; // committing in Rust
 mod committing; // creating and committing, measured
 mod disc; // an image in Rust
 mod flat; // flat files in and out, measured
+mod flatten; // flattening in Rust
+mod flattening; // flattening, measured
 mod kinds; // opening and reading the two kinds of table, measured
 mod reading; // opening and reading, measured
 mod rust; // checksums in Rust
@@ -36,4 +38,5 @@ fn main() {
     kinds::measure(&mut random);
     committing::measure(&mut random);
     flat::measure(&mut random);
+    flattening::measure(&mut random);
 }
