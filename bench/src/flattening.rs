@@ -145,8 +145,8 @@ pub fn measure(random: &mut Random) {
         check_small(random);
     }
     println!(
-        "\nFlattening a child of {SECTORS} sectors over its parent, of which all are written; {CHANGED} or none written on \
-         the child; no two equal, or {DIFFERENT} different ones on the parent; median of {REPETITIONS}:"
+        "\nFlattening a child of {SECTORS} sectors, {CHANGED} or none of them written, over a parent with all of them; \
+         no two equal, or {DIFFERENT} different ones on the parent; median of {REPETITIONS}:"
     );
     let columns = [
         ("512 bytes", Input::new(random, 512, CHANGED, SECTORS)),

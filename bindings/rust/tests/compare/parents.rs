@@ -6,7 +6,7 @@
 
 use crate::arguments::{self, outside, telling_addresses, SIZES};
 use crate::exports::{edited, other_size, without, Read};
-use crate::faults::{clash, edit_image, of_opening, of_reading, read_addresses};
+use crate::faults::{clash, edit_image, of_opening, of_reading, read_addresses, table_count};
 use crate::faults::{
     Edit::{self, *},
     Fault,
@@ -54,7 +54,7 @@ fn any_kind(random: &mut Random) -> Kind {
     random.pick(&[Kind::Old, Kind::Second])
 }
 
-/// Of no sectors at times.
+/// An image that opens, at times of no sectors.
 fn any_image(kind: Kind, number: usize, random: &mut Random) -> Vec<u8> {
     let any = |random: &mut Random| Description::random(kind, random);
     match number % 5 {
@@ -64,7 +64,7 @@ fn any_image(kind: Kind, number: usize, random: &mut Random) -> Vec<u8> {
     }
 }
 
-/// An even image of so many sectors of a size, with gaps.
+/// An even image of so many sectors of a size.
 fn even(kind: Kind, size: usize, count: usize, random: &mut Random) -> Vec<u8> {
     let mut others = SIZES.to_vec();
     others.retain(|&other| other != size);
@@ -93,7 +93,7 @@ fn even_pair(kind: Kind, random: &mut Random) -> (Vec<u8>, Vec<u8>) {
     (with_gaps(&child, random), with_gaps(&parent, random))
 }
 
-/// All addresses that one of the images has, and some that it does not have.
+/// All addresses that an image has, and some at both ends and beyond.
 fn addresses(image: &[u8], random: &mut Random) -> Vec<i64> {
     let all = Layout::of(image).addresses();
     let telling = telling_addresses(&all);
@@ -140,13 +140,17 @@ fn read(child: &[u8], parent: &[u8], address: i64) -> Read {
     aaru::read_over(child, parent, address).map(|layered| layered.sector().bytes.to_vec())
 }
 
-/// Flattens into buffers of several lengths.
-fn flatten(sides: &mut Sides, child: &[u8], parent: &Parent, random: &mut Random) {
-    let flatten = Flatten {
+fn flattening(child: &[u8], parent: &Parent, random: &mut Random) -> Flatten {
+    Flatten {
         child: child.to_vec(),
         parent: parent.clone(),
         about: arguments::about(random),
-    };
+    }
+}
+
+/// Flattens into buffers of several lengths.
+fn flatten(sides: &mut Sides, child: &[u8], parent: &Parent, random: &mut Random) {
+    let flatten = flattening(child, parent, random);
     let _ = in_every_buffer(sides, flatten, random);
 }
 
@@ -333,19 +337,14 @@ fn history(sides: &mut Sides, random: &mut Random) {
 /// At times a commit of sectors that stand on the parent, where they are not searched for.
 fn as_the_parent(mut commit: Commit, parent: &[u8], random: &mut Random) -> Commit {
     let all = Layout::of(parent).addresses();
-    let sector = all.filter_map(|address| aaru::read(parent, address).ok());
-    let sectors: Vec<&[u8]> = sector.map(|sector| sector.bytes).collect();
+    let sectors = all.filter_map(|address| aaru::read(parent, address).ok());
+    let sectors: Vec<&[u8]> = sectors.map(|sector| sector.bytes).collect();
     if sectors.is_empty() || random.once_in(2) {
         return commit;
     }
     let sector = random.pick(&sectors);
     commit.size = sector.len() as u64;
-    commit.sectors = commit
-        .addresses
-        .iter()
-        .flat_map(|_| sector)
-        .copied()
-        .collect();
+    commit.sectors = sector.repeat(commit.addresses.len());
     commit
 }
 
@@ -389,12 +388,8 @@ fn cut_everywhere(sides: &mut Sides, random: &mut Random) {
             let address = random.below(all.end as usize + 1) as i64;
             sides.compare(child, child.len() as u64, &over(&parent, address));
         }
-        let flatten = Flatten {
-            child: child.to_vec(),
-            parent,
-            about: arguments::about(random),
-        };
-        sides.compare(&random.bytes(400), 0, &Call::Flatten(flatten));
+        let call = Call::Flatten(flattening(child, &parent, random));
+        sides.compare(&random.bytes(400), 0, &call);
     };
     for length in 0..=parent.len() {
         cut(sides, &child, &parent[..length]);
@@ -429,12 +424,8 @@ fn every_field(sides: &mut Sides, random: &mut Random) {
             sides.compare(&child, child.len() as u64, &over(&damaged, address));
         }
         if random.once_in(4) {
-            let flatten = Flatten {
-                child: child.clone(),
-                parent: damaged,
-                about: arguments::about(random),
-            };
-            sides.compare(&random.bytes(600), 0, &Call::Flatten(flatten));
+            let call = Call::Flatten(flattening(&child, &damaged, random));
+            sides.compare(&random.bytes(600), 0, &call);
         }
     }
 }
@@ -561,13 +552,8 @@ fn run_input(sides: &mut Sides, input: &Input, flattens: bool, random: &mut Rand
         let used = input.child.len() as u64;
         return sides.run(&input.child, used, &over(&parent, input.address));
     }
-    let mut about = arguments::about(random);
-    about.application.resize(input.application, 7);
-    let flatten = Flatten {
-        child: input.child.clone(),
-        parent,
-        about,
-    };
+    let mut flatten = flattening(&input.child, &parent, random);
+    flatten.about.application.resize(input.application, 7);
     sides.run(&random.bytes(input.room), 0, &Call::Flatten(flatten))
 }
 
@@ -631,7 +617,7 @@ fn changes_of_flattening(base: &Input, hidden: i64, random: &mut Random) -> Vec<
     changes.push(Change::Parent(vec![other_size(&base.parent, through)]));
     if child.kind == Kind::Old {
         // No sectors, so that there is nothing to flatten.
-        changes.push(Change::Child(crate::faults::table_count(&child, 0)));
+        changes.push(Change::Child(table_count(&child, 0)));
     }
     changes.extend([0, 63, 65].map(Change::Application));
     let needed = CREATED + 8 * child.count;
