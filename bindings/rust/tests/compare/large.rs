@@ -1,7 +1,7 @@
 //! A few large inputs, at the limits of what a call takes.
 
 use crate::arguments::{self, telling_addresses, with_room};
-use crate::exports::{in_every_room, without};
+use crate::exports::{edited, in_every_room, other_size, without};
 use crate::faults::{edit_image, table_blocks, Edit::Field};
 use crate::images::Description;
 use crate::imports;
@@ -304,22 +304,30 @@ fn most_flattened(sides: &mut Sides, random: &mut Random) {
     }
 }
 
-/// A child of the most sectors that are created, few of them written, and of one more.
+/// A child of the most sectors that are created, none of them written, and of one more; what else
+/// refuses the latter comes first.
 fn most_sectors_flattened(sides: &mut Sides, random: &mut Random) {
     let most = 1_048_576;
-    let parent = Parent::Other(Description::even(Kind::Old, random).build(random));
+    let even = Description::even(Kind::Old, random).build(random);
+    let parent = Parent::Other(even.clone());
     let buffer = random.bytes(CREATED + 16 * most + 1000);
     for count in [most, most + 1] {
-        let child = Description::even(Kind::Old, random)
-            .with_count(count)
-            .build(random);
+        let child = Description::even(Kind::Old, random).with_count(count);
+        let child = child.build(random);
         let every: Vec<usize> = (0..count).collect();
-        let call = flattening(&without(&child, &every, random), parent.clone(), random);
+        let empty = without(&child, &every, random);
+        let call = flattening(&empty, parent.clone(), random);
         let answer = sides.run(&buffer, 0, &call);
-        match count == most {
-            true => assert!(answer.is_ok()),
-            false => assert_eq!(answer, refused(30)),
+        if count == most {
+            assert!(answer.is_ok());
+            continue;
         }
+        assert_eq!(answer, refused(30));
+        let mixed = edited(&even, &[other_size(&even, 1)]);
+        let call = flattening(&empty, Parent::Other(mixed), random);
+        assert_eq!(sides.run(&buffer, 0, &call), refused(40));
+        let call = flattening(&empty, Parent::Other(Vec::new()), random);
+        assert_eq!(sides.run(&buffer, 0, &call), refused(101));
     }
 }
 

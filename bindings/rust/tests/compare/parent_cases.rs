@@ -447,6 +447,15 @@ fn child_of_no_sectors() {
     // The parent is looked at nowhere.
     assert_eq!(flatten(&child, b""), Err((30, 0)));
     assert_eq!(flatten_into(0, &flattening(&child, b"")), Err((30, 0)));
+    // Of the second kind it is refused before.
+    let mut child = second();
+    let layout = Layout::of(&child);
+    for at in [42, 50, 58] {
+        put(&mut child, layout.table + at, 8, 0);
+    }
+    layout.make_right(&mut child);
+    assert_eq!(read(&child, &factory(), 0), Err((20, 0)));
+    assert_eq!(flatten(&child, &factory()), Err((74, 0)));
 }
 
 /// 33 comes before the child's opening, and after nothing but 31.
