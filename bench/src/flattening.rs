@@ -1,4 +1,4 @@
-//! Measures flattening beside the same in Rust. First checks that all leave the same bytes and the same `used`.
+//! Measures flattening beside the same in Rust. First checks that all answer the same and leave the same bytes.
 use crate::commit::{map, Commit};
 use crate::flatten::{self, Flatten};
 use crate::{disc, median, Random};
@@ -14,17 +14,17 @@ const DIFFERENT: usize = 256;
 const BLOCKS: usize = 8;
 const REPETITIONS: usize = 7;
 
-/// Each answers the new `used`, and 0 for a refusal.
-type Form = (&'static str, fn(&mut [u8], &Flatten) -> u64);
+/// Each answers the new `used`, or the number that refuses.
+type Form = (&'static str, fn(&mut [u8], &Flatten) -> Result<u64, u32>);
 
 const FORMS: [Form; 4] = [
     ("ours", ours),
-    ("Rust, one search", |b, f| flatten::once(b, f).unwrap_or(0)),
-    ("Rust, two searches", |b, f| flatten::twice(b, f).unwrap_or(0)),
-    ("Rust, free to allocate", |b, f| flatten::map(b, f).unwrap_or(0)),
+    ("Rust, one search", flatten::once),
+    ("Rust, two searches", flatten::twice),
+    ("Rust, free to allocate", flatten::map),
 ];
 
-fn ours(b: &mut [u8], f: &Flatten) -> u64 {
+fn ours(b: &mut [u8], f: &Flatten) -> Result<u64, u32> {
     let about = Flattening {
         child: f.child,
         parent: f.parent,
@@ -35,22 +35,23 @@ fn ours(b: &mut [u8], f: &Flatten) -> u64 {
         created: f.time,
         written: f.time,
     };
-    aaru::flatten(b, &about).map_or(0, |p| p.used)
+    let placed = aaru::flatten(b, &about);
+    placed.map(|p| p.used).map_err(|refusal| refusal.number)
 }
 
-/// All forms, each on a copy of the buffer, leave the same; answers `used`.
-fn check(buffer: &[u8], f: &Flatten) -> u64 {
+/// All forms, each on a copy of the buffer, answer and leave the same.
+fn check(buffer: &[u8], f: &Flatten) -> Result<u64, u32> {
     let mut left = FORMS.iter().map(|(name, form)| {
         let mut b = buffer.to_vec();
-        let used = form(&mut b, f);
-        (name, b, used)
+        let answer = form(&mut b, f);
+        (name, b, answer)
     });
-    let (_, ours, used) = left.next().unwrap();
-    for (name, other, other_used) in left {
-        assert_eq!(used, other_used, "{name}: used");
+    let (_, ours, answer) = left.next().unwrap();
+    for (name, other, others_answer) in left {
+        assert_eq!(answer, others_answer, "{name}: answer");
         assert!(ours == other, "{name}: bytes");
     }
-    used
+    answer
 }
 
 /// A disc of so many sectors, with sectors of a size at these addresses, in so many commits.
@@ -94,7 +95,7 @@ fn check_small(random: &mut Random) {
         time: TIME,
     };
     let room = 200 + random.next() as usize % 400;
-    check(&vec![7; room], &f);
+    let _ = check(&vec![7; room], &f);
 }
 
 /// A child of which `changed` sectors are written, over a parent of which all are; no two are equal but those of one
@@ -127,12 +128,12 @@ impl Input {
             time: TIME,
         };
         let mut buffer = vec![0; SECTORS * self.size + 16 * SECTORS + 1000];
-        assert_ne!(check(&buffer, &f), 0, "accepted");
+        check(&buffer, &f).expect("accepted");
         let mut times = vec![Vec::new(); FORMS.len()];
         for _ in 0..REPETITIONS {
             for ((_, form), times) in FORMS.iter().zip(&mut times) {
                 let clock = Instant::now();
-                black_box(form(black_box(&mut buffer), &f));
+                let _ = black_box(form(black_box(&mut buffer), &f));
                 times.push(clock.elapsed().as_secs_f64() * 1e3);
             }
         }
