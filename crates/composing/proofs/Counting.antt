@@ -1,6 +1,6 @@
 -- Counting the sectors that are stored: each that equals none before it.
-use mathlib.Core.List.{List, [], _∷_, _++_}
-use mathlib.Core.Logic.{_≢_, _⊎_, inl, inr, ⊎-elim, ⊎-map, _↔_}
+use mathlib.Core.List.{List, [], _∷_}
+use mathlib.Core.Logic.{_≢_, inl, inr, ⊎-elim, ⊎-map, _↔_}
 use mathlib.Core.Option.{Option, none, some}
 use mathlib.Core.Path.{_≡_, refl, sym, ap, _∙_}
 use Prim.Native.Nat.{ℕ, zero, suc, _+_, _<_}
@@ -42,7 +42,7 @@ module _ (block : ℕ) (st : List (List ℕ)) (d : List ℕ) where
 
 module _ (f : ℕ → List ℕ) where
   -- those handed in are the f m that are there
-  handed-has : (k m : ℕ) → m < k → length (f m) ≢ 0 → Among (handed f k) (f m)
+  pub handed-has : (k m : ℕ) → m < k → length (f m) ≢ 0 → Among (handed f k) (f m)
   handed-has zero m l h = absurd (omega arith)
   handed-has (suc k) m l h =
       ⊎-elim

@@ -33,7 +33,7 @@ use Rattle.storing.proofs.Pieces.{most-items}
 use Rattle.storing.proofs.Steps.{add-again, add-new}
 use Rattle.composing.specs.declared.Layout.{Layout}
 use Rattle.composing.specs.Composes.{handed, storedOf, pointerOf, pointersOf, appendedOf, layoutOf, filled, composedIn, Lays, Plan, Fits}
-use Rattle.composing.proofs.Handed.{some-or-none, pointer-some, pointer-none, stepOf, items-some, items-none, items-sized, pointers-length}
+use Rattle.composing.proofs.Handed.{some-or-none, pointer-some, pointer-none, items-some, items-none, items-sized, pointers-length}
 
 -- ---- the largest item number is that of the last stored sector
 largest-more : (ps : List (Option Pointer)) (p : Option Pointer) → largestItem (ps ++ (p ∷ [])) ≡ max (largestItem ps) (itemOrZero p)

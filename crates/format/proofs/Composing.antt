@@ -3,6 +3,7 @@
 use mathlib.Core.Bool.{true, false}
 use mathlib.Core.List.{List, [], _∷_, _++_, map}
 use mathlib.Core.Logic.{_≢_, ⊎-elim}
+use mathlib.Core.Option.{none}
 use mathlib.Core.Path.{_≡_, refl, sym, ap, _∙_, subst}
 use Prim.Native.Nat.{ℕ, _+_, _*_, _≤_, _<_}
 use native.Mathlib.Nat.{zero-add}
@@ -23,11 +24,11 @@ use Rattle.format.specs.Opening.{Opened, opened}
 use Rattle.format.specs.Reading.{displaced, outside, entryNumber, readAt, read}
 use Rattle.format.specs.Writing.{mostSectors, largestSize, mostAddresses, longestBuffer, Outcome, outcome, placed, setHeader}
 use Rattle.format.specs.Creating.{createdIndexAt, createdUsed, createdEntries, createdBytes, createVerdict, create}
-use Rattle.format.specs.Committing.{risingBy, rising, anyOutside, entryNumbers, Appended, appended, appendedBytes, indexStart, tableStart, usedAfter, commitVerdict, append, commit}
+use Rattle.format.specs.Committing.{risingBy, rising, anyOutside, entryNumbers, oldPointer, Appended, appended, appendedBytes, indexStart, tableStart, usedAfter, commitVerdict, append, commit}
 use Rattle.format.specs.Importing.{orLeaves, andThen}
 use Rattle.format.specs.Demands.{Held, FreshDisc}
 use Rattle.format.specs.Facts.{ArgumentsOk}
-use Rattle.format.proofs.Tests.{never, on-or-off, below-on, below-true, below-iff, same-iff, differs-iff, or-iff}
+use Rattle.format.proofs.Tests.{never, on-or-off, below-on, below-true, below-iff, same-iff, differs-iff, or-iff, choose-true}
 use Rattle.format.proofs.Refusals.{row-iff, row-refuses, then-rest, answer-accepted}
 use Rattle.format.proofs.Lists.{all-mapped}
 use Rattle.format.proofs.Numbers.{Numbered, inside-number, number-inside, number-is}
@@ -118,6 +119,12 @@ module _ (count : ℕ) (application : List ℕ) (major minor mediaType creationT
     made-fresh = fresh count application major minor mediaType creationTime lastWrittenTime sized made h most
 
     -- no sector of it is written
+    pub made-unwritten : (a : ℕ) → a < count → oldPointer made (opened made (createdIndexAt count)) a ≡ none
+    unfolding oldPointer
+    made-unwritten a l =
+        rw made-opened
+        (choose-true _ _ _ (nothing-written count application major minor mediaType creationTime lastWrittenTime sized made h most a l))
+
     pub made-empty : (d : List ℕ) → ¬ Held made d
     unfolding read readAt
     made-empty d held =

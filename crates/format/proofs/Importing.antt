@@ -32,7 +32,7 @@ use Rattle.format.proofs.Checks.{facts, open-ok, first-flat, Sound}
 use Rattle.format.proofs.Buffers.{outcome-accepted, outcome-accepts, outcome-refused, outcome-refuses, outcome-new}
 use Rattle.format.proofs.Committed.{Committed}
 use Rattle.format.proofs.Created.{Started}
-use Rattle.format.proofs.Composing.{checked-then, made, Composable, composedUsed, composedIndex, composedBuffer, composedImage, roomVerdict, composed-is, buffer-front, committed, composed-started, composed-count}
+use Rattle.format.proofs.Composing.{checked-then, made, Composable, composedUsed, composedIndex, composedBuffer, composedImage, roomVerdict, composed, composed-is, buffer-front, committed, composed-started, composed-count}
 
 -- ---- its own checks
 pub record Importable (buffer file : List ℕ) (size : ℕ) (application : List ℕ) : Type 0 where
@@ -144,6 +144,14 @@ module _ (buffer file : List ℕ) (size : ℕ) (application : List ℕ) (major m
       let made = create buffer count application major minor mediaType creationTime lastWrittenTime in
       ap (λ (l : List ℤ). andThen buffer (made .result) (λ p. commit (made .buffer) (p .used) l size file lastWrittenTime)) (sym (addresses-each count 0))
       ∙ composed-is _ _ _ _ _ _ _ _ _ _ _ (composable (importable buffer file size application .0 e)))
+
+  -- where its own checks pass it is the two calls
+  pub import-composed : Importable buffer file size application
+      → import buffer file size application major minor mediaType creationTime lastWrittenTime
+      ≡ composed buffer count (numbersOf count) size file application major minor mediaType creationTime lastWrittenTime
+  import-composed k =
+      import-is ∙ ap (λ (v : Verdict). outcome buffer v (placed importedUsed importedIndex) importedBuffer) (then-rest _ _ (importable buffer file size application .1 k))
+      ∙ sym (composed-is _ _ _ _ _ _ _ _ _ _ _ (composable k))
 
   -- ---- the image stands at the front of the buffer, and of the buffer only the length is looked at
   pub verdict-ok : (wholeVerdict ≡ Passes) ↔ (Importable buffer file size application × (importedUsed ≤ length buffer))

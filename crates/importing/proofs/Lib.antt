@@ -1,4 +1,1 @@
-mod Counting
-mod Entries
-mod Laid
-mod New
+mod File

@@ -4,44 +4,50 @@ use mathlib.Core.Path.{sym, ap, _∙_, _≡_}
 use Prim.Native.Nat.{ℕ, _-_, _≤_}
 use denote.Ref.{now}
 use lib.ListN.{length}
-use Rattle.search.proofs.Stored.{room}
-use Rattle.importing.specs.Imports.{storedOf}
-use Rattle.importing.proofs.Counting.{items-few, Counting, counting-starts, counting-new, counting-old}
+use Rattle.planning.specs.Plans.{sectorOf}
+use Rattle.composing.specs.Composes.{storedOf}
+use Rattle.composing.proofs.Handed.{items-few}
+use Rattle.composing.proofs.Counting.{counting-starts}
+use Rattle.importing.proofs.File.{sector-inside, file-new, file-old}
 use Rattle.importing.proofs.count_stored.Statement.{statement}
 use Rattle.importing.proofs.count_stored.Tie as tie
 
 abbrev Inv-loop : tie.InvT-loop
-Inv-loop file count size stored₀ k₀ stored k = (k ≤ count) × ((block : ℕ) → Counting block file size k stored)
+Inv-loop file count size stored₀ k₀ stored k = (k ≤ count) × ((block : ℕ) → stored ≡ length (storedOf block (sectorOf size file) k .items))
 
 abbrev μ-loop : tie.MeasureT-loop
 μ-loop file count size stored₀ k₀ stored k = count - k
 
 loop-holds : tie.Need-loop-holds Inv-loop μ-loop
-loop-holds c = (omega arith, λ block. counting-starts block _ _)
+loop-holds c = (omega arith, λ block. counting-starts block _)
 
 is-new-requires : tie.Need-is-new-requires Inv-loop μ-loop
-is-new-requires c κs =
-    let s = c .before .before .before in
-    omega (arith, room (s .args .size) (c .loop-test .taken), s .pre .whole)
+is-new-requires c κs = sector-inside (c .before .before .before .pre) (c .loop-test .taken)
 
 add-stored : tie.Need-add-stored Inv-loop μ-loop
 add-stored c =
     let d = c .before .before .before in
     let s = d .before .before in
-    omega (arith, d .loop .inv .1 0 .count, items-few 0 (now (s .args .file)) (s .args .size) (d .loop .k), s .pre .few)
+    omega (arith, d .loop .inv .1 0, items-few 0 (sectorOf (s .args .size) (now (s .args .file))) (d .loop .k), s .pre .few)
 
 loop-again : tie.Need-loop-again Inv-loop μ-loop
-loop-again c = (omega arith, λ block. counting-new (c .before .before .before .loop .inv .1 block) (sym (c .if1 .taken) ∙ c .before .is-new .ensures))
+loop-again c =
+    let t = c .before .before in
+    let d = t .before in
+    (omega arith, λ block. file-new (d .before .before .pre) block _ (t .loop-test .taken) (d .loop .inv .1 block) (sym (c .if1 .taken) ∙ c .before .is-new .ensures))
 
 loop-again-2 : tie.Need-loop-again-2 Inv-loop μ-loop
-loop-again-2 c = (omega arith, λ block. counting-old (c .before .before .before .loop .inv .1 block) (sym (c .if1 .left) ∙ c .before .is-new .ensures))
+loop-again-2 c =
+    let t = c .before .before in
+    let d = t .before in
+    (omega arith, λ block. file-old (d .before .before .pre) block _ (t .loop-test .taken) (d .loop .inv .1 block) (sym (c .if1 .left) ∙ c .before .is-new .ensures))
 
 returns : tie.Need-returns Inv-loop μ-loop
 returns c block =
     let d = c .before in
     let s = d .before .before in
     let e : d .loop .k ≡ s .args .count = omega arith in
-    d .loop .inv .1 block .count ∙ ap (λ n. length (storedOf block (now (s .args .file)) (s .args .size) n .items)) e
+    d .loop .inv .1 block ∙ ap (λ n. length (storedOf block (sectorOf (s .args .size) (now (s .args .file))) n .items)) e
 
 pub count-stored-spec : {M : Type 1} → statement M
 count-stored-spec =

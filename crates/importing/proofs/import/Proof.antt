@@ -8,9 +8,12 @@ use lib.ListN.{length}
 use Rattle.format.specs.Answers.{updated}
 use Rattle.format.proofs.Chains.{by, stops}
 use Rattle.format.proofs.Answers.{outcome-stops}
-use Rattle.format.proofs.Importing.{Importable, importable, file-few, import-is}
-use Rattle.importing.specs.Imports.{Plan}
-use Rattle.importing.proofs.New.{import-files, import-few, import-plan, image-fits, import-fits, import-full, import-done}
+use Rattle.format.proofs.Importing.{Importable, importable, composable, import-is, import-composed}
+use Rattle.planning.specs.Plans.{sectorOf}
+use Rattle.composing.specs.Composes.{Plan, Fits}
+use Rattle.composing.proofs.Laid.{image-fits, fits-lays}
+use Rattle.composing.proofs.New.{composed-full, composed-fits, composed-done}
+use Rattle.importing.proofs.File.{import-files, import-hands, import-lays, import-plan}
 use Rattle.importing.proofs.import.Statement.{statement}
 use Rattle.importing.proofs.import.Tie as tie
 
@@ -29,13 +32,11 @@ count-stored-requires : tie.Need-count-stored-requires
 count-stored-requires c κs = import-files (ok c)
 
 lay-out-requires : tie.Need-lay-out-requires
-lay-out-requires c κs =
-    let k = ok (c .before) in
-    (file-few k, k .small, import-few k (c .count-stored .ensures 0))
+lay-out-requires c κs = import-lays (ok (c .before)) (c .count-stored .ensures 0)
 
 -- and this is the plan
 planned : (c : tie.After-lay-out)
-    → (let a = c .before .before .before .before .before .before .before .before .before .args in Plan (now (a .file)) (length (now (a .file)) / a .size) (a .size) (c .before .count-stored .result) (c .lay-out .result))
+    → (let a = c .before .before .before .before .before .before .before .before .before .args in Plan (sectorOf (a .size) (now (a .file))) (length (now (a .file)) / a .size) (a .size) (c .before .count-stored .result) (c .lay-out .result))
 planned c = import-plan (ok (c .before .before)) (c .before .count-stored .ensures _) (c .lay-out .ensures)
 
 -- in what follows d is the place after `lay_out`
@@ -43,23 +44,42 @@ returns-2 : tie.Need-returns-2
 unfolding updated
 returns-2 c =
     let d = c .before .before in
-    import-full _ _ _ _ _ _ _ _ _ (ok (d .before .before)) (planned d) (omega arith)
+    let k = ok (d .before .before) in
+    composed-full _ _ _ _ _ _ _ _ _ _ _ (composable k) (import-hands k) (planned d) (omega arith) ∙ sym (import-composed _ _ _ _ _ _ _ _ _ k)
 
 put-image-requires : tie.Need-put-image-requires
 put-image-requires c κs =
     let d = c .before .before .before in
     (image-fits (planned d) (omega arith), ok (d .before .before) .sized)
 
-put-all-requires : tie.Need-put-all-requires
-put-all-requires c κs =
-    let d = c .before .before .before .before .before .before .before in
-    import-fits _ _ _ _ _ _ _ _ _ (ok (d .before .before)) (planned d) (omega arith) (c .before .before .before .put-image .ensures)
+-- there is room behind the new image
+fits : (c : tie.After-put-image)
+    → (let a = c .before .before .before .before .before .before .before .before .before .before .before .before .before .args in
+    Fits (c .put-image .last .0) (sectorOf (a .size) (now (a .file))) (length (now (a .file)) / a .size) (a .size) (c .before .before .before .before .before .count-stored .result) (c .before .before .before .before .lay-out .result))
+fits c =
+    let d = c .before .before .before .before in
+    let k = ok (d .before .before) in
+    composed-fits _ _ _ _ _ _ _ _ _ _ _ (composable k) (import-hands k) (planned d) (omega arith) (c .put-image .ensures)
+
+put-entries-requires : tie.Need-put-entries-requires
+put-entries-requires c κs =
+    let i = c .before .before .before in
+    (import-files (ok (i .before .before .before .before .before .before)), fits-lays (fits i))
+
+finish-requires : tie.Need-finish-requires
+finish-requires c κs =
+    let i = c .before .before .before .before .before .before .before in
+    record { before = _; f = _; fits = fits i; is = c .before .before .before .put-entries .ensures }
 
 returns-3 : tie.Need-returns-3
 unfolding updated
 returns-3 c =
-    let d = c .before .before .before .before .before .before .before .before .before .before in
-    import-done _ _ _ _ _ _ _ _ _ (ok (d .before .before)) (planned d) (omega arith) (c .before .before .before .before .before .before .put-image .ensures) (c .before .before .put-all .ensures)
+    let i = c .before .before .before .before .before .before .before .before .before .before in
+    let d = i .before .before .before .before in
+    let k = ok (d .before .before) in
+    composed-done _ _ _ _ _ _ _ _ _ _ _ (composable k) (import-hands k) (planned d) (omega arith) (i .put-image .ensures)
+    (c .before .before .finish .ensures _ _ (fits i) (c .before .before .before .before .before .before .put-entries .ensures))
+    ∙ sym (import-composed _ _ _ _ _ _ _ _ _ k)
 
 pub import-spec : {M : Type 1} → statement M
 import-spec =
@@ -76,6 +96,7 @@ import-spec =
     (λ c. search needs)
     returns-2
     put-image-requires
-    put-all-requires
+    put-entries-requires
+    finish-requires
     (λ c. search needs)
     returns-3)
