@@ -1,5 +1,5 @@
 // Internal: the checks of a call's arguments, before an image is looked at: 30 to 34 of document 01, all of creating's, 35 included, and
-// 4/13's of an import, 42 among them.
+// 4/13's of an import, 42 among them, and 8/13's of a flattening.
 ghost use mathlib.Core.Path.{_≡_};
 ghost use Prim.Native.Nat.{_*_};
 ghost use lib.ListN.{length};
@@ -9,6 +9,7 @@ ghost use Rattle.format.specs.Writing.{mostSectors, largestSize, mostAddresses,
 ghost use Rattle.format.specs.Creating.{createVerdict};
 ghost use Rattle.format.specs.Committing.{rising, argumentsVerdict};
 ghost use Rattle.format.specs.Importing.{importVerdict};
+ghost use Rattle.format.specs.Flattening.{lentVerdict};
 use format::APPLICATION_LENGTH;
 use format::ByteOffset;
 use format::CREATED_ENTRIES;
@@ -161,6 +162,20 @@ pub fn import_verdict(buffer: &[u8], file: &[u8], size: u64, application: &[u8])
     }
     if length % size != 0 {
         return Verdict::Refuses(Refusal { number: 42, place });
+    }
+    if name_refused(application) {
+        return Verdict::Refuses(Refusal { number: 33, place });
+    }
+    Verdict::Passes
+}
+
+// The buffer and the application's name of a flattening: 31, 33.
+pub fn lent_verdict(buffer: &[u8], application: &[u8]) -> Verdict
+    ensures { λ r. ⌜ r ≡ lentVerdict (now (buffer .entry)) (now (application .entry)) ⌝ }
+{
+    let place = ByteOffset(0);
+    if LONGEST_BUFFER < buffer.len() as u64 {
+        return Verdict::Refuses(Refusal { number: 31, place });
     }
     if name_refused(application) {
         return Verdict::Refuses(Refusal { number: 33, place });

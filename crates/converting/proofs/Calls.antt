@@ -16,6 +16,7 @@ use Rattle.format.specs.Importing.{import}
 use Rattle.format.specs.Demands.{openingNumber, exportingNumber, importingNumber}
 use Rattle.format.proofs.Buffers.{outcome-refuses}
 use Rattle.format.proofs.Exporting as exporting
+use Rattle.format.proofs.Composing.{image-length}
 use Rattle.format.proofs.Importing as importing
 use Rattle.format.proofs.Refusing.{demand-1-refusals}
 use Rattle.text.specs.Text.{TOO-LONG, NEWLINE, longestInput}
@@ -67,10 +68,10 @@ import-fills file size application major minor mediaType creationTime lastWritte
           (importing.verdict-alike b (replicate (length b) 0) file size application major minor mediaType creationTime lastWrittenTime (sym (blank-long (length b))));
       sized = λ n v.
           let k = importing.verdict-ok (replicate n 0) file size application major minor mediaType creationTime lastWrittenTime .0 v in
-          sym (importing.image-length (replicate n 0) file size application major minor mediaType creationTime lastWrittenTime (k .0));
+          sym (image-length _ _ _ _ _ _ _ _ _ _ _ (importing.composable (k .0)));
       room = λ n v.
           let k = importing.verdict-ok (replicate n 0) file size application major minor mediaType creationTime lastWrittenTime .0 v in
-          rw (importing.image-length (replicate n 0) file size application major minor mediaType creationTime lastWrittenTime (k .0)) (rw blank-long at (k .1));
+          rw (image-length _ _ _ _ _ _ _ _ _ _ _ (importing.composable (k .0))) (rw blank-long at (k .1));
       few = λ n r v.
           importing-small _ (demand-1-refusals .importing (replicate n 0) file size application major minor mediaType creationTime lastWrittenTime r
           (ap (λ (w : Outcome Placed). w .result) (importing.import-is (replicate n 0) file size application major minor mediaType creationTime lastWrittenTime) ∙ outcome-refuses _ _ _ _ r .1 v) .0);

@@ -29,9 +29,9 @@ use Rattle.format.specs.Flattening.{countOf, pairAt, Written, withSector
 use Rattle.format.specs.Histories.{ReadTheSame}
 use Rattle.format.specs.Demands.{Missing, FreshDisc, ReadsCommitted, newImage, PairHas, finished, gap, sector, FlattenOk, RefusedOver, byChild, byNeither, byParent, FlattenReads, FlattenRefused}
 use Rattle.format.specs.Facts.{Stores, all}
-use Rattle.format.proofs.Tests.{on-or-off, never, same-on, same-true, same-iff, below-iff, differs-iff, choose-true, choose-false}
+use Rattle.format.proofs.Tests.{on-or-off, never, same-on, same-true, same-iff, choose-true, choose-false}
 use Rattle.format.proofs.Lists.{Sized, getD-map, all-mapped, all-head, all-tail}
-use Rattle.format.proofs.Refusals.{not-passes, row-iff, then-rest, then-refuses, firstRefusal-at, answer-passes}
+use Rattle.format.proofs.Refusals.{not-passes, then-rest, then-refuses, firstRefusal-at, answer-passes}
 use Rattle.format.proofs.Numbers.{inside-flat, inside-number, number-inside}
 use Rattle.format.proofs.Checks.{open-ok, writable-ok, first-flat, created-index, created-used}
 use Rattle.format.proofs.Opens.{opened-as, writable-with}
@@ -42,7 +42,7 @@ use Rattle.format.proofs.Overlaying.{over-other}
 use Rattle.format.proofs.Overlaid.{over-refused}
 use Rattle.format.proofs.Composing.{numbered, made, made-front, made-fresh, Composable, composed-past, committed}
 use Rattle.format.proofs.Composed.{Storable, composed-stores, composed-ends}
-use Rattle.format.proofs.Flattening.{sectorList, numberList, Flattenable, composable, pieces-are, flatEnd, flatBuffer, flatten-is, verdict-ok, flatten-accepted}
+use Rattle.format.proofs.Flattening.{sectorList, numberList, Flattenable, composable, pieces-are, lent-ok, flatEnd, flatBuffer, flatten-is, verdict-ok, flatten-accepted}
 
 -- ---- an address and its sector among those of the pair
 pub record Found (ws : List Written) (n : ℕ) (d : List ℕ) : Type 0 where
@@ -369,5 +369,4 @@ flatten-refused-by buffer child parent application major minor mediaType creatio
     ap (λ (o : Outcome Placed). o .result) (flatten-is buffer child parent application major minor mediaType creationTime lastWrittenTime)
     ∙ outcome-refuses _ _ _ _ r .1
     (then-refuses _ _ r
-    (then-rest _ _ (row-iff (refusal 31 0) below-iff .1 (a .long)) ∙ then-rest _ _ (row-iff (refusal 33 0) differs-iff .1 (a .named))
-    ∙ then-rest _ _ w ∙ then-refuses _ _ r v))
+    (then-rest _ _ (lent-ok buffer application .1 a) ∙ then-rest _ _ w ∙ then-refuses _ _ r v))

@@ -26,16 +26,17 @@ use Rattle.format.specs.Creating.{createdUsed, createdIndexAt, create}
 use Rattle.format.specs.Committing.{otherThan21, risingBy, pieces, commit}
 use Rattle.format.specs.Importing.{orLeaves, andThen}
 use Rattle.format.specs.Overlaying.{over, discOver, readOver}
-use Rattle.format.specs.Flattening.{countOf, pairAt, Written, withSector, writtenFrom, writtenOf, addressesOf, sizeOf, sectorsOf, anyOther, verdictOf, pairVerdict, sizesVerdict, flattenVerdict, commitAll, flatten}
+use Rattle.format.specs.Flattening.{countOf, pairAt, Written, withSector, writtenFrom, writtenOf, addressesOf, sizeOf, sectorsOf, anyOther, verdictOf, pairVerdict, sizesVerdict, lentVerdict, flattenVerdict, commitAll, flatten}
+use Rattle.format.specs.Facts.{FlattenArguments}
 use Rattle.format.proofs.Tests.{on-or-off, below-true, below-iff, same-on, same-iff, differs-iff, or-iff, and-true, choose-false}
 use Rattle.format.proofs.Lists.{Sized, all-map, all-head, all-tail, length-flatten}
-use Rattle.format.proofs.Refusals.{not-passes, row-iff, then-iff, firstRefusal-iff, firstRefusal-same}
+use Rattle.format.proofs.Refusals.{not-passes, row-iff, then-iff, then-rest, firstRefusal-iff, firstRefusal-same}
 use Rattle.format.proofs.Checks.{facts, WritableOk, writable-ok}
 use Rattle.format.proofs.Buffers.{outcome-accepted, outcome-refused}
 use Rattle.format.proofs.Reading.{demand-2-reading, demand-2-returned}
 use Rattle.format.proofs.Overlaying.{over-accepted, bothBy, read-over}
 use Rattle.format.proofs.Storing.{pieces-flatten}
-use Rattle.format.proofs.Composing.{checked-then, create-last, made, Composable, composedUsed, composedIndex, composedBuffer, composedImage, composed-is, buffer-front, image-length}
+use Rattle.format.proofs.Composing.{checked-then, create-last, made, Composable, composedUsed, composedIndex, composedBuffer, composed, composed-is}
 
 -- ---- the sectors of the pair, and the addresses that have them
 abbrev pub sectorList : List Written → List (List ℕ)
@@ -89,7 +90,7 @@ pair-some child parent n d e =
     ⊎-elim (λ h. demand-2-returned child (pos n) d .1 (demand-2-reading child (pos n) d .0 h) .1) (λ h. demand-2-returned parent (pos n) d .1 (demand-2-reading parent (pos n) d .0 h) .1)
     (over-accepted _ _ d e)
 
-not-empty : (l : List ℕ) → l ≢ [] → length l ≢ 0
+pub not-empty : (l : List ℕ) → l ≢ [] → length l ≢ 0
 not-empty [] h = absurd (h refl)
 not-empty (x ∷ l) h = λ e. absurd (omega arith)
 
@@ -138,17 +139,20 @@ other-iff size (w ∷ ws) =
     let both = or-iff differs-iff (other-iff size ws) in
     (λ h. more (both .0 h .0) (both .0 h .1), λ k. both .1 (all-head k, all-tail k))
 
+pub lent-ok : (buffer application : List ℕ) → (lentVerdict buffer application ≡ Passes) ↔ FlattenArguments buffer application
+unfolding lentVerdict
+lent-ok buffer application = facts (then-iff (row-iff _ below-iff) (row-iff _ differs-iff)) (λ (a, b). record { long = a; named = b }) (λ k. (k .long, k .named))
+
 pub flattenable : (buffer child parent application : List ℕ) → (flattenVerdict buffer child parent application ≡ Passes) ↔ Flattenable buffer child parent application
 unfolding flattenVerdict pairVerdict sizesVerdict
 flattenable buffer child parent application =
     facts
-    (then-iff (row-iff _ below-iff)
-    (then-iff (row-iff _ differs-iff)
+    (then-iff (lent-ok buffer application)
     (then-iff (writable-ok child (indexOffset child))
     (then-iff (firstRefusal-iff (countOf child) _ 0 (omega arith) (λ n h. Iff·rfl))
-    (then-iff (row-iff _ (other-iff _ _)) (row-iff _ (or-iff same-iff (or-iff below-iff (or-iff below-iff below-iff)))))))))
-    (λ (a, (b, (c, (d, (e, (f, (g, (h, i)))))))). record { long = a; named = b; writable = c; sectors = λ n l. d n (omega arith) l; sized = e; counted = f; most = g; small = h; few = i })
-    (λ k. (k .long, (k .named, (k .writable, ((λ n l h. k .sectors n h), (k .sized, (k .counted, (k .most, (k .small, k .few)))))))))
+    (then-iff (row-iff _ (other-iff _ _)) (row-iff _ (or-iff same-iff (or-iff below-iff (or-iff below-iff below-iff))))))))
+    (λ (a, (c, (d, (e, (f, (g, (h, i))))))). record { long = a .long; named = a .named; writable = c; sectors = λ n l. d n (omega arith) l; sized = e; counted = f; most = g; small = h; few = i })
+    (λ k. (record { long = k .long; named = k .named }, (k .writable, ((λ n l h. k .sectors n h), (k .sized, (k .counted, (k .most, (k .small, k .few))))))))
 
 -- where there is a sector, what is left is a creation and a commit (Composing)
 pub composable : {buffer child parent application : List ℕ} → Flattenable buffer child parent application → (w : Written) (ws : List Written) → writtenOf child parent ≡ w ∷ ws
@@ -232,6 +236,27 @@ module _ (buffer child parent application : List ℕ) (major minor mediaType cre
       ≡ outcome buffer wholeVerdict (flatEnd written) (flatBuffer written)
   unfolding flatten
   flatten-is = checked-then buffer _ _ _ _ _ _ (λ e. calls-are (flattenable buffer child parent application .0 e) written refl)
+
+  -- where its own checks pass it is the creation, or both calls
+  pub flatten-calls : Flattenable buffer child parent application
+      → flatten buffer child parent application major minor mediaType creationTime lastWrittenTime ≡ outcome buffer (roomVerdict written) (flatEnd written) (flatBuffer written)
+  flatten-calls k =
+      flatten-is ∙ ap (λ (v : Verdict). outcome buffer v (flatEnd written) (flatBuffer written)) (then-rest _ _ (flattenable buffer child parent application .1 k))
+
+  pub flatten-created : Flattenable buffer child parent application → written ≡ []
+      → flatten buffer child parent application major minor mediaType creationTime lastWrittenTime ≡ create buffer count application major minor mediaType creationTime lastWrittenTime
+  unfolding flatEnd flatBuffer create
+  flatten-created k e =
+      flatten-calls k ∙ ap (λ (ws : List Written). outcome buffer (roomVerdict ws) (flatEnd ws) (flatBuffer ws)) e
+      ∙ ap (λ (v : Verdict). outcome buffer v (placed (createdUsed count) (createdIndexAt count)) (overwrite buffer 0 (made count application major minor mediaType creationTime lastWrittenTime)))
+      (sym (create-last buffer count application (k .long) (k .counted) (k .most) (k .named)))
+
+  pub flatten-composed : (k : Flattenable buffer child parent application) (w : Written) (ws : List Written) → written ≡ w ∷ ws
+      → flatten buffer child parent application major minor mediaType creationTime lastWrittenTime
+      ≡ composed buffer count (numberList (w ∷ ws)) (sizeOf (w ∷ ws)) (sectorsOf (w ∷ ws)) application major minor mediaType creationTime lastWrittenTime
+  unfolding flatEnd flatBuffer
+  flatten-composed k w ws e =
+      flatten-calls k ∙ ap (λ (v : List Written). outcome buffer (roomVerdict v) (flatEnd v) (flatBuffer v)) e ∙ sym (composed-is _ _ _ _ _ _ _ _ _ _ _ (composable k w ws e))
 
   pub verdict-ok : (wholeVerdict ≡ Passes) ↔ (Flattenable buffer child parent application × (flatEnd written .used ≤ length buffer))
   verdict-ok = then-iff (flattenable buffer child parent application) (row-iff (refusal 35 0) below-iff)

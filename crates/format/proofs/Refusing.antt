@@ -26,20 +26,20 @@ use Rattle.format.specs.Committing.{Appended, argumentsVerdict, anyOutsi
 use Rattle.format.specs.RollingBack.{rollbackVerdict, rollback}
 use Rattle.format.specs.Exporting.{gapCount, sizeVerdict, fileVerdict, exactVerdict, exportVerdict, exportExact, export}
 use Rattle.format.specs.Importing.{importVerdict}
-use Rattle.format.specs.Flattening.{countOf, writtenOf, pairVerdict, sizesVerdict, flattenVerdict}
+use Rattle.format.specs.Flattening.{countOf, writtenOf, pairVerdict, sizesVerdict, lentVerdict, flattenVerdict}
 use Rattle.format.specs.Demands.{FromTo, openingNumber, readingNumber, creatingNumber, committingNumber, rollingBackNumber, exportingNumber, importingNumber, overNumber, flatteningNumber, PlaceFor, atHeader, atIndex, atEntry, atTable, atTableEntry, atBlock, atNone, PlaceOver, inChild, inParent, EntryOf, AnyEntry, NoSector, Demand1Refusals, SecondRefused, NothingWritten, UnwrittenRefused}
 use Rattle.format.specs.Facts.{OpensWith, FlattenArguments}
-use Rattle.format.proofs.Tests.{never, same-on, same-true, same-iff, below-iff, differs-true, differs-iff, and-on, and-true, choose-cases}
+use Rattle.format.proofs.Tests.{never, same-on, same-true, same-iff, differs-true, differs-iff, and-on, and-true, choose-cases}
 use Rattle.format.proofs.Refusals.{row-iff, firstRefusal-iff, Says, row-says, off-says, then-says, after-says, first-says, says-refused, says-also, Gives, says-not, row-gives, then-gives, gives-then, answer-passes, answer-refused}
 use Rattle.format.proofs.Lists.{howMany-all, howMany-every}
-use Rattle.format.proofs.Checks.{facts, OpenOk, open-ok, first-second, item-says, verdict-numbered, address-ok, buffer-ok, arguments-ok, WritableOk, writable-ok, first-known, first-flat}
+use Rattle.format.proofs.Checks.{OpenOk, open-ok, first-second, item-says, verdict-numbered, address-ok, buffer-ok, arguments-ok, WritableOk, writable-ok, first-known, first-flat}
 use Rattle.format.proofs.Buffers.{outcome-refused, outcome-refuses}
 use Rattle.format.proofs.Opens.{opens-with}
 use Rattle.format.proofs.Exporting.{missing-iff, range-opens, range-count, range-read}
 use Rattle.format.proofs.Numbers.{inside-number}
 use Rattle.format.proofs.Composing.{numbered}
 use Rattle.format.proofs.Importing.{import-refused}
-use Rattle.format.proofs.Flattening.{pair-verdict, flatten-is, flatten-refused}
+use Rattle.format.proofs.Flattening.{pair-verdict, lent-ok, flatten-is, flatten-refused}
 use Rattle.format.proofs.Overlaying.{over-says, readBy, bothBy, locate-over}
 
 -- a number of these, at its place
@@ -292,15 +292,15 @@ module _ (child parent : List ℕ) where
   late h = inr (inr (inr (inr h)))
 
   flatten-says : (buffer application : List ℕ) (full : Bool) → Says Flattening (flattenVerdict buffer child parent application then row full (refusal 35 0))
-  unfolding flattenVerdict sizesVerdict
+  unfolding flattenVerdict lentVerdict sizesVerdict
   flatten-says buffer application full =
       then-says Flattening _ _
-      (then-says Flattening _ _ (none-says _ 31 (inl (omega arith)) (late (inl (omega arith))))
-      (then-says Flattening _ _ (none-says _ 33 (inl (omega arith)) (late (inr (inl refl))))
+      (then-says Flattening _ _
+      (then-says Flattening _ _ (none-says _ 31 (inl (omega arith)) (late (inl (omega arith)))) (none-says _ 33 (inl (omega arith)) (late (inr (inl refl)))))
       (after-says Flattening _ _ (says-also _ (λ n p s. (s .0, inChild (s .1))) (writable-says child (indexOffset child) (AnyEntry child) _))
       (λ w.
       then-says Flattening _ _ (pair-says (writable-ok child (indexOffset child) .0 w))
-      (then-says Flattening _ _ (none-says _ 40 (inr (omega arith)) (late (inr (inr (inr refl))))) (none-says _ 30 (inl (omega arith)) (late (inl (omega arith)))))))))
+      (then-says Flattening _ _ (none-says _ 40 (inr (omega arith)) (late (inr (inr (inr refl))))) (none-says _ 30 (inl (omega arith)) (late (inl (omega arith))))))))
       (none-says _ 35 (inl (omega arith)) (late (inr (inr (inl refl)))))
 
 pub demand-1-refusals : Demand1Refusals
@@ -366,22 +366,18 @@ over-not-74 n h e =
 
 flatten-74 : (buffer child parent application : List ℕ) (full : Bool)
     → ((flattenVerdict buffer child parent application then row full (refusal 35 0)) ≡ Refuses (refusal 74 0)) ↔ (FlattenArguments buffer application × OpensWith child (indexOffset child) Second)
-unfolding flattenVerdict sizesVerdict
+unfolding flattenVerdict lentVerdict sizesVerdict
 flatten-74 buffer child parent application full =
-    let not-74 : (b : Bool) (n : ℕ) → n ≢ 74 → ¬ Gives 74 (row b (refusal n 0)) = λ b n d. says-not 74 _ (row-says Not-74 b (refusal n 0) d) in
     let pairs : Says Not-74 (pairVerdict child parent) =
     rw (pair-verdict child parent)
     (first-says Not-74 _ (countOf child) _ 0 (omega arith) (λ n h. other-says Not-74 _ (says-also _ (λ i p s d. over-not-74 i (s .0)) (over-reads child parent (pos n))))) in
     let behind : ¬ Gives 74 (pairVerdict child parent then sizesVerdict (countOf child) (writtenOf child parent)) =
     says-not 74 _ (then-says Not-74 _ _ pairs (then-says Not-74 _ _ (row-says Not-74 _ (refusal 40 0) (λ e. omega arith)) (row-says Not-74 _ (refusal 30 0) (λ e. omega arith)))) in
-    Iff·trans (gives-then _ _ (refusal 74 0) (not-74 full 35 (λ e. omega arith)))
-    (Iff·trans (then-gives _ _ (refusal 74 0) (not-74 _ 31 (λ e. omega arith)))
-    (facts
-    (Iff·and (row-iff _ below-iff)
-    (Iff·trans (then-gives _ _ (refusal 74 0) (not-74 _ 33 (λ e. omega arith)))
-    (Iff·and (row-iff _ differs-iff) (Iff·trans (gives-then _ _ (refusal 74 0) behind) (writable-74 child (indexOffset child))))))
-    (λ (a, (b, c)). (record { long = a; named = b }, c))
-    (λ (k, c). (k .long, (k .named, c)))))
+    let lent : ¬ Gives 74 (lentVerdict buffer application) =
+    says-not 74 _ (then-says Not-74 _ _ (row-says Not-74 _ (refusal 31 0) (λ e. omega arith)) (row-says Not-74 _ (refusal 33 0) (λ e. omega arith))) in
+    Iff·trans (gives-then _ _ (refusal 74 0) (says-not 74 _ (row-says Not-74 full (refusal 35 0) (λ e. omega arith))))
+    (Iff·trans (then-gives _ _ (refusal 74 0) lent)
+    (Iff·and (lent-ok buffer application) (Iff·trans (gives-then _ _ (refusal 74 0) behind) (writable-74 child (indexOffset child)))))
 
 pub second-refused : SecondRefused
 unfolding commit append commitVerdict rollback rollbackVerdict

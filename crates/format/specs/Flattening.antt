@@ -76,11 +76,16 @@ sizesVerdict count ws =
     row (anyOther (sizeOf ws) ws) (refusal 40 0)
     then row (same count 0 or below mostSectors count or below largestSize (sizeOf ws) or below mostAddresses (length ws)) (refusal 30 0)
 
+-- 31 and 33
+unfoldable pub lentVerdict : List ℕ → List ℕ → Verdict
+lentVerdict buffer application =
+    row (below longestBuffer (length buffer)) (refusal 31 0)
+    then row (differs (length application) applicationLength) (refusal 33 0)
+
 -- 35, behind them, is that of the two calls
 unfoldable pub flattenVerdict : List ℕ → List ℕ → List ℕ → List ℕ → Verdict
 flattenVerdict buffer child parent application =
-    row (below longestBuffer (length buffer)) (refusal 31 0)
-    then row (differs (length application) applicationLength) (refusal 33 0)
+    lentVerdict buffer application
     then writableVerdict child (indexOffset child)
     then pairVerdict child parent
     then sizesVerdict (countOf child) (writtenOf child parent)

@@ -1,0 +1,3 @@
+mod Sectors
+mod Stages
+mod Whole
