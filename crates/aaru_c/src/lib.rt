@@ -1,7 +1,7 @@
-// The C interface: the public calls of `aaru`, `flat` and `overlay`, as bindings/c/aaru.h declares them. A slice is a pointer and a length, a call returns 0 or the
-// number of its refusal, and values come back behind pointers, which a refused call leaves as they are; it sets `place` alone, which an
-// accepted one leaves. As in `aaru`, no call asks anything of its caller; what the language itself takes for granted of pointers that
-// come from outside is said in the header.
+// The C interface: the public calls of `aaru`, `flat`, `overlay` and `flattening`, as bindings/c/aaru.h declares them. A slice is a pointer and a length, a
+// call returns 0 or the number of its refusal, and values come back behind pointers, which a refused call leaves as they are; it sets `place` alone, which an
+// accepted one leaves. As in `aaru`, no call asks anything of its caller; what the language itself takes for granted of pointers that come from outside is said
+// in the header.
 ghost use mathlib.Core.Path.{_≡_};
 ghost use Rattle.format.specs.Opening.{sectorCount};
 ghost use Rattle.format.specs.Reading.{locate};
@@ -11,6 +11,7 @@ ghost use Rattle.format.specs.RollingBack.{rollback};
 ghost use Rattle.format.specs.Exporting.{exportExact, flat, export};
 ghost use Rattle.format.specs.Importing.{import};
 ghost use Rattle.format.specs.Overlaying.{locateOver};
+ghost use Rattle.format.specs.Flattening.{flatten};
 ghost use Rattle.format.specs.Writing.{placed};
 ghost use Rattle.format.specs.Answers.{updated};
 ghost use Rattle.aaru_c.specs.Returned.{returned, countAndLowest, startAndSize, whichStartAndSize, left};
@@ -253,6 +254,38 @@ pub extern "C" fn aaru_import(
         mediaType,
         creationTime,
         lastWrittenTime,
+    );
+    numbers(answer, used, index, place)
+}
+
+// Makes an image of a child over its parent at the start of the buffer.
+#[no_mangle]
+pub extern "C" fn aaru_flatten<'a, 'b, 'c>(
+    buffer: &'b mut [u8],
+    child: &'a [u8],
+    parent: &'a [u8],
+    application: &'c [u8],
+    major: u8,
+    minor: u8,
+    mediaType: u32,
+    created: u64,
+    written: u64,
+    used: &mut u64,
+    index: &mut u64,
+    place: &mut u64,
+) -> u32
+    ensures { λ r. ⌜ record { answer = record { number = r; values = placed (now (used .exit)) (now (index .exit)); place = now (place .exit) }; buffer = now (buffer .exit) } ≡ left (flatten (now (buffer .entry)) (now (child .entry)) (now (parent .entry)) (now (application .entry)) major minor mediaType created written) (placed (now (used .entry)) (now (index .entry))) (now (place .entry)) ⌝ }
+{
+    let answer = flattening::flatten(
+        buffer,
+        child,
+        parent,
+        application,
+        major,
+        minor,
+        mediaType,
+        created,
+        written,
     );
     numbers(answer, used, index, place)
 }
