@@ -52,13 +52,13 @@ module _ (f : ℕ → List ℕ) where
   unfolding handed
   handed-none k h = ap (λ (l : List (List ℕ)). handed f k ++ l) (where-none (f k) (f k) h) ∙ append-nil (handed f k)
 
-  pub handed-few : (k : ℕ) → length (handed f k) ≤ k
+  handed-few : (k : ℕ) → length (handed f k) ≤ k
   unfolding handed
   handed-few zero = omega arith
   handed-few (suc k) =
       ⊎-elim (λ h. rw (handed-some k h) (simp length-append (omega (arith, handed-few k)))) (λ h. rw (handed-none k h) (omega (arith, handed-few k))) (some-or-none (f k))
 
-  pub handed-sized : {size : ℕ} (k : ℕ) → ((n : ℕ) → n < k → length (f n) ≢ 0 → length (f n) ≡ size) → All (Sized size) (handed f k)
+  handed-sized : {size : ℕ} (k : ℕ) → ((n : ℕ) → n < k → length (f n) ≢ 0 → length (f n) ≡ size) → All (Sized size) (handed f k)
   unfolding handed
   handed-sized zero h = done
   handed-sized (suc k) h =
@@ -103,8 +103,11 @@ module _ (block : ℕ) (f : ℕ → List ℕ) where
     pointers-none = ap (λ (l : List (List ℕ)). storeAll [] noDisc block [] l .pointers) (handed-none f k h)
 
   -- ---- how many are stored
+  pub items-handed : (k : ℕ) → length (items k) ≤ length (handed f k)
+  items-handed k = omega (arith, stored-few [] noDisc block (handed f k) [])
+
   pub items-few : (k : ℕ) → length (items k) ≤ k
-  items-few k = omega (arith, stored-few [] noDisc block (handed f k) [], handed-few f k)
+  items-few k = omega (arith, items-handed k, handed-few f k)
 
   items-grow : (k : ℕ) → length (items k) ≤ length (items (suc k))
   items-grow k =

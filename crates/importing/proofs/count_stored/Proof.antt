@@ -22,7 +22,7 @@ loop-holds : tie.Need-loop-holds Inv-loop μ-loop
 loop-holds c = (omega arith, λ block. counting-starts block _)
 
 is-new-requires : tie.Need-is-new-requires Inv-loop μ-loop
-is-new-requires c κs = sector-inside (c .before .before .before .pre) (c .loop-test .taken)
+is-new-requires c κs = omega (arith, sector-inside (c .before .before .before .pre) (c .loop-test .taken))
 
 add-stored : tie.Need-add-stored Inv-loop μ-loop
 add-stored c =
