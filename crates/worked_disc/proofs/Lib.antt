@@ -2,3 +2,4 @@ mod WorkedDisc
 mod SecondDisc
 mod FlatDisc
 mod GapDisc
+mod PairDisc
