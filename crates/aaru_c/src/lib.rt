@@ -94,10 +94,10 @@ pub extern "C" fn aaru_locate_over(
     let answer = overlay::locate_over(child, parent, SectorAddress(address));
     match answer {
         LocatedOver::In(s) => {
-            let p = s.place;
+            let at = s.place;
             *which = s.image;
-            *start = p.start.0;
-            *size = p.size;
+            *start = at.start.0;
+            *size = at.size;
             0
         }
         LocatedOver::Refused(r) => refused(r, place),
@@ -268,13 +268,13 @@ pub extern "C" fn aaru_flatten<'a, 'b, 'c>(
     major: u8,
     minor: u8,
     mediaType: u32,
-    created: u64,
-    written: u64,
+    createdAt: u64,
+    writtenAt: u64,
     used: &mut u64,
     index: &mut u64,
     place: &mut u64,
 ) -> u32
-    ensures { λ r. ⌜ record { answer = record { number = r; values = placed (now (used .exit)) (now (index .exit)); place = now (place .exit) }; buffer = now (buffer .exit) } ≡ left (flatten (now (buffer .entry)) (now (child .entry)) (now (parent .entry)) (now (application .entry)) major minor mediaType created written) (placed (now (used .entry)) (now (index .entry))) (now (place .entry)) ⌝ }
+    ensures { λ r. ⌜ record { answer = record { number = r; values = placed (now (used .exit)) (now (index .exit)); place = now (place .exit) }; buffer = now (buffer .exit) } ≡ left (flatten (now (buffer .entry)) (now (child .entry)) (now (parent .entry)) (now (application .entry)) major minor mediaType createdAt writtenAt) (placed (now (used .entry)) (now (index .entry))) (now (place .entry)) ⌝ }
 {
     let answer = flattening::flatten(
         buffer,
@@ -284,8 +284,8 @@ pub extern "C" fn aaru_flatten<'a, 'b, 'c>(
         major,
         minor,
         mediaType,
-        created,
-        written,
+        createdAt,
+        writtenAt,
     );
     numbers(answer, used, index, place)
 }
