@@ -1,4 +1,4 @@
--- One entry of the table, with its sector; and a loop that writes all of them: those of the first a entries stand in the buffer.
+-- One entry of the table, with its sector; and a loop that writes all of them, or their sectors alone: those of the first a entries stand in the buffer.
 use mathlib.Core.List.{List, [], _∷_, _++_, map, flatten}
 use mathlib.Core.Logic.{_≢_, ⊎-elim}
 use mathlib.Core.Option.{Option, none, some}
@@ -18,7 +18,7 @@ use Rattle.format.proofs.Lists.{Sized, length-flatten}
 use Rattle.format.proofs.Storing.{length-entries}
 use Rattle.storing.specs.declared.Handed.{Handed}
 use Rattle.storing.specs.Stores.{tableEntriesBytes}
-use Rattle.storing.specs.Turns.{noDisc, addAt, itemsIn, addIn, Stepped}
+use Rattle.storing.specs.Turns.{noDisc, addAt, itemsIn, addIn, Steps, Stepped}
 use Rattle.storing.proofs.Pieces.{pieces-written, flatten-next}
 use Rattle.storing.proofs.Steps.{Small, step-small}
 use Rattle.composing.specs.declared.Layout.{Layout}
@@ -57,11 +57,15 @@ unfolding pointersOf
 entries-more block f shift k = ap flatten (entries-next shift (pointersOf block f k) _) ∙ flatten-next _ _
 
 -- ---- before entry a
-pub record Going (buf₀ buf : List ℕ) (f : ℕ → List ℕ) (count size : ℕ) (at : Layout) (stored a : ℕ) : Type 0 where
+-- the sectors that are stored for those before it stand, in what was `base`
+pub record Standing (base buf : List ℕ) (f : ℕ → List ℕ) (count : ℕ) (at : Layout) (stored a : ℕ) : Type 0 where
   pub counted : stored ≡ length (storedOf (at .used) f a .items)
   pub most : a ≤ count
-  pub is : buf ≡ overwrite (overwrite buf₀ (at .table .0 + tableHeaderLength) (tableEntriesBytes (at .shift) (pointersOf (at .used) f a)))
-      (at .used + blockHeaderLength) (flatten (storedOf (at .used) f a .items))
+  pub is : buf ≡ overwrite base (at .used + blockHeaderLength) (flatten (storedOf (at .used) f a .items))
+
+-- and so do the entries
+pub record Going (buf₀ buf : List ℕ) (f : ℕ → List ℕ) (count size : ℕ) (at : Layout) (stored a : ℕ) : Type 0 where
+  pub standing : Standing (overwrite buf₀ (at .table .0 + tableHeaderLength) (tableEntriesBytes (at .shift) (pointersOf (at .used) f a))) buf f count at stored a
 
 module _ {buf₀ : List ℕ} {f : ℕ → List ℕ} {count size : ℕ} {at : Layout} (h : Lays buf₀ f count size at) where
   abbrev start : ℕ
@@ -89,28 +93,45 @@ module _ {buf₀ : List ℕ} {f : ℕ → List ℕ} {count size : ℕ} {at : Lay
   entries-long : (k : ℕ) → length (entries k) ≡ tableEntryLength * k
   entries-long k = length-entries (at .shift) (pointersOf (at .used) f k) ∙ ap (λ n. tableEntryLength * n) (pointers-length (at .used) f k)
 
-  pub going-starts : Going buf₀ buf₀ f count size at 0 0
-  unfolding handed storeAll pointersOf flatten
-  going-starts = record { counted = refl; most = omega arith; is = sym (overwrite-nil _ start ∙ overwrite-nil buf₀ table) }
+  -- ---- the sectors alone
+  pub standing-starts : Standing buf₀ buf₀ f count at 0 0
+  unfolding handed storeAll flatten
+  standing-starts = record { counted = refl; most = omega arith; is = sym (overwrite-nil buf₀ start) }
 
-  module _ {buf : List ℕ} {stored a : ℕ} (g : Going buf₀ buf f count size at stored a) where
-    pub going-long : length buf ≡ length buf₀
-    going-long = ap length (g .is) ∙ length-overwrite _ start _ ∙ length-overwrite buf₀ table (entries a)
+  module _ {base buf : List ℕ} {stored a : ℕ} (lb : length base ≡ length buf₀) (g : Standing base buf f count at stored a) where
+    pub standing-long : length buf ≡ length buf₀
+    standing-long = ap length (g .is) ∙ length-overwrite base start _ ∙ lb
 
-    pub going-done : count ≤ a → buf ≡ filled buf₀ f count at
-    going-done l =
+    pub standing-done : count ≤ a → (stored ≡ length (items count)) × (buf ≡ overwrite base start (flatten (items count)))
+    standing-done l =
         let e : a ≡ count = omega (arith, g .most) in
-        g .is ∙ ap (λ n. overwrite (overwrite buf₀ table (entries n)) start (flatten (items n))) e
-        ∙ overwrite-comm buf₀ table (entries count) start (flatten (items count)) (omega (arith, items-room count (le-refl count), items-long count (le-refl count)))
+        (g .counted ∙ ap (λ n. length (items n)) e, g .is ∙ ap (λ n. overwrite base start (flatten (items n))) e)
 
     module _ (l : a < count) {x : List ℕ} (e : x ≡ f a) where
       -- the stored sectors stand in the buffer, and so what becomes of this one is known
       stand : itemsIn buf (at .used) stored size ≡ items a
       stand =
           let m : a ≤ count = omega arith in
-          let lb : length (overwrite buf₀ table (entries a)) ≡ length buf₀ = length-overwrite buf₀ table (entries a) in
-          (λ j. itemsIn (g .is j) (at .used) (g .counted j) size)
-          ∙ pieces-written (overwrite buf₀ table (entries a)) start size (items a) (sized a m) (omega (arith, items-room a m, h .entries))
+          (λ j. itemsIn (g .is j) (at .used) (g .counted j) size) ∙ pieces-written base start size (items a) (sized a m) (omega (arith, items-room a m, h .entries))
+
+      -- they are written over by themselves and the next
+      covered : overwrite buf start (flatten (items (suc a))) ≡ overwrite base start (flatten (items (suc a)))
+      covered =
+          let grown = mul-le-mul-right size (items-most (at .used) f a (suc a) (omega arith)) in
+          ap (λ (b : List ℕ). overwrite b start (flatten (items (suc a)))) (g .is)
+          ∙ overwrite-cover base start (flatten (items (suc a))) start (flatten (items a)) (le-refl start) (omega (arith, items-long a (omega arith), items-long (suc a) l)) (omega (arith, items-long (suc a) l, items-room (suc a) l, h .entries))
+
+      module _ (z : length x ≡ 0) where
+        f-none : length (f a) ≡ 0
+        f-none = rw (← e) z
+
+        same-items : items (suc a) ≡ items a
+        same-items = items-none (at .used) f a f-none
+
+        pub standing-none : Standing base buf f count at stored (a + 1)
+        standing-none =
+            rw (add-one a)
+            (record { counted = g .counted ∙ ap length (sym same-items); most = l; is = g .is ∙ ap (λ (st : List (List ℕ)). overwrite base start (flatten st)) (sym same-items) })
 
       module _ (s : length x ≢ 0) where
         f-some : length (f a) ≢ 0
@@ -122,19 +143,64 @@ module _ {buf₀ : List ℕ} {f : ℕ → List ℕ} {count size : ℕ} {at : Lay
         step-is : addIn buf (at .used) x stored ≡ stepOf (at .used) f a
         step-is = ap (λ n. addAt (at .used) (itemsIn buf (at .used) stored n) x) length-x ∙ (λ j. addAt (at .used) (stand j) (e j))
 
-        -- there is room for it
-        fits : start + length (stepOf (at .used) f a .stored) * size ≤ table
-        fits = rw (← items-some (at .used) f a f-some) (items-room (suc a) l)
+        stored-is : addIn buf (at .used) x stored .stored ≡ items (suc a)
+        stored-is = ap (λ st. st .stored) step-is ∙ sym (items-some (at .used) f a f-some)
 
+        -- there is room for it
+        pub standing-steps : Steps buf (at .used) x (addIn buf (at .used) x stored)
+        standing-steps =
+            record {
+              pos = s;
+              short = omega (arith, standing-long, h .short);
+              room = rw (stored-is, length-x) (omega (arith, items-room (suc a) l, standing-long, h .entries));
+            }
+
+        pub standing-some : {after : List ℕ} {r : Handed} → Stepped buf after (at .used) (addIn buf (at .used) x stored) r → Standing base after f count at (r .stored) (a + 1)
+        standing-some w =
+            rw (add-one a)
+            (record {
+              counted = w .stored ∙ ap length stored-is;
+              most = l;
+              is = w .buffer ∙ ap (λ (st : List (List ℕ)). overwrite buf start (flatten st)) stored-is ∙ covered;
+            })
+
+  -- where they stand, all that is written leaves the same
+  module _ {buf : List ℕ} (e : buf ≡ overwrite buf₀ start (flatten (items count))) where
+    pub stored-lays : Lays buf f count size at
+    stored-lays =
+        let l : length buf ≡ length buf₀ = ap length e ∙ length-overwrite buf₀ start _ in
+        record { sectors = h .sectors; short = omega (arith, h .short); items = h .items; entries = omega (arith, h .entries); low = h .low }
+
+    pub stored-filled : filled buf f count at ≡ filled buf₀ f count at
+    stored-filled =
+        ap (λ (b : List ℕ). overwrite b table (entries count))
+        (ap (λ (b : List ℕ). overwrite b start (flatten (items count))) e
+        ∙ overwrite-cover buf₀ start (flatten (items count)) start (flatten (items count)) (le-refl start) (le-refl _) (omega (arith, items-long count (le-refl count), items-room count (le-refl count), h .entries)))
+
+  -- ---- with the entries
+  pub going-starts : Going buf₀ buf₀ f count size at 0 0
+  unfolding handed storeAll pointersOf flatten
+  going-starts = record { standing = record { counted = refl; most = omega arith; is = sym (overwrite-nil _ start ∙ overwrite-nil buf₀ table) } }
+
+  module _ {buf : List ℕ} {stored a : ℕ} (g : Going buf₀ buf f count size at stored a) where
+    long : length (overwrite buf₀ table (entries a)) ≡ length buf₀
+    long = length-overwrite buf₀ table (entries a)
+
+    pub going-long : length buf ≡ length buf₀
+    going-long = standing-long long (g .standing)
+
+    pub going-done : count ≤ a → buf ≡ filled buf₀ f count at
+    going-done l =
+        let e : a ≡ count = omega (arith, g .standing .most) in
+        standing-done long (g .standing) l .1 ∙ ap (λ n. overwrite (overwrite buf₀ table (entries n)) start (flatten (items count))) e
+        ∙ overwrite-comm buf₀ table (entries count) start (flatten (items count)) (omega (arith, items-room count (le-refl count), items-long count (le-refl count)))
+
+    module _ (l : a < count) {x : List ℕ} (e : x ≡ f a) where
       pub going-enters : Enters buf at a x stored
       going-enters =
           record {
             short = omega (arith, going-long, h .short);
-            step = λ s. record {
-              pos = s;
-              short = omega (arith, going-long, h .short);
-              room = rw (step-is s, length-x s) (omega (arith, fits s, going-long, h .entries));
-            };
+            step = standing-steps long (g .standing) l e;
             entry = omega (arith, going-long, h .entries);
             low = h .low;
           }
@@ -144,16 +210,11 @@ module _ {buf₀ : List ℕ} {f : ℕ → List ℕ} {count size : ℕ} {at : Lay
           → after ≡ overwrite (overwrite buf start (flatten (items (suc a)))) (entryAt at a) entry
           → after ≡ overwrite (overwrite buf₀ table (entries (suc a))) start (flatten (items (suc a)))
       next-is {after} entry en ea =
-          let m : a ≤ count = omega arith in
           let B : List ℕ = overwrite buf₀ table (entries a) in
-          let lb : length B ≡ length buf₀ = length-overwrite buf₀ table (entries a) in
           let Y : List ℕ = flatten (items (suc a)) in
-          let grown = mul-le-mul-right size (items-most (at .used) f a (suc a) (omega arith)) in
-          let mid-is : overwrite buf start Y ≡ overwrite B start Y =
-          ap (λ (b : List ℕ). overwrite b start Y) (g .is)
-          ∙ overwrite-cover B start Y start (flatten (items a)) (le-refl start) (omega (arith, items-long a m, items-long (suc a) l)) (omega (arith, items-long (suc a) l, items-room (suc a) l, h .entries)) in
           let le : entryAt at a ≡ table + length (entries a) = omega (arith, entries-long a) in
-          ea ∙ (λ j. overwrite (mid-is j) (le j) entry) ∙ sym (overwrite-comm B (table + length (entries a)) entry start Y (omega (arith, items-long (suc a) l, items-room (suc a) l)))
+          ea ∙ (λ j. overwrite (covered long (g .standing) l e j) (le j) entry)
+          ∙ sym (overwrite-comm B (table + length (entries a)) entry start Y (omega (arith, items-long (suc a) l, items-room (suc a) l)))
           ∙ ap (λ (b : List ℕ). overwrite b start Y)
           (overwrite-then buf₀ table (entries a) entry ∙ ap (overwrite buf₀ table) (ap (λ (n : List ℕ). entries a ++ n) (sym en) ∙ sym (entries-more (at .used) f (at .shift) a)))
 
@@ -164,30 +225,30 @@ module _ {buf₀ : List ℕ} {f : ℕ → List ℕ} {count size : ℕ} {at : Lay
           (⊎-elim
           (λ s.
           let r = w .some s in
-          let i = items-some (at .used) f a (f-some s) in
+          let i = stored-is long (g .standing) l e s in
           record {
-            counted = r .0 ∙ ap length (ap (λ st. st .stored) (step-is s) ∙ sym i);
-            most = l;
-            is = next-is (toLe tableEntryLength (encode (at .shift) (stepOf (at .used) f a .pointer))) (ap (tableEntryBytes (at .shift)) (pointer-some (at .used) (items a) (f a) (f-some s)))
-                (r .1 ∙ (λ j. overwrite (overwrite buf start (flatten ((ap (λ st. st .stored) (step-is s) ∙ sym i) j))) (entryAt at a) (toLe tableEntryLength (encode (at .shift) (step-is s j .pointer)))));
+            standing = record {
+              counted = r .0 ∙ ap length i;
+              most = l;
+              is = next-is (toLe tableEntryLength (encode (at .shift) (stepOf (at .used) f a .pointer)))
+                  (ap (tableEntryBytes (at .shift)) (pointer-some (at .used) (items a) (f a) (f-some long (g .standing) l e s)))
+                  (r .1 ∙ (λ j. overwrite (overwrite buf start (flatten (i j))) (entryAt at a) (toLe tableEntryLength (encode (at .shift) (step-is long (g .standing) l e s j .pointer)))));
+            };
           })
           (λ z.
           let r = w .none z in
-          let zf : length (f a) ≡ 0 = rw (← e) z in
-          let i = items-none (at .used) f a zf in
+          let i = same-items long (g .standing) l e z in
           record {
-            counted = r .0 ∙ g .counted ∙ ap length (sym i);
-            most = l;
-            is = next-is (toLe tableEntryLength 0) (ap (tableEntryBytes (at .shift)) (pointer-none (at .used) (items a) (f a) zf))
-                (r .1 ∙ ap (λ (b : List ℕ). overwrite b (entryAt at a) (toLe tableEntryLength 0)) (sym (over-again i)));
+            standing = record {
+              counted = r .0 ∙ g .standing .counted ∙ ap length (sym i);
+              most = l;
+              is = next-is (toLe tableEntryLength 0) (ap (tableEntryBytes (at .shift)) (pointer-none (at .used) (items a) (f a) (f-none long (g .standing) l e z)))
+                  (r .1 ∙ ap (λ (b : List ℕ). overwrite b (entryAt at a) (toLe tableEntryLength 0)) (sym (over-again i)));
+            };
           })
           (some-or-none x))
         where
           -- the stored sectors, written over by themselves
           over-again : items (suc a) ≡ items a → overwrite buf start (flatten (items (suc a))) ≡ buf
           over-again i =
-              let m : a ≤ count = omega arith in
-              ap (λ (st : List (List ℕ)). overwrite buf start (flatten st)) i
-              ∙ ap (λ (b : List ℕ). overwrite b start (flatten (items a))) (g .is)
-              ∙ overwrite-cover (overwrite buf₀ table (entries a)) start (flatten (items a)) start (flatten (items a)) (le-refl start) (le-refl _)
-              (omega (arith, items-long a m, items-room a m, h .entries, length-overwrite buf₀ table (entries a))) ∙ sym (g .is)
+              covered long (g .standing) l e ∙ ap (λ (st : List (List ℕ)). overwrite (overwrite buf₀ table (entries a)) start (flatten st)) i ∙ sym (g .standing .is)

@@ -1,10 +1,10 @@
 -- Where all that is appended to a new image stands, and what the code leaves there.
-use mathlib.Core.List.{List, [], _∷_, _++_}
+use mathlib.Core.List.{List, [], _∷_, _++_, flatten}
 use mathlib.Core.Logic.{⊎-elim}
 use mathlib.Core.Option.{Option, none, some}
 use mathlib.Core.Path.{_≡_, refl, sym, ap, _∙_}
 use Prim.Native.Nat.{ℕ, zero, suc, _+_, _-_, _*_, _≤_, max, zero-le}
-use native.Mathlib.Nat.{le-refl}
+use native.Mathlib.Nat.{le-refl, mul-le-mul-right}
 use native.Mathlib.Omega.{arith}
 use lib.ListN.{length, take, length-append}
 use lib.Seq.{length-take-le}
@@ -14,7 +14,7 @@ use Rattle.format.specs.declared.Entry.{Entry}
 use Rattle.format.specs.declared.Pointer.{Pointer}
 use Rattle.format.specs.Lists.{All}
 use Rattle.format.specs.Layouts.{DDT*, DBLK, entryLength, entries, userDataEntry, indexHeaderLength, indexBytes, blockHeaderLength, tableHeader, tableBytes, tableHeaderLength, tableEntryLength}
-use Rattle.format.specs.Writing.{setHeader}
+use Rattle.format.specs.Writing.{longestBuffer, setHeader}
 use Rattle.format.specs.Creating.{createdIndexAt, createdUsed, createdEntries}
 use Rattle.format.specs.Committing.{amongStored, storeAll, itemOrZero, largestItem, shiftFor, newTable, newBlock, newBlockEntry, keptEntries, tableStart, indexStart, usedAfter, appendedFor}
 use Rattle.format.specs.Facts.{replaced, end, blockEntry}
@@ -32,7 +32,7 @@ use Rattle.storing.specs.Turns.{addAt}
 use Rattle.storing.proofs.Pieces.{most-items}
 use Rattle.storing.proofs.Steps.{add-again, add-new}
 use Rattle.composing.specs.declared.Layout.{Layout}
-use Rattle.composing.specs.Composes.{handed, storedOf, pointerOf, pointersOf, appendedOf, layoutOf, filled, composedIn, Lays, Plan, Fits}
+use Rattle.composing.specs.Composes.{handed, storedOf, pointerOf, pointersOf, appendedOf, layoutOf, filled, composedIn, Sectors, Lays, Plan, Fits}
 use Rattle.composing.proofs.Handed.{some-or-none, pointer-some, pointer-none, items-some, items-none, items-sized, pointers-length}
 
 -- ---- the largest item number is that of the last stored sector
@@ -78,6 +78,14 @@ pub record Stands (count size stored : ℕ) (at : Layout) : Type 0 where
   pub end : at .end ≡ at .index .0 + (indexHeaderLength + 2 * entryLength)
   pub shift : at .shift ≡ shiftFor (stored - 1)
 
+laid-stands : {count size stored : ℕ} {at : Layout} → at ≡ layoutOf count size stored → Stands count size stored at
+unfolding layoutOf
+laid-stands e = rw e (record { first = refl; used = refl; table = refl; index = refl; end = refl; shift = refl })
+
+-- where there is room for all of it there is for the new image
+image-room : {count size stored length : ℕ} {at : Layout} → Stands count size stored at → at .end ≤ length → createdUsed count ≤ length
+image-room s h = omega (arith, s .end, s .index)
+
 module _ {f : ℕ → List ℕ} {count size stored : ℕ} {at : Layout} (p : Plan f count size stored at) where
   abbrev used : ℕ
   used = createdUsed count
@@ -89,12 +97,10 @@ module _ {f : ℕ → List ℕ} {count size stored : ℕ} {at : Layout} (p : Pla
   pointers = pointersOf used f count
 
   pub stands : Stands count size stored at
-  unfolding layoutOf
-  stands = rw (p .laid) (record { first = refl; used = refl; table = refl; index = refl; end = refl; shift = refl })
+  stands = laid-stands (p .laid)
 
-  -- where there is room for all of it there is for the new image
   pub image-fits : {length : ℕ} → at .end ≤ length → used ≤ length
-  image-fits h = let s = stands in omega (arith, s .end, s .index)
+  image-fits h = image-room stands h
 
   sized : All (Sized size) blockItems
   sized = items-sized used f (p .sectors) count (le-refl count)
@@ -124,6 +130,45 @@ module _ {f : ℕ → List ℕ} {count size stored : ℕ} {at : Layout} (p : Pla
   unfolding usedAfter
   end-is = omega (arith, start-is, stands .end, ap length index-is, length-indexBytes (userDataEntry DDT* (at .table .0) ∷ userDataEntry DBLK used ∷ []))
 
+-- ---- where it would stand if n sectors were stored, no fewer than are
+pub record Most (f : ℕ → List ℕ) (count size n : ℕ) (most : Layout) : Type 0 where
+  pub sectors : Sectors f count size
+  pub few : length (storedOf (createdUsed count) f count .items) ≤ n
+  pub laid : most ≡ layoutOf count size n
+
+module _ {f : ℕ → List ℕ} {count size n : ℕ} {most : Layout} (m : Most f count size n most) where
+  pub most-used : most .used ≡ createdUsed count
+  most-used = laid-stands (m .laid) .used
+
+  -- with room for that
+  pub most-image : {length : ℕ} → most .end ≤ length → createdUsed count ≤ length
+  most-image h = image-room (laid-stands (m .laid)) h
+
+  pub most-lays : {buf : List ℕ} → length buf ≤ longestBuffer → most .end ≤ length buf → Lays buf f count size most
+  unfolding shiftFor
+  most-lays short room =
+      let s = laid-stands (m .laid) in
+      record {
+        sectors = m .sectors;
+        short = short;
+        items = rw (s .used) (omega (arith, s .table, mul-le-mul-right size (m .few)));
+        entries = omega (arith, s .table, s .index, s .end);
+        low = rw (s .shift) (shift-least 64 0 (n - 1) 32 zero-le (omega (arith, s .index, s .end, most-items n size (m .sectors .pos))));
+      }
+
+  module _ {stored : ℕ} {at : Layout} (p : Plan f count size stored at) where
+    -- all ends before
+    pub most-end : at .end ≤ most .end
+    most-end =
+        let s = laid-stands (m .laid) in
+        let q = stands p in
+        omega (arith, s .index, s .end, q .index, q .end, mul-le-mul-right size (rw (← (p .counted)) at (m .few)))
+
+    -- the block stands where it would
+    pub most-block : (buf : List ℕ) {after : List ℕ} → after ≡ overwrite buf (most .used + blockHeaderLength) (flatten (storedOf (most .used) f count .items))
+        → after ≡ overwrite buf (at .used + blockHeaderLength) (flatten (storedOf (at .used) f count .items))
+    most-block buf e = e ∙ ap (λ n. overwrite buf (n + blockHeaderLength) (flatten (storedOf n f count .items))) (most-used ∙ sym (stands p .used))
+
 -- ---- with room
 module _ {buf : List ℕ} {f : ℕ → List ℕ} {count size stored : ℕ} {at : Layout} (w : Fits buf f count size stored at) where
   abbrev p : Plan f count size stored at
@@ -133,17 +178,7 @@ module _ {buf : List ℕ} {f : ℕ → List ℕ} {count size stored : ℕ} {at :
   fits-all = let s = stands p in omega (arith, w .room, s .end, s .index)
 
   pub fits-lays : Lays buf f count size at
-  unfolding shiftFor
-  fits-lays =
-      let s = stands p in
-      let n = fits-all in
-      record {
-        sectors = p .sectors;
-        short = w .short;
-        items = rw (s .used, ← (p .counted)) (omega (arith, s .table));
-        entries = omega (arith, s .table);
-        low = rw (s .shift) (shift-least 64 0 (stored - 1) 32 zero-le (omega (arith, w .short, most-items stored size (p .sectors .pos))));
-      }
+  fits-lays = most-lays (record { sectors = p .sectors; few = omega (arith, p .counted); laid = p .laid }) (w .short) (w .room)
 
   -- ---- the code's writes, from a buffer that is filled
   module _ {b₁ : List ℕ} (e₁ : b₁ ≡ filled buf f count at) where

@@ -1,6 +1,6 @@
 -- The sectors of a pair as those of the new table's entries: which are stored, and what a commit of them is handed.
 use mathlib.Core.Bool.{true, false, not}
-use mathlib.Core.List.{List, [], _∷_, _++_, map, map-append}
+use mathlib.Core.List.{List, [], _++_, map-append}
 use mathlib.Core.Logic.{_≢_, ⊎-elim, Iff·rfl}
 use mathlib.Core.Path.{_≡_, refl, sym, ap, _∙_}
 use Prim.Native.Nat.{ℕ, zero, suc, _+_, _≤_, _<_}

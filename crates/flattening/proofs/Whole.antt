@@ -2,13 +2,13 @@
 use mathlib.Core.List.{List, [], _∷_}
 use mathlib.Core.Logic.{_≢_}
 use mathlib.Core.Path.{_≡_, refl, sym, ap, _∙_, subst}
-use Prim.Native.Nat.{ℕ, _+_, _≤_, _<_}
+use Prim.Native.Nat.{ℕ, _≤_, _<_}
 use native.Mathlib.Omega.{arith}
 use lib.ListN.{length, length-map}
 use Rattle.fields.specs.Bytes.{overwrite}
 use Rattle.format.specs.declared.Verdict.the-variants.{Passes}
 use Rattle.format.specs.Lists.{All}
-use Rattle.format.specs.Refusals.{refusal, Answer, refused, accepted}
+use Rattle.format.specs.Refusals.{refusal, refused, accepted}
 use Rattle.format.specs.Opening.{Opened, opening}
 use Rattle.format.specs.Writing.{mostSectors, largestSize, mostAddresses, placed}
 use Rattle.format.specs.Creating.{createdUsed, createdBytes}
@@ -19,12 +19,13 @@ use Rattle.format.proofs.Storing.{stored-few}
 use Rattle.format.proofs.Composing.{Composable}
 use Rattle.format.proofs.Flattening.{sectorList, numberList, pair-some, not-empty, Flattenable, flattenable, composable, pieces-are, flatten-composed}
 use Rattle.opening.proofs.Accepted.{opened-is}
-use Rattle.pairs.specs.Pairs.{Pair, sectorAt}
+use Rattle.pairs.specs.Pairs.{sectorAt}
 use Rattle.pairs.proofs.Sectors.{sector-some, sector-is}
 use Rattle.storing.specs.Turns.{noDisc}
 use Rattle.composing.specs.declared.Layout.{Layout}
-use Rattle.composing.specs.Composes.{handed, storedOf, composedIn, layoutOf, Sectors, Plan, Fits}
+use Rattle.composing.specs.Composes.{handed, storedOf, composedIn, layoutOf, Sectors, Lays, Plan, Fits}
 use Rattle.composing.proofs.Counting.{some-stored}
+use Rattle.composing.proofs.Laid.{Most, most-lays}
 use Rattle.composing.proofs.New.{Hands, composed-full, composed-fits, composed-done}
 use Rattle.flattening.proofs.Sectors.{numbers-are, sectors-are, sized-at, somewhere}
 
@@ -96,11 +97,28 @@ module _ {buffer child parent application : List ℕ} {count size : ℕ} (q : Re
       let i = sector-is child parent (w .at) (w .sector) (w .has) in
       some-stored block f count (w .at) (omega (arith, w .inside, q .many)) (rw (i .0) (not-empty (w .sector) (i .1)))
 
-  pub flat-lays : {stored : ℕ} → stored ≡ length (storedOf 0 f count .items) → (count ≤ mostSectors) × (size ≤ largestSize) × (stored ≤ mostAddresses) × (stored ≢ 0)
-  flat-lays e =
-      let few : length (storedOf 0 f count .items) ≤ mostAddresses =
-      rw (q .many) (omega (arith, stored-few [] noDisc 0 (handed f (countOf child)) [], ap length handed-are, ap length (sym (s .is)), length-map ws (λ (w : Written). w .sector), k .few)) in
-      (omega (arith, q .many, k .most), omega (arith, q .sizeIs, k .small), omega arith, λ y. stored-some 0 (sym e ∙ y))
+  -- no more are stored than there are
+  few : (block : ℕ) → length (storedOf block f count .items) ≤ length (writtenOf child parent)
+  few block =
+      rw (q .many) (omega (arith, stored-few [] noDisc block (handed f (countOf child)) [], ap length handed-are, ap length (sym (s .is)), length-map ws (λ (w : Written). w .sector)))
+
+  lays : {n : ℕ} → n ≤ length (writtenOf child parent) → n ≢ 0 → (count ≤ mostSectors) × (size ≤ largestSize) × (n ≤ mostAddresses) × (n ≢ 0)
+  lays l o = (omega (arith, q .many, k .most), omega (arith, q .sizeIs, k .small), omega (arith, k .few), o)
+
+  pub flat-lays : (block : ℕ) {stored : ℕ} → stored ≡ length (storedOf block f count .items) → (count ≤ mostSectors) × (size ≤ largestSize) × (stored ≤ mostAddresses) × (stored ≢ 0)
+  flat-lays block e = lays (omega (arith, few block)) (λ y. stored-some block (sym e ∙ y))
+
+  -- if all were stored
+  pub flat-all : {n : ℕ} → n ≡ length (writtenOf child parent) → (count ≤ mostSectors) × (size ≤ largestSize) × (n ≤ mostAddresses) × (n ≢ 0)
+  flat-all e = lays (omega arith) (λ y. stored-some 0 (omega (arith, few 0)))
+
+  module _ {most : Layout} (l : most ≡ layoutOf count size (length (writtenOf child parent))) where
+    pub flat-most : Most f count size (length (writtenOf child parent)) most
+    flat-most = record { sectors = sectors; few = few (createdUsed count); laid = l }
+
+    -- with room for that
+    pub flat-roomy : {buf : List ℕ} → length buf ≡ length buffer → most .end ≤ length buffer → Lays buf f count size most
+    flat-roomy e h = most-lays flat-most (omega (arith, k .long)) (omega arith)
 
   pub flat-plan : {stored : ℕ} {at : Layout} → stored ≡ length (storedOf (createdUsed count) f count .items) → at ≡ layoutOf count size stored → Plan f count size stored at
   flat-plan e l = record { sectors = sectors; some = λ y. stored-some (createdUsed count) (sym e ∙ y); counted = e; laid = l }

@@ -1,24 +1,26 @@
 // Flattening a disc over its parent (8/13): the public call `flatten`. No sector of a new disc is written, so only the pair itself is searched. Whether there
-// is room, 35, is decided before anything is written, by counting the sectors that equal none at a lower address.
+// is room, 35, is decided before anything is written: there is where all sectors would fit; else those that equal none at a lower address are counted.
 //
 // Cost, with E addresses and n sectors of the pair: opening both images, and the checks of all sectors, in which each data block of either is summed once at
-// most (see `pair_checking`); some passes over the addresses. Each sector is compared with those at lower addresses, at most E n / 2 times in all, since which
-// ones are stored has to be known before anything is written, and once more with the stored ones, at most n n / 2 times; a comparison ends at the first
-// difference, and the search at the first that is equal. Else linear in what is read and written.
-ghost use mathlib.Core.List.{[]};
+// most (see `pair_checking`); some passes over the addresses. Where there is room for all sectors, each is compared with the stored ones twice, at most n n / 2
+// times in all each time; else with those at lower addresses, at most E n / 2 times in all, and then with the stored ones once. A comparison ends at the first
+// difference, and a search at the first that is equal. Else linear in what is read and written.
+ghost use mathlib.Core.List.{[], flatten as flattened};
 ghost use mathlib.Core.Logic.{_≢_};
 ghost use mathlib.Core.Path.{_≡_};
-ghost use Prim.Native.Nat.{ℕ};
+ghost use Prim.Native.Nat.{ℕ, _+_, _≤_};
 ghost use lib.ListN.{length};
+ghost use Rattle.fields.specs.Bytes.{overwrite};
 ghost use Rattle.format.specs.declared.TableKind.the-variants.{First};
 ghost use Rattle.format.specs.declared.Verdict.the-variants.{Passes};
 ghost use Rattle.format.specs.Refusals.{accepted};
+ghost use Rattle.format.specs.Layouts.{blockHeaderLength};
 ghost use Rattle.format.specs.Opening.{opening};
 ghost use Rattle.format.specs.Flattening.{writtenOf, sizeOf, lentVerdict, flattenVerdict, flatten};
 ghost use Rattle.format.specs.Answers.{updated, answered};
 ghost use Rattle.opening.specs.Answers.{contents, outcome};
 ghost use Rattle.pairs.specs.Pairs.{Pair, sectorAt};
-ghost use Rattle.composing.specs.Composes.{storedOf, filled, Lays};
+ghost use Rattle.composing.specs.Composes.{storedOf, layoutOf, filled, Lays};
 use composing::Layout;
 use format::ByteOffset;
 use format::EntryNumber;
@@ -82,8 +84,36 @@ fn put_entries<'a, 'b>(
     }
 }
 
-// Flattening a pair that has sectors, of this size, all of whose checks but 35 have passed.
-fn flatten_some<'a, 'b, 'c>(
+// Writes only the sectors that are stored, behind the place of the block's header, where there is room up to the table of `most`. How many they are.
+fn put_sectors<'a, 'b>(
+    buf: &'b mut [u8],
+    child: &'a [u8],
+    t: Opened,
+    parent: &'a [u8],
+    p: Opening,
+    most: Layout,
+) -> u64
+    requires { ⌜ Pair (now child) (now parent) (contents t) (outcome p) × Lays (now buf) (sectorAt (now child) (now parent)) (contents t .count) (sizeOf (writtenOf (now child) (now parent))) most ⌝ }
+    ensures { λ r. ⌜ (let items = storedOf (most .used) (sectorAt (now (child .entry)) (now (parent .entry))) (contents t .count) .items in
+        (r ≡ length items) × (now (buf .exit) ≡ overwrite (now (buf .entry)) (most .used + blockHeaderLength) (flattened items))) ⌝ }
+{
+    let count = opening::count(t);
+    let mut stored: u64 = 0;
+    let mut n: u64 = 0;
+    // an iteration for each address, whose sector is compared with those stored before it, up to the first that is equal
+    while n < count {
+        let sector = pairs::sector(child, t, parent, p, EntryNumber(n));
+        n += 1;
+        if 0 < sector.len() {
+            let step = storing::store_among(buf, ByteOffset(most.used), sector, stored);
+            stored = step.stored;
+        }
+    }
+    stored
+}
+
+// Flattening a pair that has sectors, of this size, all of whose checks but 35 have passed. There may be no room, so those that are stored are counted first.
+fn flatten_tight<'a, 'b, 'c>(
     buffer: &'b mut [u8],
     child: &'a [u8],
     t: Opened,
@@ -122,6 +152,71 @@ fn flatten_some<'a, 'b, 'c>(
     Updated::To(Placed { used: end, index })
 }
 
+// The same where there is room even if all sectors are stored, as `most` has it: they are written right away, which tells how many are stored, and so where the
+// entries stand. With those, the same sectors are written over themselves.
+fn flatten_roomy<'a, 'b, 'c>(
+    buffer: &'b mut [u8],
+    child: &'a [u8],
+    t: Opened,
+    parent: &'a [u8],
+    p: Opening,
+    size: u64,
+    most: Layout,
+    application: &'c [u8],
+    new: Stamp,
+) -> Updated
+    requires { ⌜ Pair (now child) (now parent) (contents t) (outcome p) × (flattenVerdict (now buffer) (now child) (now parent) (now application) ≡ Passes)
+        × (size ≡ sizeOf (writtenOf (now child) (now parent))) × (writtenOf (now child) (now parent) ≢ [])
+        × (most ≡ layoutOf (contents t .count) size (length (writtenOf (now child) (now parent)))) × (most .end ≤ length (now buffer)) ⌝ }
+    ensures { λ r. ⌜ answered (updated r) (now (buffer .exit)) ≡ flatten (now (buffer .entry)) (now (child .entry)) (now (parent .entry)) (now (application .entry)) (new .major) (new .minor) (new .mediaType) (new .created) (new .written) ⌝ }
+{
+    let count = opening::count(t);
+    records::put_image(
+        buffer,
+        count,
+        application,
+        new.major,
+        new.minor,
+        new.mediaType,
+        new.created,
+        new.written,
+    );
+    let stored = put_sectors(buffer, child, t, parent, p, most);
+    let at = composing::lay_out(count, size, stored);
+    put_entries(buffer, child, t, parent, p, at);
+    composing::finish(buffer, count, size, stored, at, new.written);
+    let end = at.end;
+    let index = at.index;
+    Updated::To(Placed { used: end, index })
+}
+
+// The same, of so many sectors: 35 needs a count only where there is no room for all of them.
+fn flatten_some<'a, 'b, 'c>(
+    buffer: &'b mut [u8],
+    child: &'a [u8],
+    t: Opened,
+    parent: &'a [u8],
+    p: Opening,
+    size: u64,
+    sectors: u64,
+    application: &'c [u8],
+    new: Stamp,
+) -> Updated
+    requires { ⌜ Pair (now child) (now parent) (contents t) (outcome p) × (flattenVerdict (now buffer) (now child) (now parent) (now application) ≡ Passes)
+        × (size ≡ sizeOf (writtenOf (now child) (now parent))) × (writtenOf (now child) (now parent) ≢ [])
+        × (sectors ≡ length (writtenOf (now child) (now parent))) ⌝ }
+    ensures { λ r. ⌜ answered (updated r) (now (buffer .exit)) ≡ flatten (now (buffer .entry)) (now (child .entry)) (now (parent .entry)) (now (application .entry)) (new .major) (new .minor) (new .mediaType) (new .created) (new .written) ⌝ }
+{
+    let count = opening::count(t);
+    let most = composing::lay_out(count, size, sectors);
+    let end = most.end;
+    let length = buffer.len() as u64;
+    if length < end {
+        return flatten_tight(buffer, child, t, parent, p, size, application, new);
+    }
+    flatten_roomy(buffer, child, t, parent, p, size, most, application, new)
+}
+
 // Flattening a pair whose child opened as t, with a table of the first kind, after 31 and 33.
 fn flatten_opened<'a, 'b, 'c>(
     buffer: &'b mut [u8],
@@ -157,7 +252,7 @@ fn flatten_opened<'a, 'b, 'c>(
             new.written,
         );
     }
-    flatten_some(buffer, child, t, parent, p, size, application, new)
+    flatten_some(buffer, child, t, parent, p, size, sectors, application, new)
 }
 
 // Flattening a pair whose child opened as t, after 31 and 33: 74 where its table is of the second kind.
