@@ -1,12 +1,12 @@
 -- Each call is accepted exactly if its facts hold.
 use mathlib.Core.Bool.{true, false}
-use mathlib.Core.List.{List, [], _∷_, _++_, map}
+use mathlib.Core.List.{List}
 use mathlib.Core.Logic.{_≢_, _⊎_, inl, inr, ⊎-elim, ⊎-map, _↔_, Iff·trans, Iff·and}
-use mathlib.Core.Path.{_≡_, refl, sym, ap, _∙_, subst}
+use mathlib.Core.Path.{_≡_, sym, ap, _∙_, subst}
 use Prim.Native.Nat.{ℕ, _+_, _*_, _/_, _%_, _≤_, _<_}
 use native.Mathlib.Nat.{pos-of-ne-zero, zero-mul, mul-mod-left, mul-le-mul-right, eq-or-lt-of-le}
 use native.Mathlib.Omega.{arith}
-use lib.ListN.{length, take, length-append, length-map}
+use lib.ListN.{length, take, length-map}
 use lib.Seq.{length-take-le}
 use lib.IntN.{ℤ, pos, negℤ, _+ℤ_, _-ℤ_, +ℤ-idl, +ℤ-invl, +ℤ-negℤ-cancel}
 use Rattle.format.specs.declared.AddressRange.{AddressRange}
@@ -15,23 +15,22 @@ use Rattle.format.specs.declared.Placed.{Placed}
 use Rattle.format.specs.declared.Pointer.{Pointer}
 use Rattle.format.specs.declared.TableKind.{TableKind}
 use Rattle.format.specs.declared.TableKind.the-variants.{First}
-use Rattle.format.specs.Lists.{Any}
 use Rattle.format.specs.Refusals.{accepted}
-use Rattle.format.specs.Layouts.{DDT*, indexOffset, entries, userDataEntry, sectorSize, tableCount, tableNegative}
+use Rattle.format.specs.Layouts.{indexOffset, entries, sectorSize, tableCount, tableNegative}
 use Rattle.format.specs.Opening.{tableAt, kindAt, Opened, openedAs, opened, rangeOf, sectorCount}
 use Rattle.format.specs.Reading.{notWritten, placeOf}
 use Rattle.format.specs.Writing.{Outcome, placed}
-use Rattle.format.specs.Creating.{createdIndexAt, createdUsed, createdEntries, create}
-use Rattle.format.specs.Committing.{entryNumbers, pieces, Appended, appended, indexStart, usedAfter, append, commit}
+use Rattle.format.specs.Creating.{createdIndexAt, createdUsed, create}
+use Rattle.format.specs.Committing.{append, commit}
 use Rattle.format.specs.RollingBack.{rollback}
 use Rattle.format.specs.Exporting.{sizeAt, flatSize, flatFile, gapCount, exportExact, flat, export}
 use Rattle.format.specs.Importing.{import}
-use Rattle.format.specs.Facts.{Opens, OpensWith, NotWritten, EntryNames, DiscOk, Stores, all, again, new, Reindexed, replaced, end, blockLengthFor}
-use Rattle.format.specs.Demands.{HasSectors, Held, Additions, newEntries, CommitOk, ExportExactOk, ExportOk, newImage, ImportOk, Demand1Accepted}
+use Rattle.format.specs.Facts.{Opens, NotWritten, EntryNames, DiscOk, end}
+use Rattle.format.specs.Demands.{HasSectors, newEntries, CommitOk, ExportExactOk, ExportOk, newImage, ImportOk, Demand1Accepted}
 use Rattle.format.proofs.Tests.{on-or-off, off-rest}
 use Rattle.format.proofs.Lists.{all-map, howMany-most, howMany-all, howMany-counts, counts-is, howMany-none}
 use Rattle.format.proofs.Refusals.{answer-passes, answer-accepted}
-use Rattle.format.proofs.Checks.{open-ok, SectorOk, AddressOk, created-index, created-used, create-ok, WritableOk, Sound, DiscSound, commit-ok, rollback-ok}
+use Rattle.format.proofs.Checks.{open-ok, SectorOk, AddressOk, created-index, created-used, create-ok, Sound, DiscSound, commit-ok, rollback-ok}
 use Rattle.format.proofs.Opens.{opens-forth, opens-back, opened-as, writable-with}
 use Rattle.format.proofs.Addresses.{inside-each, each-inside}
 use Rattle.format.proofs.Buffers.{outcome-accepts}
@@ -41,11 +40,7 @@ use Rattle.format.proofs.Flattened.{flatten-forth, flatten-back}
 use Rattle.format.proofs.Exporting.{SizeOk, exact-ok, export-ok, size-or-none, flat-size, file-length}
 use Rattle.format.proofs.Composed.{composed-stores, composed-ends}
 use Rattle.format.proofs.Importing.{Importable, verdict-ok, file-whole, file-some, file-few, file-count, numbersOf, addresses-length, composable, import-is, import-accepted}
-use Rattle.format.proofs.Created.{length-new}
-use Rattle.format.proofs.Storing.{length-pieces}
-use Rattle.format.proofs.Bytes.{tag-bytes}
-use Rattle.format.proofs.KeptEntries.{reindexed-back}
-use Rattle.format.proofs.Ends.{length-some, entry-some, additions, index-is, end-is, ends-at}
+use Rattle.format.proofs.Ends.{additions, index-is, end-is, ends-at}
 
 -- ---- counting
 count-forth : (img : List ℕ) (r : AddressRange) → sectorCount img ≡ accepted r → HasSectors img r

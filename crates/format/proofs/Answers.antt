@@ -12,7 +12,11 @@ use Rattle.format.specs.declared.ExportedExact.{ExportedExact}
 use Rattle.format.specs.declared.ExportedExact.the-variants as export-exact
 use Rattle.format.specs.declared.Located.{Located}
 use Rattle.format.specs.declared.Located.the-variants as place
+use Rattle.format.specs.declared.LocatedOver.{LocatedOver}
+use Rattle.format.specs.declared.LocatedOver.the-variants as place-over
 use Rattle.format.specs.declared.Refusal.{Refusal}
+use Rattle.format.specs.declared.SourceOver.{SourceOver}
+use Rattle.format.specs.declared.SourceOver.the-variants as source-over
 use Rattle.format.specs.declared.Updated.{Updated}
 use Rattle.format.specs.declared.Updated.the-variants as update
 use Rattle.format.specs.declared.Verdict.{Verdict}
@@ -21,7 +25,7 @@ use Rattle.format.specs.Refusals.{refused, accepted}
 use Rattle.format.specs.Opening.{Opened, opening, rangeOf, sectorCount}
 use Rattle.format.specs.Reading.{readVerdict, locate}
 use Rattle.format.specs.Writing.{outcome}
-use Rattle.format.specs.Answers.{counted, located, updated, exported, exportedExact, answered}
+use Rattle.format.specs.Answers.{counted, located, locatedOver, sourcedOver, updated, exported, exportedExact, answered}
 use Rattle.format.proofs.Refusals.{answer-passes, answer-refuses, answer-accepted, answer-refused, then-refuses}
 
 pub counted-distinct : (x y : Counted) → counted x ≡ counted y → x ≡ y
@@ -37,6 +41,20 @@ located-distinct (place.At p) (place.At q) e = cc
 located-distinct (place.At p) (place.Refused r) e = let z : _≡_ {A = ℕ} 0 1 = cc in absurd (omega arith)
 located-distinct (place.Refused r) (place.At p) e = let z : _≡_ {A = ℕ} 0 1 = cc in absurd (omega arith)
 located-distinct (place.Refused r) (place.Refused q) e = cc
+
+pub locatedOver-distinct : (x y : LocatedOver) → locatedOver x ≡ locatedOver y → x ≡ y
+unfolding locatedOver
+locatedOver-distinct (place-over.In p) (place-over.In q) e = cc
+locatedOver-distinct (place-over.In p) (place-over.Refused r) e = let z : _≡_ {A = ℕ} 0 1 = cc in absurd (omega arith)
+locatedOver-distinct (place-over.Refused r) (place-over.In p) e = let z : _≡_ {A = ℕ} 0 1 = cc in absurd (omega arith)
+locatedOver-distinct (place-over.Refused r) (place-over.Refused q) e = cc
+
+pub sourcedOver-distinct : (x y : SourceOver) → sourcedOver x ≡ sourcedOver y → x ≡ y
+unfolding sourcedOver
+sourcedOver-distinct (source-over.Image n) (source-over.Image m) e = cc
+sourcedOver-distinct (source-over.Image n) (source-over.Refused r) e = let z : _≡_ {A = ℕ} 0 1 = cc in absurd (omega arith)
+sourcedOver-distinct (source-over.Refused r) (source-over.Image n) e = let z : _≡_ {A = ℕ} 0 1 = cc in absurd (omega arith)
+sourcedOver-distinct (source-over.Refused r) (source-over.Refused q) e = cc
 
 pub updated-distinct : (x y : Updated) → updated x ≡ updated y → x ≡ y
 unfolding updated

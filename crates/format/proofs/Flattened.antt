@@ -1,7 +1,6 @@
 -- The disc that a flattening leaves reads as the pair did; and the first refusal of a sector is the flattening's own.
-use mathlib.Core.Bool.{true, false}
-use mathlib.Core.List.{List, [], _∷_, map, append-nil}
-use mathlib.Core.List as list
+use mathlib.Core.Bool.{true}
+use mathlib.Core.List.{List, [], _∷_, map}
 use mathlib.Core.Logic.{_≢_, ⊎-elim}
 use mathlib.Core.Path.{_≡_, refl, sym, ap, _∙_, subst}
 use Prim.Native.Nat.{ℕ, zero, suc, _+_, _*_, _≤_, _<_}
@@ -10,7 +9,6 @@ use native.Mathlib.Omega.{arith}
 use lib.ListN.{length, take, getD, length-map}
 use lib.IntN.{ℤ, pos, negℤ, natAbs, +ℤ-idl}
 use Rattle.fields.specs.Bytes.{part, overwrite}
-use Rattle.format.specs.declared.AddressRange.{AddressRange}
 use Rattle.format.specs.declared.Placed.{Placed}
 use Rattle.format.specs.declared.Refusal.{Refusal}
 use Rattle.format.specs.declared.TableKind.the-variants.{First}

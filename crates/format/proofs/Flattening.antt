@@ -1,36 +1,34 @@
 -- Flattening: its own checks, and then a creation alone, or a creation and one commit (Composing). In one piece: its checks, 35 as the last of them, and what
 -- it leaves.
-use mathlib.Core.Bool.{Bool, true, false}
+use mathlib.Core.Bool.{true, false}
 use mathlib.Core.List.{List, [], _∷_, map, append-nil}
 use mathlib.Core.List as list
-use mathlib.Core.Logic.{_≢_, _⊎_, inl, inr, ⊎-elim, _↔_, Iff·rfl}
+use mathlib.Core.Logic.{_≢_, _⊎_, ⊎-elim, _↔_, Iff·rfl}
 use mathlib.Core.Path.{_≡_, refl, sym, ap, _∙_, subst}
 use Prim.Native.Nat.{ℕ, zero, suc, _+_, _*_, _≤_, _<_}
 use native.Mathlib.Nat.{le-refl}
 use native.Mathlib.Omega.{arith}
-use lib.ListN.{length, take, length-map}
+use lib.ListN.{length, length-map}
 use lib.IntN.{ℤ, pos}
 use Rattle.fields.specs.Bytes.{overwrite}
 use Rattle.format.specs.declared.Placed.{Placed}
 use Rattle.format.specs.declared.Refusal.{Refusal}
-use Rattle.format.specs.declared.TableKind.the-variants.{First}
 use Rattle.format.specs.declared.Verdict.{Verdict}
 use Rattle.format.specs.declared.Verdict.the-variants.{Passes, Refuses}
-use Rattle.format.specs.Tests.{same, below, _and_}
+use Rattle.format.specs.Tests.{below, _and_}
 use Rattle.format.specs.Lists.{All, done, more}
 use Rattle.format.specs.Refusals.{refusal, row, _then_, firstRefusal, Answer, refused, accepted, answer}
 use Rattle.format.specs.Layouts.{applicationLength, indexOffset}
-use Rattle.format.specs.Reading.{read}
 use Rattle.format.specs.Writing.{mostSectors, largestSize, mostAddresses, longestBuffer, Outcome, outcome, placed}
 use Rattle.format.specs.Creating.{createdUsed, createdIndexAt, create}
 use Rattle.format.specs.Committing.{otherThan21, risingBy, pieces, commit}
 use Rattle.format.specs.Importing.{orLeaves, andThen}
-use Rattle.format.specs.Overlaying.{over, discOver, readOver}
+use Rattle.format.specs.Overlaying.{discOver, readOver}
 use Rattle.format.specs.Flattening.{countOf, pairAt, Written, withSector, writtenFrom, writtenOf, addressesOf, sizeOf, sectorsOf, anyOther, verdictOf, pairVerdict, sizesVerdict, lentVerdict, flattenVerdict, commitAll, flatten}
 use Rattle.format.specs.Facts.{FlattenArguments}
-use Rattle.format.proofs.Tests.{on-or-off, below-true, below-iff, same-on, same-iff, differs-iff, or-iff, and-true, choose-false}
+use Rattle.format.proofs.Tests.{below-true, below-iff, same-iff, differs-iff, or-iff, and-true}
 use Rattle.format.proofs.Lists.{Sized, all-map, all-head, all-tail, length-flatten}
-use Rattle.format.proofs.Refusals.{not-passes, row-iff, then-iff, then-rest, firstRefusal-iff, firstRefusal-same}
+use Rattle.format.proofs.Refusals.{row-iff, then-iff, then-rest, firstRefusal-iff, firstRefusal-same}
 use Rattle.format.proofs.Checks.{facts, WritableOk, writable-ok}
 use Rattle.format.proofs.Buffers.{outcome-accepted, outcome-refused}
 use Rattle.format.proofs.Reading.{demand-2-reading, demand-2-returned}

@@ -3,7 +3,7 @@ use mathlib.Core.Bool.{true, false}
 use mathlib.Core.List.{List, []}
 use mathlib.Core.Logic.{_≢_, _⊎_, inl, inr, ⊎-elim, _↔_, Iff·rfl, Iff·trans, Iff·and}
 use mathlib.Core.Path.{_≡_, refl, sym, ap, _∙_, subst}
-use Prim.Native.Nat.{ℕ, zero, suc, _+_, _≤_}
+use Prim.Native.Nat.{ℕ, _+_, _≤_}
 use native.Mathlib.Omega.{arith}
 use lib.ListN.{length}
 use lib.IntN.{ℤ}
@@ -14,21 +14,21 @@ use Rattle.format.specs.declared.Sourced.{Sourced}
 use Rattle.format.specs.declared.Verdict.{Verdict}
 use Rattle.format.specs.declared.Verdict.the-variants.{Passes, Refuses}
 use Rattle.format.specs.Tests.{same}
-use Rattle.format.specs.Refusals.{refusal, row, Answer, refused, accepted}
+use Rattle.format.specs.Refusals.{refusal, Answer, refused, accepted}
 use Rattle.format.specs.Layouts.{indexOffset, entries}
 use Rattle.format.specs.Opening.{tableAt, kindAt, Opened, openedAs, opened}
 use Rattle.format.specs.Reading.{outside, entryNumber, notWritten, itemBytes, addressVerdict, readVerdict, readAt, read, locate}
 use Rattle.format.specs.Answers.{bytesRead}
 use Rattle.format.specs.Overlaying.{parentRefusal, fromParent, over, discOver, readOver, inImage, locateOver, imageOf, sourceOver}
-use Rattle.format.specs.Demands.{FromTo, PlaceFor, atHeader, atIndex, atEntry, atTable, atTableEntry, atBlock, atNone, Missing, NamesItem, NamesNothing, NamesOver, theChild, theParent, imageBy, ItemOver, OverReading, OverReturned, Agreeing, OverAgrees, RefusedOver, byChild, byNeither, byParent, OverRefused}
+use Rattle.format.specs.Demands.{FromTo, PlaceFor, atHeader, atIndex, atEntry, atTable, atTableEntry, atBlock, atNone, Missing, NamesNothing, NamesOver, theChild, theParent, imageBy, ItemOver, OverReading, OverReturned, OverAgrees, RefusedOver, byChild, byNeither, byParent, OverRefused}
 use Rattle.format.specs.Facts.{NotWritten, HasEntry}
 use Rattle.format.proofs.Tests.{on-or-off, same-iff, same-on}
-use Rattle.format.proofs.Refusals.{not-passes, row-iff, gives, row-says, says-not, says-refused, then-gives, answer-passes, answer-refuses, answer-accepted, answer-refused}
+use Rattle.format.proofs.Refusals.{row-iff, gives, row-says, says-not, says-refused, then-gives, answer-passes, answer-refuses, answer-accepted, answer-refused}
 use Rattle.format.proofs.Checks.{OpenOk, open-ok, sector-21, gives-21}
 use Rattle.format.proofs.Opens.{opens-forth, opens-back, opened-as}
 use Rattle.format.proofs.Reading.{not-written, inside-entry, entry-inside, entry-number, locating, item-fits, item-some, locate-refuses-as-read}
 use Rattle.format.proofs.Refusing.{read-says, open-not}
-use Rattle.format.proofs.Overlaying.{parent-20, parent-21, parent-other, over-child, over-other, over-parent, overVerdict, over-passes, chosen, readBy, placeIn, bytesIn, bothBy, read-over, locate-over}
+use Rattle.format.proofs.Overlaying.{parent-20, parent-21, parent-other, over-child, over-other, over-parent, overVerdict, over-passes, chosen, readBy, placeIn, bytesIn, read-over, locate-over}
 
 -- ---- an address is not written exactly if it reads as 21
 module _ (img : List ℕ) (a : ℤ) where
