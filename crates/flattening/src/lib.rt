@@ -209,9 +209,8 @@ fn flatten_some<'a, 'b, 'c>(
 {
     let count = opening::count(t);
     let most = composing::lay_out(count, size, sectors);
-    let end = most.end;
     let length = buffer.len() as u64;
-    if length < end {
+    if length < most.end {
         return flatten_tight(buffer, child, t, parent, p, size, application, new);
     }
     flatten_roomy(buffer, child, t, parent, p, size, most, application, new)

@@ -12,7 +12,7 @@ lay-out-requires c κs =
 
 flatten-roomy-requires : tie.Need-flatten-roomy-requires
 flatten-roomy-requires c κs =
-    let d = c .before .before in
+    let d = c .before .before .before in
     let h = d .before .before .before .before .before .before .pre in
     (h .0, h .1, h .2, h .3, (rw (d .before .count .ensures, h .4) at (d .lay-out .ensures)), omega arith)
 
