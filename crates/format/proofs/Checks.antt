@@ -14,6 +14,7 @@ use Rattle.fields.specs.Bytes.{part, equal}
 use Rattle.fields.proofs.Equal.{equal-iff}
 use Rattle.format.specs.declared.Entry.{Entry}
 use Rattle.format.specs.declared.Pointer.{Pointer}
+use Rattle.format.specs.declared.Refusal.{Refusal}
 use Rattle.format.specs.declared.TableKind.{TableKind}
 use Rattle.format.specs.declared.TableKind.the-variants.{First, Second}
 use Rattle.format.specs.declared.Verdict.{Verdict}
@@ -190,6 +191,11 @@ pub keeps-others : (v : Verdict) → ¬ Gives 21 v → otherThan21 v ≡ v
 unfolding otherThan21 Gives
 keeps-others Passes n = refl
 keeps-others (Refuses r) n = choose-false _ _ _ (same-iff .1 n)
+
+-- a refusal that is left out has this number
+pub only-21 : (r : Refusal) → otherThan21 (Refuses r) ≡ Passes → r .number ≡ 21
+unfolding otherThan21
+only-21 r e = ⊎-elim (same-on _ _) (λ h. absurd (not-passes (sym (choose-false _ _ _ h) ∙ e))) (on-or-off (same (r .number) 21))
 
 other-than-21 : (v : Verdict) → (otherThan21 v ≡ Passes) ↔ (Gives 21 v ⊎ (v ≡ Passes))
 unfolding otherThan21 Gives

@@ -13,7 +13,6 @@ use Rattle.format.specs.declared.Placed.{Placed}
 use Rattle.format.specs.declared.Refusal.{Refusal}
 use Rattle.format.specs.declared.TableKind.the-variants.{First}
 use Rattle.format.specs.declared.Verdict.the-variants.{Passes, Refuses}
-use Rattle.format.specs.Tests.{same}
 use Rattle.format.specs.Lists.{All, done, more, IsBytes}
 use Rattle.format.specs.Refusals.{refusal, Answer, refused, accepted}
 use Rattle.format.specs.Layouts.{indexOffset, tableCount}
@@ -27,11 +26,11 @@ use Rattle.format.specs.Flattening.{countOf, pairAt, Written, withSector
 use Rattle.format.specs.Histories.{ReadTheSame}
 use Rattle.format.specs.Demands.{Missing, FreshDisc, ReadsCommitted, newImage, PairHas, finished, gap, sector, FlattenOk, RefusedOver, byChild, byNeither, byParent, FlattenReads, FlattenRefused}
 use Rattle.format.specs.Facts.{Stores, all}
-use Rattle.format.proofs.Tests.{on-or-off, never, same-on, same-true, same-iff, choose-true, choose-false}
+use Rattle.format.proofs.Tests.{on-or-off, never, same-true, same-iff, choose-true, choose-false}
 use Rattle.format.proofs.Lists.{Sized, getD-map, all-mapped, all-head, all-tail}
-use Rattle.format.proofs.Refusals.{not-passes, then-rest, then-refuses, firstRefusal-at, answer-passes}
+use Rattle.format.proofs.Refusals.{then-rest, then-refuses, firstRefusal-at, answer-passes}
 use Rattle.format.proofs.Numbers.{inside-flat, inside-number, number-inside}
-use Rattle.format.proofs.Checks.{open-ok, writable-ok, first-flat, created-index, created-used}
+use Rattle.format.proofs.Checks.{open-ok, only-21, writable-ok, first-flat, created-index, created-used}
 use Rattle.format.proofs.Opens.{opened-as, writable-with}
 use Rattle.format.proofs.Buffers.{outcome-accepts, outcome-refuses}
 use Rattle.format.proofs.Reading.{outside-refused}
@@ -92,10 +91,6 @@ refused-as-21 child parent a r (byChild e n) z = absurd (n z)
 refused-as-21 child parent a _ (byNeither m k) z = refl
 refused-as-21 child parent a _ (byParent m e c d) z = absurd (omega arith)
 
-passed-21 : (r : Refusal) → otherThan21 (Refuses r) ≡ Passes → r .number ≡ 21
-unfolding otherThan21
-passed-21 r e = ⊎-elim (same-on _ _) (λ h. absurd (not-passes (sym (choose-false _ _ _ h) ∙ e))) (on-or-off (same (r .number) 21))
-
 other-kept : (r : Refusal) → r .number ≢ 21 → otherThan21 (Refuses r) ≡ Refuses r
 unfolding otherThan21
 other-kept r n = choose-false _ _ _ (same-iff .1 n)
@@ -105,10 +100,10 @@ unfolding otherThan21 verdictOf
 passes-21 (accepted d) h = refl
 passes-21 (refused r) h = choose-true _ _ _ (same-true _ _ (h r refl))
 
-pub pair-21 : (child parent : List ℕ) (n : ℕ) (r : Refusal) → otherThan21 (verdictOf (pairAt child parent n)) ≡ Passes → pairAt child parent n ≡ refused r → Missing (pairAt child parent n)
+pair-21 : (child parent : List ℕ) (n : ℕ) (r : Refusal) → otherThan21 (verdictOf (pairAt child parent n)) ≡ Passes → pairAt child parent n ≡ refused r → Missing (pairAt child parent n)
 unfolding pairAt verdictOf
 pair-21 child parent n r k e =
-    e ∙ ap refused (refused-as-21 child parent (pos n) r (over-refused child parent (pos n) r .0 e) (passed-21 r (subst (λ (x : Answer (List ℕ)). otherThan21 (verdictOf x) ≡ Passes) e k)))
+    e ∙ ap refused (refused-as-21 child parent (pos n) r (over-refused child parent (pos n) r .0 e) (only-21 r (subst (λ (x : Answer (List ℕ)). otherThan21 (verdictOf x) ≡ Passes) e k)))
 
 -- ---- the pair has a sector at each address or none: by its answers
 module _ (child parent : List ℕ) (size : ℕ) where

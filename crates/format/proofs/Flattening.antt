@@ -43,13 +43,13 @@ sectorList ws = map (λ (w : Written). w .sector) ws
 abbrev pub numberList : List Written → List ℕ
 numberList ws = map (λ (w : Written). w .address) ws
 
-pub addresses-are : (ws : List Written) → addressesOf ws ≡ map pos (numberList ws)
+addresses-are : (ws : List Written) → addressesOf ws ≡ map pos (numberList ws)
 unfolding addressesOf
 addresses-are [] = refl
 addresses-are (w ∷ ws) = ap (λ (l : List ℤ). pos (w .address) ∷ l) (addresses-are ws)
 
 -- one address more
-pub all-with : (P : ℕ → Type 0) (n : ℕ) (x : Answer (List ℕ)) (ws : List Written) → P n → All P (numberList ws) → All P (numberList (withSector n x ws))
+all-with : (P : ℕ → Type 0) (n : ℕ) (x : Answer (List ℕ)) (ws : List Written) → P n → All P (numberList ws) → All P (numberList (withSector n x ws))
 unfolding withSector
 all-with P n (accepted d) ws h hs = more h hs
 all-with P n (refused r) ws h hs = hs
@@ -105,12 +105,12 @@ module _ (child parent : List ℕ) where
   all-some (suc k) n = some-with n (pairAt child parent n) _ refl (all-some k (suc n))
 
 -- ---- the checks of a pair's sectors, by the two images' own verdicts
-verdict-of : {A : Type 0} (v : Verdict) (a : A) → verdictOf (answer v a) ≡ v
+pub verdict-of : {A : Type 0} (v : Verdict) (a : A) → verdictOf (answer v a) ≡ v
 unfolding verdictOf answer
 verdict-of Passes a = refl
 verdict-of (Refuses r) a = refl
 
-pub pair-at : (child parent : List ℕ) (n : ℕ) → verdictOf (pairAt child parent n) ≡ bothBy child parent (pos n)
+pair-at : (child parent : List ℕ) (n : ℕ) → verdictOf (pairAt child parent n) ≡ bothBy child parent (pos n)
 unfolding pairAt
 pair-at child parent n = ap (λ (x : Answer (List ℕ)). verdictOf x) (read-over child parent (pos n)) ∙ verdict-of _ _
 
@@ -236,7 +236,7 @@ module _ (buffer child parent application : List ℕ) (major minor mediaType cre
   flatten-is = checked-then buffer _ _ _ _ _ _ (λ e. calls-are (flattenable buffer child parent application .0 e) written refl)
 
   -- where its own checks pass it is the creation, or both calls
-  pub flatten-calls : Flattenable buffer child parent application
+  flatten-calls : Flattenable buffer child parent application
       → flatten buffer child parent application major minor mediaType creationTime lastWrittenTime ≡ outcome buffer (roomVerdict written) (flatEnd written) (flatBuffer written)
   flatten-calls k =
       flatten-is ∙ ap (λ (v : Verdict). outcome buffer v (flatEnd written) (flatBuffer written)) (then-rest _ _ (flattenable buffer child parent application .1 k))

@@ -201,7 +201,7 @@ module _ (buffer file : List ℕ) (size : ℕ) (application : List ℕ) (major m
     commit-done : Committed (overwrite buffer 0 (made count application major minor mediaType creationTime lastWrittenTime)) (createdUsed count) (addressesOf count) size file p after
     commit-done = rw (i .buffer-is, ← (i .answer)) (committed _ _ _ _ _ _ _ _ _ _ _ (composable (i .checked)) bb ba (i .room))
 
-    pub disc-started : IsBytes file → Started p after
+    disc-started : IsBytes file → Started p after
     disc-started bf = rw (i .buffer-is, ← (i .answer)) (composed-started _ _ _ _ _ _ _ _ _ _ _ (composable (i .checked)) bb ba (i .room) bf)
 
     count-is : opened y (indexOffset y) .count ≡ count
@@ -209,7 +209,7 @@ module _ (buffer file : List ℕ) (size : ℕ) (application : List ℕ) (major m
         ap (λ n. opened y n .count) (commit-done .offset)
         ∙ (rw (i .buffer-is, ← (i .answer)) (composed-count _ _ _ _ _ _ _ _ _ _ _ (composable (i .checked)) bb ba (i .room)))
 
-    pub disc-imported : ImportedDisc file size y
+    disc-imported : ImportedDisc file size y
     unfolding sectorCount rangeOf read
     disc-imported =
         let c = commit-done in

@@ -72,7 +72,7 @@ module _ (img : List ℕ) (a : ℤ) where
         ),
       ))
 
-  pub names-nothing : Missing (read img a) ↔ NamesNothing img a
+  names-nothing : Missing (read img a) ↔ NamesNothing img a
   names-nothing = (missing-forth, missing-back)
 
   -- a refusal with 20 or 21 has no place
@@ -91,7 +91,7 @@ module _ (img : List ℕ) (a : ℤ) where
       let q = says-refused _ _ r (read-says img o a) (answer-refused _ _ r e) in
       e ∙ (λ i. refused (record { number = r .number; place = record { 0 = place-none (r .number) (r .place .0) f (q .1) i } }))
 
-  pub refused-21 : (r : Refusal) → r .number ≡ 21 → read img a ≡ refused r → Missing (read img a)
+  refused-21 : (r : Refusal) → r .number ≡ 21 → read img a ≡ refused r → Missing (read img a)
   refused-21 r n e = refused-none r (omega (arith, n)) e ∙ (λ i. refused (refusal (n i) 0))
 
 -- ---- the pair names an item exactly if the call that says where accepts

@@ -118,7 +118,7 @@ unfolding choose
 choose-answer true v w b = refl
 choose-answer false v w b = refl
 
-pub over-answer : {A : Type 0} (v w : Verdict) (a b : A) → over (answer v a) (answer w b) ≡ answer (overVerdict v w) (chosen v a b)
+over-answer : {A : Type 0} (v w : Verdict) (a b : A) → over (answer v a) (answer w b) ≡ answer (overVerdict v w) (chosen v a b)
 unfolding over answer overVerdict chosen
 over-answer Passes w a b = refl
 over-answer (Refuses r) w a b =

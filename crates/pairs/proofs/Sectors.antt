@@ -1,7 +1,7 @@
 -- A pair of images whose sectors were all checked: what it has at an address, by what each of the two has there.
 use mathlib.Core.Bool.{Bool, true, false}
 use mathlib.Core.List.{List, [], _∷_}
-use mathlib.Core.Logic.{_≢_, ⊎-elim, _↔_}
+use mathlib.Core.Logic.{_≢_, ⊎-elim}
 use mathlib.Core.Path.{_≡_, refl, sym, ap, _∙_, subst}
 use Prim.Native.Nat.{ℕ, _+_, _≤_, _<_}
 use native.Mathlib.Nat.{zero-add}
@@ -23,13 +23,13 @@ use Rattle.format.specs.Answers.{bytesRead}
 use Rattle.format.specs.Committing.{otherThan21}
 use Rattle.format.specs.Overlaying.{parentRefusal, fromParent, over, discOver, readOver}
 use Rattle.format.specs.Flattening.{pairAt, verdictOf, pairVerdict}
-use Rattle.format.specs.Demands.{RefusedOver, byChild, byNeither, byParent}
-use Rattle.format.proofs.Tests.{on-or-off, off-rest, same-on, same-iff, choose-true, choose-false}
-use Rattle.format.proofs.Refusals.{not-passes, Gives, says-not, then-says, row-says, then-refuses, firstRefusal-iff, answer-passes, answer-refuses, answer-refused}
-use Rattle.format.proofs.Checks.{PointerOk, SectorOk, sector-ok, sector-21, item-inside, item-says, address-ok, entryRead, read-20, read-inside, first-flat}
+use Rattle.format.proofs.Tests.{on-or-off, off-rest, same-iff, choose-true}
+use Rattle.format.proofs.Refusals.{Gives, says-not, then-says, row-says, then-refuses, firstRefusal-iff, answer-passes, answer-refuses, answer-refused}
+use Rattle.format.proofs.Flattening.{verdict-of}
+use Rattle.format.proofs.Checks.{PointerOk, SectorOk, only-21, sector-ok, sector-21, item-inside, item-says, address-ok, entryRead, read-20, read-inside, first-flat}
 use Rattle.format.proofs.Numbers.{address-displaced, numbered-at}
 use Rattle.format.proofs.Overlaying.{parent-other, over-child, over-other, over-parent}
-use Rattle.format.proofs.Overlaid.{over-some, over-refused}
+use Rattle.format.proofs.Overlaid.{over-some}
 use Rattle.opening.proofs.Accepted.{opens, opened-is}
 use Rattle.pairs.specs.Pairs.{entryAnswer, EntryChecked, ParentChecked, Pair, sectorAt}
 
@@ -76,15 +76,6 @@ read-unopened img r e a = answer-refuses _ _ r (then-refuses _ _ r (answer-refus
 -- ---- which answers pass: all but refusals with another number than 21
 abbrev Passing : Answer (List ℕ) → Type 0
 Passing x = otherThan21 (verdictOf x) ≡ Passes
-
-verdict-answer : (v : Verdict) (d : List ℕ) → verdictOf (answer v d) ≡ v
-unfolding verdictOf answer
-verdict-answer Passes d = refl
-verdict-answer (Refuses r) d = refl
-
-only-21 : (r : Refusal) → otherThan21 (Refuses r) ≡ Passes → r .number ≡ 21
-unfolding otherThan21
-only-21 r e = ⊎-elim (same-on _ _) (λ f. absurd (not-passes (sym (choose-false _ Passes (Refuses r) f) ∙ e))) (on-or-off (same (r .number) 21))
 
 -- the child's, where the pair's does
 child-passes : (x y : Answer (List ℕ)) → Passing (over x y) → Passing x
@@ -152,11 +143,6 @@ not-empty : (x : List ℕ) → 0 < length x → x ≢ []
 not-empty x h e = let z : length x ≡ 0 = ap length e in omega arith
 
 -- ---- what the pair answers, by the bytes that are handed out
-only-neither : {child parent : List ℕ} {a : ℤ} (r : Refusal) → RefusedOver child parent a r → r .number ≡ 21 → r ≡ refusal 21 0
-only-neither r (byChild e d) m = absurd (d m)
-only-neither _ (byNeither e f) m = refl
-only-neither _ (byParent e f c d) m = absurd (omega arith)
-
 module _ (child parent : List ℕ) (n : ℕ) (d : List ℕ) where
   some-by : (x : Answer (List ℕ)) → pairAt child parent n ≡ x → d ≡ bytesRead x → d ≢ [] → pairAt child parent n ≡ accepted d
   unfolding bytesRead
@@ -201,7 +187,7 @@ module _ (child parent : List ℕ) (t : Opened) (p : Answer Opened) (k : Pair ch
     opens = k .opens;
     inside = h;
     passes =
-        ap otherThan21 (sym (ap verdictOf child-read ∙ verdict-answer (sectorVerdict child (entries child (indexOffset child)) t n) _))
+        ap otherThan21 (sym (ap verdictOf child-read ∙ verdict-of (sectorVerdict child (entries child (indexOffset child)) t n) _))
         ∙ child-passes (read child (pos n)) (read parent (pos n)) passed;
   }
 
@@ -235,14 +221,3 @@ module _ (child parent : List ℕ) (t : Opened) (p : Answer Opened) (k : Pair ch
 
       pub sector-parents : {x : List ℕ} → x ≡ bytesRead (fromParent (read parent a)) → x ≡ sectorAt child parent n
       sector-parents g = g ∙ sym (ap bytesRead gap)
-
-  -- it has none exactly where it answers 21
-  none-by : (x : Answer (List ℕ)) → pairAt child parent n ≡ x → bytesRead x ≡ [] → pairAt child parent n ≡ refused (refusal 21 0)
-  unfolding pairAt bytesRead verdictOf
-  none-by (accepted d) e f = absurd (over-some child parent (pos n) d e f)
-  none-by (refused r) e f =
-      e ∙ ap refused (only-neither r (over-refused child parent (pos n) r .0 e) (only-21 r (subst Passing e passed)))
-
-  pub sector-none : (sectorAt child parent n ≡ []) ↔ (pairAt child parent n ≡ refused (refusal 21 0))
-  unfolding bytesRead
-  sector-none = (none-by (pairAt child parent n) refl, λ e. ap bytesRead e)

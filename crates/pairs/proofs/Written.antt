@@ -32,7 +32,7 @@ module _ (child parent : List ℕ) (count : ℕ) where
   abbrev pub rest : ℕ → List Written
   rest n = writtenFrom (pairAt child parent) (count - n) n
 
-  pub rest-done : (n : ℕ) → count ≤ n → rest n ≡ []
+  rest-done : (n : ℕ) → count ≤ n → rest n ≡ []
   unfolding writtenFrom
   rest-done n h = rw (sub-done n count h)
 
@@ -41,7 +41,7 @@ module _ (child parent : List ℕ) (count : ℕ) where
     unfolding writtenFrom
     rest-step = rw (sub-step n count h, add-one)
 
-    pub rest-some : 0 < length d → rest n ≡ record { address = n; sector = d } ∷ rest (n + 1)
+    rest-some : 0 < length d → rest n ≡ record { address = n; sector = d } ∷ rest (n + 1)
     unfolding withSector
     rest-some l = rest-step ∙ ap (λ (x : Answer (List ℕ)). withSector n x (rest (n + 1))) (sector-some child parent n d f l)
 
@@ -50,7 +50,7 @@ module _ (child parent : List ℕ) (count : ℕ) where
     without (accepted c) e l = let q = sector-is child parent n c e in absurd (q .1 (sym (q .0) ∙ sym f ∙ empty d l))
     without (refused r) e l = refl
 
-    pub rest-none : length d ≤ 0 → rest n ≡ rest (n + 1)
+    rest-none : length d ≤ 0 → rest n ≡ rest (n + 1)
     rest-none l = rest-step ∙ without (pairAt child parent n) refl l
 
     -- ---- the size of the first: those below n have none
