@@ -66,7 +66,7 @@ parentNumber n = FromTo 101 114 n ⊎ FromTo 122 127 n ⊎ FromTo 170 173 n
 abbrev pub overNumber : ℕ → Type 0
 overNumber n = readingNumber n ⊎ parentNumber n
 
--- (20 and 21, which are no refusal of an address of the child's, are not among them)
+-- not 20, since every address of the child's is its own, and not 21, since a sector that is not written is no fault
 abbrev pub flatteningNumber : ℕ → Type 0
 flatteningNumber n = openingNumber n ⊎ (n ≡ 74) ⊎ FromTo 22 27 n ⊎ parentNumber n ⊎ FromTo 30 31 n ⊎ (n ≡ 33) ⊎ (n ≡ 35) ⊎ (n ≡ 40)
 
@@ -346,8 +346,8 @@ pub record WritesOnly : Type 0 where
       → let after = flatten buffer child parent application major minor mediaType creationTime lastWrittenTime .buffer in
       Leaves buffer after (λ i. p .used ≤ i) × HeaderSet after (p .index .0) lastWrittenTime
 
--- ---- 11/13: "Commit, rollback, .. and flattening such a child are refused" on a table of the second kind, with 74, "(rollback: at its offset), after opening's": exactly if the image
--- opens with such a table and no check before it applies
+-- ---- 11/13: "Commit, rollback, .. and flattening such a child are refused" on a table of the second kind, with 74, "(rollback: at its offset), after
+-- opening's": exactly if the image opens with such a table and no check before it applies
 pub record SecondRefused : Type 0 where
   pub committing : (buffer : List ℕ) (used : ℕ) (addresses : List ℤ) (size : ℕ) (sectors : List ℕ) (time : ℕ)
       → (commit buffer used addresses size sectors time .result ≡ refused (refusal 74 0))
