@@ -1,12 +1,12 @@
 // The library: the public calls. None asks anything of its caller; each refuses by the numbers of document 01, in its order, and says
 // where in the image. A call that is refused changes no byte of what it was lent. An image is the first `used` bytes of a lent buffer.
 ghost use Rattle.std.specs.Prelude.{◌≡◌};
-ghost use Rattle.format.specs.Opening.{sectorCount};
+ghost use Rattle.format.specs.Opening.{sector_count};
 ghost use Rattle.format.specs.Reading.{locate, read};
 ghost use Rattle.format.specs.Creating.{create};
 ghost use Rattle.format.specs.Committing.{commit};
 ghost use Rattle.format.specs.RollingBack.{rollback};
-ghost use Rattle.format.specs.Answers.{counted, located, bytesRead, updated, answered};
+ghost use Rattle.format.specs.Answers.{counted, located, bytes_read, updated, answered};
 
 pub use format::{
     AddressRange, ByteOffset, Counted, Located, Place, Placed, Refusal, SectorAddress, Updated,
@@ -16,7 +16,7 @@ use opening::Opening;
 
 // How many sectors the image has and which address is the lowest, or why it does not open: 1 to 14, 70 to 72.
 pub fn sector_count(image: &[u8]) -> Counted
-    ensures { counted result ≡ sectorCount image.now }
+    ensures { counted result ≡ sector_count image.now }
 {
     let opened = opening::open(image);
     match opened {
@@ -35,7 +35,7 @@ pub fn locate(image: &[u8], a: SectorAddress) -> Located
 
 // The sector at address a: the part of the image that `locate` names, and the empty part exactly where `locate` refuses.
 pub fn read<'a>(image: &'a [u8], a: SectorAddress) -> &'a [u8]
-    ensures { result.now ≡ bytesRead (read image.now a.0) }
+    ensures { result.now ≡ bytes_read (read image.now a.0) }
 {
     let opened = opening::open(image);
     match opened {

@@ -20,17 +20,17 @@ returned (accepted a) values place = record { number = 0; values = a; place = pl
 returned (refused r) values place = record { number = r.number; values = values; place = r.place.0 }
 
 -- the values of aaru_sector_count
-abbrev pub countAndLowest : ℕ → ℤ → AddressRange
-countAndLowest count lowest = record { count = count; lowest = record { 0 = lowest } }
+abbrev pub count_and_lowest : ℕ → ℤ → AddressRange
+count_and_lowest count lowest = record { count = count; lowest = record { 0 = lowest } }
 
 -- the values of aaru_locate; aaru_export_exact has one, those of aaru_export are `flat` of format/specs/Exporting, and those of the other calls that write are
 -- `placed` of format/specs/Writing
-abbrev pub startAndSize : ℕ → ℕ → Place
-startAndSize start size = record { start = record { 0 = start }; size = size }
+abbrev pub start_and_size : ℕ → ℕ → Place
+start_and_size start size = record { start = record { 0 = start }; size = size }
 
 -- those of aaru_locate_over
-abbrev pub whichStartAndSize : ℕ → ℕ → ℕ → Sourced
-whichStartAndSize which start size = record { image = which; place = startAndSize start size }
+abbrev pub which_start_and_size : ℕ → ℕ → ℕ → Sourced
+which_start_and_size which start size = record { image = which; place = start_and_size start size }
 
 -- of a call that writes also every byte of the buffer
 pub record Left (A : Type 0) : Type 0 where

@@ -3,18 +3,18 @@
 // accepted one leaves. As in `aaru`, no call asks anything of its caller; what the language itself takes for granted of pointers that come from outside is said
 // in the header.
 ghost use Rattle.std.specs.Prelude.{◌≡◌};
-ghost use Rattle.format.specs.Opening.{sectorCount};
+ghost use Rattle.format.specs.Opening.{sector_count};
 ghost use Rattle.format.specs.Reading.{locate};
 ghost use Rattle.format.specs.Creating.{create};
 ghost use Rattle.format.specs.Committing.{commit};
 ghost use Rattle.format.specs.RollingBack.{rollback};
-ghost use Rattle.format.specs.Exporting.{exportExact, flat, export};
+ghost use Rattle.format.specs.Exporting.{export_exact, flat, export};
 ghost use Rattle.format.specs.Importing.{import};
-ghost use Rattle.format.specs.Overlaying.{locateOver};
+ghost use Rattle.format.specs.Overlaying.{locate_over};
 ghost use Rattle.format.specs.Flattening.{flatten};
 ghost use Rattle.format.specs.Writing.{placed};
 ghost use Rattle.format.specs.Answers.{updated};
-ghost use Rattle.aaru_c.specs.Returned.{returned, countAndLowest, startAndSize, whichStartAndSize, left};
+ghost use Rattle.aaru_c.specs.Returned.{returned, count_and_lowest, start_and_size, which_start_and_size, left};
 
 use aaru::{ByteOffset, Counted, Located, Refusal, SectorAddress, Updated};
 use flat::{Exported, ExportedExact};
@@ -36,7 +36,7 @@ pub extern "C" fn aaru_sector_count(
     lowest: &mut i64,
     place: &mut u64,
 ) -> u32
-    ensures { record { number = result; values = countAndLowest sectors.new lowest.new; place = place.new } ≡ returned (sectorCount image.now) (countAndLowest sectors.old lowest.old) place.old }
+    ensures { record { number = result; values = count_and_lowest sectors.new lowest.new; place = place.new } ≡ returned (sector_count image.now) (count_and_lowest sectors.old lowest.old) place.old }
 {
     let answer = aaru::sector_count(image);
     match answer {
@@ -60,7 +60,7 @@ pub extern "C" fn aaru_locate(
     size: &mut u64,
     place: &mut u64,
 ) -> u32
-    ensures { record { number = result; values = startAndSize start.new size.new; place = place.new } ≡ returned (locate image.now address) (startAndSize start.old size.old) place.old }
+    ensures { record { number = result; values = start_and_size start.new size.new; place = place.new } ≡ returned (locate image.now address) (start_and_size start.old size.old) place.old }
 {
     let answer = aaru::locate(image, SectorAddress(address));
     match answer {
@@ -84,7 +84,7 @@ pub extern "C" fn aaru_locate_over(
     size: &mut u64,
     place: &mut u64,
 ) -> u32
-    ensures { record { number = result; values = whichStartAndSize which.new start.new size.new; place = place.new } ≡ returned (locateOver child.now parent.now address) (whichStartAndSize which.old start.old size.old) place.old }
+    ensures { record { number = result; values = which_start_and_size which.new start.new size.new; place = place.new } ≡ returned (locate_over child.now parent.now address) (which_start_and_size which.old start.old size.old) place.old }
 {
     let answer = overlay::locate_over(child, parent, SectorAddress(address));
     match answer {
@@ -209,7 +209,7 @@ pub extern "C" fn aaru_export_exact(
     written: &mut u64,
     place: &mut u64,
 ) -> u32
-    ensures { record { answer = record { number = result; values = written.new; place = place.new }; buffer = out.new } ≡ left (exportExact image.now out.old) written.old place.old }
+    ensures { record { answer = record { number = result; values = written.new; place = place.new }; buffer = out.new } ≡ left (export_exact image.now out.old) written.old place.old }
 {
     let answer = flat::export_exact(image, out);
     match answer {

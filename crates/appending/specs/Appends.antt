@@ -2,44 +2,44 @@
 use Rattle.std.specs.Prelude.{List, ◌≡◌, ℕ, ◌+◌, ◌*◌, ◌≤◌, length, take, ℤ}
 use Rattle.format.specs.declared.Verdict.TheVariants.{Passes}
 use Rattle.format.specs.Refusals.{accepted}
-use Rattle.format.specs.Layouts.{indexOffset, indexHeaderLength, entryLength, entries, tableHeaderLength, tableEntryLength}
+use Rattle.format.specs.Layouts.{index_offset, index_header_length, entry_length, entries, table_header_length, table_entry_length}
 use Rattle.format.specs.Opening.{Opened, opening}
-use Rattle.format.specs.Facts.{blockLengthFor}
-use Rattle.format.specs.Committing.{argumentsVerdict, discVerdict, entryNumbers, largestItem, shiftFor, keptEntries}
-use Rattle.indexing.specs.Entries.{newEntries}
+use Rattle.format.specs.Facts.{block_length_for}
+use Rattle.format.specs.Committing.{arguments_verdict, disc_verdict, entry_numbers, largest_item, shift_for, kept_entries}
+use Rattle.indexing.specs.Entries.{new_entries}
 use Rattle.planning.specs.declared.Planned.{Planned}
-use Rattle.planning.specs.Plans.{storedBy, planFor, pointersBy}
+use Rattle.planning.specs.Plans.{stored_by, plan_for, pointers_by}
 use Rattle.storing.specs.Stores.{Stores}
 use Rattle.appending.specs.declared.Layout.{Layout}
 
 -- all checks but 35 have passed, and the image is opened as t
 pub record Passed (buf : List ℕ) (used : ℕ) (t : Opened) (addresses : List ℤ) (size : ℕ) (sectors : List ℕ) : Type 0 where
-  pub arguments : argumentsVerdict buf used addresses size sectors ≡ Passes
+  pub arguments : arguments_verdict buf used addresses size sectors ≡ Passes
   pub opens : opening (take used buf) ≡ accepted t
-  pub disc : discVerdict (take used buf) (indexOffset (take used buf)) addresses ≡ Passes
+  pub disc : disc_verdict (take used buf) (index_offset (take used buf)) addresses ≡ Passes
 
 -- where the new table and the new index stand, behind the image and the new block; where they end; how many index entries are kept
-unfoldable pub layoutFor : List ℕ → Opened → ℕ → ℕ → Layout
-layoutFor img t size stored =
-    let table = length img + blockLengthFor stored size in
-    let index = table + (tableHeaderLength + tableEntryLength * t.count) in
+unfoldable pub layout_for : List ℕ → Opened → ℕ → ℕ → Layout
+layout_for img t size stored =
+    let table = length img + block_length_for stored size in
+    let index = table + (table_header_length + table_entry_length * t.count) in
     record {
       table = record { 0 = table };
       index = record { 0 = index };
-      end = index + (indexHeaderLength + entryLength * length (newEntries img (indexOffset img) table stored));
-      kept = length (keptEntries table (entries img (indexOffset img)));
+      end = index + (index_header_length + entry_length * length (new_entries img (index_offset img) table stored));
+      kept = length (kept_entries table (entries img (index_offset img)));
     }
 
 -- the block and the table can be written: the table stands behind the block, and its shift is the least
 pub record Data (buf : List ℕ) (used : ℕ) (t : Opened) (addresses : List ℕ) (size : ℕ) (sectors : List ℕ) (table shift n : ℕ) : Type 0 where
-  pub stores : Stores buf used t addresses size sectors (table + tableHeaderLength) shift
-  pub counted : n ≡ length (storedBy (take used buf) t addresses size sectors).items
-  pub behind : table ≡ used + blockLengthFor n size
-  pub least : shift ≡ shiftFor (largestItem (pointersBy (take used buf) t addresses size sectors))
+  pub stores : Stores buf used t addresses size sectors (table + table_header_length) shift
+  pub counted : n ≡ length (stored_by (take used buf) t addresses size sectors).items
+  pub behind : table ≡ used + block_length_for n size
+  pub least : shift ≡ shift_for (largest_item (pointers_by (take used buf) t addresses size sectors))
 
 -- all of it can be written, as planned and laid out
 pub record Fits (buf : List ℕ) (used : ℕ) (t : Opened) (addresses : List ℤ) (size : ℕ) (sectors : List ℕ) (plan : Planned) (at : Layout) : Type 0 where
   pub passed : Passed buf used t addresses size sectors
-  pub planned : plan ≡ planFor (take used buf) t (entryNumbers t addresses) size sectors
-  pub laid : at ≡ layoutFor (take used buf) t size plan.stored
+  pub planned : plan ≡ plan_for (take used buf) t (entry_numbers t addresses) size sectors
+  pub laid : at ≡ layout_for (take used buf) t size plan.stored
   pub room : at.end ≤ length buf

@@ -8,15 +8,15 @@ ghost use Rattle.fields.specs.Bytes.{overwrite};
 ghost use Rattle.format.specs.declared.TableKind.TheVariants.{First};
 ghost use Rattle.format.specs.declared.Verdict.TheVariants.{Passes};
 ghost use Rattle.format.specs.Refusals.{accepted};
-ghost use Rattle.format.specs.Layouts.{indexOffset};
+ghost use Rattle.format.specs.Layouts.{index_offset};
 ghost use Rattle.format.specs.Opening.{opening};
-ghost use Rattle.format.specs.Writing.{largestSize, mostAddresses, longestBuffer, setHeader};
-ghost use Rattle.format.specs.Committing.{argumentsVerdict, anyOutside, entryNumbers, newBlock, newTable, indexStart, appended, appendedBytes, commit};
+ghost use Rattle.format.specs.Writing.{largest_size, most_addresses, longest_buffer, set_header};
+ghost use Rattle.format.specs.Committing.{arguments_verdict, any_outside, entry_numbers, new_block, new_table, index_start, appended, appended_bytes, commit};
 ghost use Rattle.format.specs.Answers.{updated, answered};
 ghost use Rattle.opening.specs.Answers.{contents};
-ghost use Rattle.planning.specs.Plans.{storedBy, pointersBy};
-ghost use Rattle.format.specs.Facts.{blockLengthFor, blockEntry};
-ghost use Rattle.appending.specs.Appends.{Passed, layoutFor, Data, Fits};
+ghost use Rattle.planning.specs.Plans.{stored_by, pointers_by};
+ghost use Rattle.format.specs.Facts.{block_length_for, block_entry};
+ghost use Rattle.appending.specs.Appends.{Passed, layout_for, Data, Fits};
 
 use fields::{get, part};
 use format::{ByteOffset, INDEX_OFFSET, Placed, Refusal, Updated, Verdict};
@@ -34,8 +34,8 @@ struct Layout {
 
 // How long the new data block is.
 fn block_length(stored: u64, size: u64) -> u64
-    requires { (stored ≤ mostAddresses) × (size ≤ largestSize) }
-    ensures { (result ≡ blockLengthFor stored size) × (result ≤ 4294967332) }
+    requires { (stored ≤ most_addresses) × (size ≤ largest_size) }
+    ensures { (result ≡ block_length_for stored size) × (result ≤ 4294967332) }
 {
     if stored == 0 {
         return 0;
@@ -45,7 +45,7 @@ fn block_length(stored: u64, size: u64) -> u64
 
 // How many index entries the new data block has.
 fn block_entries(stored: u64) -> u64
-    ensures { ((block : ℕ) → result ≡ length (blockEntry block stored)) × (result ≤ 1) }
+    ensures { ((block : ℕ) → result ≡ length (block_entry block stored)) × (result ≤ 1) }
 {
     if stored == 0 {
         return 0;
@@ -55,8 +55,8 @@ fn block_entries(stored: u64) -> u64
 
 // Where what is appended to the image will stand, if so many sectors are stored.
 fn lay_out(s: &[u8], t: Opened, size: u64, stored: u64) -> Layout
-    requires { (opening s.now ≡ accepted (contents t)) × (length s.now ≤ longestBuffer) × (stored ≤ mostAddresses) × (size ≤ largestSize) × ((contents t).kind ≡ First) }
-    ensures { result ≡ layoutFor s.now (contents t) size stored }
+    requires { (opening s.now ≡ accepted (contents t)) × (length s.now ≤ longest_buffer) × (stored ≤ most_addresses) × (size ≤ largest_size) × ((contents t).kind ≡ First) }
+    ensures { result ≡ layout_for s.now (contents t) size stored }
 {
     let kept = indexing::count_kept(s, ByteOffset(get(s, INDEX_OFFSET, 8)));
     let table = s.len() as u64 + block_length(stored, size);
@@ -82,9 +82,9 @@ fn put_data(
     shift: u64,
     stored: u64,
 )
-    requires { Data buf.old used (contents t) (entryNumbers (contents t) addresses.now) size sectors.now table.0 shift stored × (anyOutside (contents t) addresses.now ≡ false) }
-    ensures { buf.new ≡ overwrite buf.old used (newBlock size (storedBy (take used buf.old) (contents t) (entryNumbers (contents t) addresses.now) size sectors.now).items
-        ++ newTable (pointersBy (take used buf.old) (contents t) (entryNumbers (contents t) addresses.now) size sectors.now)) }
+    requires { Data buf.old used (contents t) (entry_numbers (contents t) addresses.now) size sectors.now table.0 shift stored × (any_outside (contents t) addresses.now ≡ false) }
+    ensures { buf.new ≡ overwrite buf.old used (new_block size (stored_by (take used buf.old) (contents t) (entry_numbers (contents t) addresses.now) size sectors.now).items
+        ++ new_table (pointers_by (take used buf.old) (contents t) (entry_numbers (contents t) addresses.now) size sectors.now)) }
 {
     storing::put_entries(
         buf,
@@ -113,8 +113,8 @@ fn put_all(
     at: Layout,
 )
     requires { Fits buf.old used (contents t) addresses.now size sectors.now plan at }
-    ensures { buf.new ≡ setHeader (overwrite buf.old used (appendedBytes (appended (take used buf.old) (indexOffset (take used buf.old)) (entryNumbers (contents t) addresses.now) size sectors.now)))
-        (indexStart used (appended (take used buf.old) (indexOffset (take used buf.old)) (entryNumbers (contents t) addresses.now) size sectors.now)) time }
+    ensures { buf.new ≡ set_header (overwrite buf.old used (appended_bytes (appended (take used buf.old) (index_offset (take used buf.old)) (entry_numbers (contents t) addresses.now) size sectors.now)))
+        (index_start used (appended (take used buf.old) (index_offset (take used buf.old)) (entry_numbers (contents t) addresses.now) size sectors.now)) time }
 {
     let o = ByteOffset(get(part(buf, 0, used), INDEX_OFFSET, 8));
     let table = at.table;
@@ -163,7 +163,7 @@ pub fn commit(
     sectors: &[u8],
     time: u64,
 ) -> Updated
-    requires { (argumentsVerdict buf.old used addresses.now size sectors.now ≡ Passes) × (opening (take used buf.old) ≡ accepted (contents t)) }
+    requires { (arguments_verdict buf.old used addresses.now size sectors.now ≡ Passes) × (opening (take used buf.old) ≡ accepted (contents t)) }
     ensures { answered (updated result) buf.new ≡ commit buf.old used addresses.now size sectors.now time }
 {
     let v = checking::disc_verdict_of(part(buf, 0, used), t, addresses);

@@ -10,8 +10,8 @@ use lib.Seq.{drop-cons}
 use lib.Signed.{lt_z, le_z, mag}
 use borrow.Author.Tests.{leb-true, leb-false, lt-ltb, le-ltb}
 use Rattle.fields.proofs.Signs.{again, read_back}
-use Rattle.format.specs.Tests.{lessThan, ◌and◌}
-use Rattle.format.specs.Committing.{risingBy, rising}
+use Rattle.format.specs.Tests.{less_than, ◌and◌}
+use Rattle.format.specs.Committing.{rising_by, rising}
 
 -- ---- the order of signed numbers
 le-nlt : (x y : ℤ) → le_z x y ≡ true → lt_z y x ≡ false
@@ -32,7 +32,7 @@ remaining l k = rising (drop (k - 1) l)
 
 -- no two are left
 short : (l : List ℤ) → length l ≤ 1 → rising l ≡ true
-unfolding risingBy
+unfolding rising_by
 short [] h = refl
 short (a ∷ []) h = refl
 short (a ∷ b ∷ l) h = absurd (omega arith)
@@ -51,7 +51,7 @@ module _ (l : List ℤ) (k : ℕ) (left : remaining l k ≡ rising l) where
   module _ (low : 0 < k) (inside : k < length l) where
     -- at an iteration there are two addresses to compare
     two : remaining l k ≡ (lt_z x y and rising (drop k l))
-    unfolding remaining risingBy lessThan
+    unfolding remaining rising_by less_than
     two =
         let e : suc (k - 1) ≡ k = omega arith in
         let a : drop (k - 1) l ≡ x ∷ drop k l = drop-cons l (k - 1) (pos 0) (omega arith) ∙ ap (λ (n : ℕ). x ∷ drop n l) e in

@@ -2,12 +2,12 @@
 // 4/13's of an import, 42 among them, and 8/13's of a flattening.
 ghost use Rattle.std.specs.Prelude.{◌≡◌, ◌*◌, length};
 ghost use Rattle.format.specs.Tests.{same, differs, below, ◌or◌};
-ghost use Rattle.format.specs.Layouts.{applicationLength};
-ghost use Rattle.format.specs.Writing.{mostSectors, largestSize, mostAddresses, bufferVerdict};
-ghost use Rattle.format.specs.Creating.{createVerdict};
-ghost use Rattle.format.specs.Committing.{rising, argumentsVerdict};
-ghost use Rattle.format.specs.Importing.{importVerdict};
-ghost use Rattle.format.specs.Flattening.{lentVerdict};
+ghost use Rattle.format.specs.Layouts.{application_length};
+ghost use Rattle.format.specs.Writing.{most_sectors, largest_size, most_addresses, buffer_verdict};
+ghost use Rattle.format.specs.Creating.{create_verdict};
+ghost use Rattle.format.specs.Committing.{rising, arguments_verdict};
+ghost use Rattle.format.specs.Importing.{import_verdict};
+ghost use Rattle.format.specs.Flattening.{lent_verdict};
 
 use format::{APPLICATION_LENGTH, ByteOffset, CREATED_ENTRIES, Refusal, Verdict};
 
@@ -18,7 +18,7 @@ const CREATED_LENGTH: u64 = CREATED_ENTRIES + 20 + 16;
 
 // A new image's sector count: check 30.
 fn count_refused(count: u64) -> bool
-    ensures { result ≡ (same count 0 or below mostSectors count) }
+    ensures { result ≡ (same count 0 or below most_sectors count) }
 {
     if count == 0 {
         return true;
@@ -28,14 +28,14 @@ fn count_refused(count: u64) -> bool
 
 // The application's name: check 33.
 fn name_refused(application: &[u8]) -> bool
-    ensures { result ≡ differs (length application.now) applicationLength }
+    ensures { result ≡ differs (length application.now) application_length }
 {
     application.len() as u64 != APPLICATION_LENGTH
 }
 
 // A creation: 31, 30, 33, 35.
 pub fn create_verdict(buffer: &[u8], count: u64, application: &[u8]) -> Verdict
-    ensures { result ≡ createVerdict buffer.now count application.now }
+    ensures { result ≡ create_verdict buffer.now count application.now }
 {
     let place = ByteOffset(0);
     let length = buffer.len() as u64;
@@ -56,7 +56,7 @@ pub fn create_verdict(buffer: &[u8], count: u64, application: &[u8]) -> Verdict
 
 // The buffer of a commit or a rollback: 31, 32.
 pub fn buffer_verdict(buffer: &[u8], used: u64) -> Verdict
-    ensures { result ≡ bufferVerdict buffer.now used }
+    ensures { result ≡ buffer_verdict buffer.now used }
 {
     let place = ByteOffset(0);
     let length = buffer.len() as u64;
@@ -71,7 +71,7 @@ pub fn buffer_verdict(buffer: &[u8], used: u64) -> Verdict
 
 // A commit's sector size and number of addresses: check 30.
 fn size_refused(size: u64, count: u64) -> bool
-    ensures { result ≡ (same size 0 or below largestSize size or below mostAddresses count) }
+    ensures { result ≡ (same size 0 or below largest_size size or below most_addresses count) }
 {
     if size == 0 {
         return true;
@@ -107,7 +107,7 @@ pub fn commit_verdict(
     size: u64,
     sectors: &[u8],
 ) -> Verdict
-    ensures { result ≡ argumentsVerdict buffer.now used addresses.now size sectors.now }
+    ensures { result ≡ arguments_verdict buffer.now used addresses.now size sectors.now }
 {
     let v = buffer_verdict(buffer, used);
     if let Verdict::Refuses(r) = v {
@@ -129,7 +129,7 @@ pub fn commit_verdict(
 
 // An import's sector size and the length of its file: check 30.
 fn file_refused(size: u64, length: u64) -> bool
-    ensures { result ≡ (same size 0 or below largestSize size or same length 0 or below (mostAddresses * size) length) }
+    ensures { result ≡ (same size 0 or below largest_size size or same length 0 or below (most_addresses * size) length) }
 {
     if size == 0 {
         return true;
@@ -145,7 +145,7 @@ fn file_refused(size: u64, length: u64) -> bool
 
 // An import's arguments: 31, 30, 42, 33.
 pub fn import_verdict(buffer: &[u8], file: &[u8], size: u64, application: &[u8]) -> Verdict
-    ensures { result ≡ importVerdict buffer.now file.now size application.now }
+    ensures { result ≡ import_verdict buffer.now file.now size application.now }
 {
     let place = ByteOffset(0);
     if LONGEST_BUFFER < buffer.len() as u64 {
@@ -166,7 +166,7 @@ pub fn import_verdict(buffer: &[u8], file: &[u8], size: u64, application: &[u8])
 
 // The buffer and the application's name of a flattening: 31, 33.
 pub fn lent_verdict(buffer: &[u8], application: &[u8]) -> Verdict
-    ensures { result ≡ lentVerdict buffer.now application.now }
+    ensures { result ≡ lent_verdict buffer.now application.now }
 {
     let place = ByteOffset(0);
     if LONGEST_BUFFER < buffer.len() as u64 {

@@ -1,10 +1,10 @@
 // Internal: exports of the checksum for the measurements of bench/, and for nothing else.
 ghost use Rattle.std.specs.Prelude.{◌≡◌};
-ghost use Rattle.crc64.specs.Crc.{ones, run, crcOf};
+ghost use Rattle.crc64.specs.Crc.{ones, run, crc_of};
 
 #[unsafe(no_mangle)]
 pub extern "C" fn bench_checksum(s: &[u8]) -> u64
-    ensures { result ≡ crcOf s.now }
+    ensures { result ≡ crc_of s.now }
 {
     crc64::checksum(s)
 }

@@ -7,7 +7,7 @@ use native.Mathlib.Omega.{arith}
 use Rattle.format.specs.declared.Refusal.{Refusal}
 use Rattle.format.specs.declared.Verdict.{Verdict}
 use Rattle.format.specs.declared.Verdict.TheVariants.{Passes, Refuses}
-use Rattle.format.specs.Refusals.{◌then◌, firstRefusal}
+use Rattle.format.specs.Refusals.{◌then◌, first_refusal}
 use Rattle.format.proofs.Refusals.{not-passes, then-rest, then-stays}
 use Rattle.checking.specs.declared.First.{First}
 use Rattle.checking.specs.Checked.{IsFirst}
@@ -33,23 +33,23 @@ first-same f g n e p =
 
 -- it gives the first refusal
 module _ (f : ℕ → Verdict) (n : ℕ) (r : First) (p : IsFirst f n r) where
-  from : (k i : ℕ) → i + k ≡ n → i ≤ r.number.0 → firstRefusal f k i ≡ r.verdict
-  unfolding firstRefusal
+  from : (k i : ℕ) → i + k ≡ n → i ≤ r.number.0 → first_refusal f k i ≡ r.verdict
+  unfolding first_refusal
   from zero i e l = let w = p.within in sym (p.none (omega arith))
   from (suc k) i e l = ⊎_elim stop (λ m. then-rest _ _ (p.before i m) ∙ from k (suc i) (omega arith) m) (eq-or-lt_of_le l)
     where
-      stop : i ≡ r.number.0 → (f i then firstRefusal f k (suc i)) ≡ r.verdict
+      stop : i ≡ r.number.0 → (f i then first_refusal f k (suc i)) ≡ r.verdict
       stop q =
           let (h, ne) = p.here (omega arith) in
           let v : f i ≡ r.verdict = ap f q ∙ h in
           then-stays _ _ (λ z. ne (sym v ∙ z)) ∙ v
 
-  pub first-refusal : firstRefusal f n 0 ≡ r.verdict
+  pub first-refusal : first_refusal f n 0 ≡ r.verdict
   first-refusal = from n 0 (omega arith) (omega arith)
 
 -- by the checks before it
-pub refused-at : (f : ℕ → Verdict) (n a : ℕ) (r : Refusal) → a < n → ((i : ℕ) → i < a → f i ≡ Passes) → f a ≡ Refuses r → firstRefusal f n 0 ≡ Refuses r
+pub refused-at : (f : ℕ → Verdict) (n a : ℕ) (r : Refusal) → a < n → ((i : ℕ) → i < a → f i ≡ Passes) → f a ≡ Refuses r → first_refusal f n 0 ≡ Refuses r
 refused-at f n a r l b e = first-refusal f n _ (first-at f n a r l b e)
 
-pub refused_none : (f : ℕ → Verdict) (n : ℕ) → ((i : ℕ) → i < n → f i ≡ Passes) → firstRefusal f n 0 ≡ Passes
+pub refused_none : (f : ℕ → Verdict) (n : ℕ) → ((i : ℕ) → i < n → f i ≡ Passes) → first_refusal f n 0 ≡ Passes
 refused_none f n b = first-refusal f n _ (first-none f n n refl b)

@@ -9,46 +9,46 @@ use native.Mathlib.Omega.{arith}
 use Rattle.format.specs.declared.Verdict.TheVariants.{Passes, Refuses}
 use Rattle.format.specs.Tests.{same, ◌and◌}
 use Rattle.format.specs.Refusals.{refusal, row, ◌then◌}
-use Rattle.format.specs.Layouts.{DBLK, entryLength, entry_at, entriesFrom}
-use Rattle.format.specs.Opening.{isUserData, offsetsOf, Opened}
-use Rattle.format.specs.Reading.{pointerAt, has}
+use Rattle.format.specs.Layouts.{DBLK, entry_length, entry_at, entries_from}
+use Rattle.format.specs.Opening.{is_user_data, offsets_of, Opened}
+use Rattle.format.specs.Reading.{pointer_at, has}
 use Rattle.format.proofs.Tests.{on-or-off, never, not_iff, same-on, same-iff, or-rest, and-iff, and-true, choose-true, choose-false}
 use Rattle.format.proofs.Refusals.{then-rest, then-stays, row-refuses}
 use Rattle.format.proofs.Chains.{on-last, ends}
 use Rattle.format.proofs.Named.{has-head}
 use Rattle.index.proofs.Entries.{offsets-next}
 use Rattle.checking.specs.declared.First.{First}
-use Rattle.checking.specs.Checked.{entryForm, damaged, mark, lookedVerdict, FirstLeft, FirstFrom}
+use Rattle.checking.specs.Checked.{entry_form, damaged, mark, looked_verdict, FirstLeft, FirstFrom}
 use Rattle.checking.proofs.Firsts.{first-at, first-same}
 use Rattle.checking.proofs.Forms.{looked-at, passed_over}
 
 module _ (img : List ℕ) (t : Opened) (looks : ℕ → Bool) where
   -- address a points into the block at b
   abbrev pub Into : ℕ → ℕ → Type 0
-  Into b a = (looks a ≡ true) × ((pointerAt img t a).block.0 ≡ b)
+  Into b a = (looks a ≡ true) × ((pointer_at img t a).block.0 ≡ b)
 
   module _ (b : ℕ) (left : List ℕ) where
-    into : (l : List ℕ) (a : ℕ) → Into b a → lookedVerdict img t looks l a ≡ (entryForm img t a then mark img l b)
-    into l a i = looked-at img t looks l a i.0 ∙ ap (λ (q : ℕ). entryForm img t a then mark img l q) i.1
+    into : (l : List ℕ) (a : ℕ) → Into b a → looked_verdict img t looks l a ≡ (entry_form img t a then mark img l b)
+    into l a i = looked-at img t looks l a i.0 ∙ ap (λ (q : ℕ). entry_form img t a then mark img l q) i.1
 
-    into-before : (a : ℕ) → Into b a → lookedVerdict img t looks (b ∷ left) a ≡ entryForm img t a
+    into-before : (a : ℕ) → Into b a → looked_verdict img t looks (b ∷ left) a ≡ entry_form img t a
     into-before a i = into (b ∷ left) a i ∙ sym (ends _ (on-last _ ((and-iff not_iff Iff.rfl).1 (inl (has-head b b left refl)))))
 
-    elsewhere : (a : ℕ) → ¬ Into b a → lookedVerdict img t looks (b ∷ left) a ≡ lookedVerdict img t looks left a
+    elsewhere : (a : ℕ) → ¬ Into b a → looked_verdict img t looks (b ∷ left) a ≡ looked_verdict img t looks left a
     unfolding has
     elsewhere a away = ⊎_elim other (λ e. passed_over img t looks (b ∷ left) a e ∙ sym (passed_over img t looks left a e)) (on-or-off (looks a))
       where
-        other : looks a ≡ true → lookedVerdict img t looks (b ∷ left) a ≡ lookedVerdict img t looks left a
+        other : looks a ≡ true → looked_verdict img t looks (b ∷ left) a ≡ looked_verdict img t looks left a
         other e =
             looked-at img t looks (b ∷ left) a e
-            ∙ ap (λ (h : Bool). entryForm img t a then row (not h and damaged img (pointerAt img t a).block.0) (refusal 27 (pointerAt img t a).block.0))
+            ∙ ap (λ (h : Bool). entry_form img t a then row (not h and damaged img (pointer_at img t a).block.0) (refusal 27 (pointer_at img t a).block.0))
             (or-rest _ (same-iff.1 (λ q. away (e, sym q))))
             ∙ sym (looked-at img t looks left a e)
 
     into-or-not : (a : ℕ) → Into b a ⊎ ¬ Into b a
     into-or-not a =
         ⊎_elim
-        (λ e. ⊎_elim (λ q. inl (e, sym (same-on _ _ q))) (λ q. inr (λ i. same-iff.0 q (sym i.1))) (on-or-off (same b (pointerAt img t a).block.0)))
+        (λ e. ⊎_elim (λ q. inl (e, sym (same-on _ _ q))) (λ q. inr (λ i. same-iff.0 q (sym i.1))) (on-or-off (same b (pointer_at img t a).block.0)))
         (λ e. inr (λ i. never i.0 e)) (on-or-off (looks a))
 
     -- a block that is not damaged, or that is still to be looked at
@@ -74,15 +74,15 @@ module _ (img : List ℕ) (t : Opened) (looks : ℕ → Bool) where
           none = p.none;
         }
       where
-        keeps : (a : ℕ) → lookedVerdict img t looks (b ∷ left) a ≢ Passes → lookedVerdict img t looks left a ≡ lookedVerdict img t looks (b ∷ left) a
+        keeps : (a : ℕ) → looked_verdict img t looks (b ∷ left) a ≢ Passes → looked_verdict img t looks left a ≡ looked_verdict img t looks (b ∷ left) a
         keeps a ne =
             ⊎_elim (λ i. into left a i ∙ then-stays _ _ (λ e. ne (into-before a i ∙ e)) ∙ sym (into-before a i)) (λ n. sym (elsewhere a n)) (into-or-not a)
 
   -- ---- one index entry more
   module _ (left p : ℕ) {first : First} (h : 0 < left) (f : FirstFrom img t looks left p first) where
-    pub other-entry : isUserData DBLK (entry_at img p) ≡ false → FirstFrom img t looks (left - 1) (p + entryLength) first
-    other-entry e = subst (λ (l : List ℕ). FirstLeft img t looks l first) (offsets-next (isUserData DBLK) img left p h ∙ choose-false _ _ _ e) f
+    pub other-entry : is_user_data DBLK (entry_at img p) ≡ false → FirstFrom img t looks (left - 1) (p + entry_length) first
+    other-entry e = subst (λ (l : List ℕ). FirstLeft img t looks l first) (offsets-next (is_user_data DBLK) img left p h ∙ choose-false _ _ _ e) f
 
-    pub block-entry : isUserData DBLK (entry_at img p) ≡ true
-        → FirstLeft img t looks ((entry_at img p).offset.0 ∷ offsetsOf DBLK (entriesFrom img (left - 1) (p + entryLength))) first
-    block-entry e = subst (λ (l : List ℕ). FirstLeft img t looks l first) (offsets-next (isUserData DBLK) img left p h ∙ choose-true _ _ _ e) f
+    pub block-entry : is_user_data DBLK (entry_at img p) ≡ true
+        → FirstLeft img t looks ((entry_at img p).offset.0 ∷ offsets_of DBLK (entries_from img (left - 1) (p + entry_length))) first
+    block-entry e = subst (λ (l : List ℕ). FirstLeft img t looks l first) (offsets-next (is_user_data DBLK) img left p h ∙ choose-true _ _ _ e) f

@@ -1,16 +1,16 @@
 -- The check of all sectors with each block summed once: what is checked at each point, and the first address that it refuses.
 use Prim.{Unit}
 use Rattle.std.specs.Prelude.{Bool, true, false, not, List, ◌≢◌, ◌⊎◌, ◌≡◌, ℕ, ◌/◌, ◌≤◌, ◌<◌, ℤ, pos, neg_ℤ, ◌+ℤ◌}
-use Rattle.crc64.specs.Crc.{crcOf}
+use Rattle.crc64.specs.Crc.{crc_of}
 use Rattle.format.specs.declared.Pointer.{Pointer}
 use Rattle.format.specs.declared.Verdict.{Verdict}
 use Rattle.format.specs.declared.Verdict.TheVariants.{Passes, Refuses}
 use Rattle.format.specs.Tests.{below, at_least, ◌and◌, choose}
 use Rattle.format.specs.Refusals.{refusal, row, ◌then◌, accepted}
-use Rattle.format.specs.Layouts.{DBLK, indexOffset, entries, entriesFrom, sectorSize, blockLength, blockCmpCrc64, blockCrc64, blockPayload}
-use Rattle.format.specs.Opening.{sumsDiffer, offsetsOf, Opened, opening}
-use Rattle.format.specs.Reading.{outside, entryNumber, tableEntryAt, notWritten, unknownStatus, pointerAt, has, blockVerdict, sectorVerdict}
-use Rattle.format.specs.Committing.{otherThan21}
+use Rattle.format.specs.Layouts.{DBLK, index_offset, entries, entries_from, sector_size, block_length, block_cmp_crc64, block_crc64, block_payload}
+use Rattle.format.specs.Opening.{sums_differ, offsets_of, Opened, opening}
+use Rattle.format.specs.Reading.{outside, entry_number, table_entry_at, not_written, unknown_status, pointer_at, has, block_verdict, sector_verdict}
+use Rattle.format.specs.Committing.{other_than_21}
 use Rattle.format.specs.Facts.{BlockOk}
 use Rattle.opening.specs.Answers.{contents}
 use Rattle.checking.specs.declared.First.{First}
@@ -25,12 +25,12 @@ address_of t n = neg_ℤ (pos t.negative) +ℤ pos n
 -- a child that opened as u leaves table entry n of a parent that opened as t to it, by one of its own entries below the limit
 unfoldable pub leaves : List ℕ → Opened → ℕ → Opened → ℕ → Bool
 leaves child u limit t n =
-    let a = address_of t n in not (outside u a) and below (entryNumber u a) limit and notWritten child u (entryNumber u a)
+    let a = address_of t n in not (outside u a) and below (entry_number u a) limit and not_written child u (entry_number u a)
 
 -- table entry n is in the scope
-unfoldable pub inScope : List ℕ → Scope → Opened → ℕ → Bool
-inScope child scope.All t n = true
-inScope child (scope.Gaps c) t n = leaves child (contents c.opened) c.limit.0 t n
+unfoldable pub in_scope : List ℕ → Scope → Opened → ℕ → Bool
+in_scope child scope.All t n = true
+in_scope child (scope.Gaps c) t n = leaves child (contents c.opened) c.limit.0 t n
 
 -- the child is the one that opened so
 unfoldable pub Lent : List ℕ → Scope → Type 0
@@ -38,25 +38,25 @@ Lent child scope.All = Unit {0}
 Lent child (scope.Gaps c) = opening child ≡ accepted (contents c.opened)
 
 -- it is written and in the scope
-unfoldable pub lookedAt : List ℕ → Opened → List ℕ → Scope → ℕ → Bool
-lookedAt img t child scope n = not (notWritten img t n) and inScope child scope t n
+unfoldable pub looked_at : List ℕ → Opened → List ℕ → Scope → ℕ → Bool
+looked_at img t child scope n = not (not_written img t n) and in_scope child scope t n
 
 -- ---- what is checked of one
 -- the blocks that the index names
 abbrev pub indexed : List ℕ → List ℕ
-indexed img = offsetsOf DBLK (entries img (indexOffset img))
+indexed img = offsets_of DBLK (entries img (index_offset img))
 
 -- what a pointer, whose table entry stands at place `at`, points to, but for the block's checksums: checks 22 to 26
-unfoldable pub formVerdict : List ℕ → ℕ → Pointer → Verdict
-formVerdict img at p =
+unfoldable pub form_verdict : List ℕ → ℕ → Pointer → Verdict
+form_verdict img at p =
     let b = p.block.0 in
     row (not (has b (indexed img))) (refusal 22 at)
-    then blockVerdict img b
-    then row (at_least p.item.0 (blockLength img b / sectorSize img b)) (refusal 26 b)
+    then block_verdict img b
+    then row (at_least p.item.0 (block_length img b / sector_size img b)) (refusal 26 b)
 
 -- table entry n, which is written, but for its block's checksums: 73, and the form of what it points to
-unfoldable pub entryForm : List ℕ → Opened → ℕ → Verdict
-entryForm img t n = row (unknownStatus img t n) (refusal 73 0) then formVerdict img (tableEntryAt t n) (pointerAt img t n)
+unfoldable pub entry_form : List ℕ → Opened → ℕ → Verdict
+entry_form img t n = row (unknown_status img t n) (refusal 73 0) then form_verdict img (table_entry_at t n) (pointer_at img t n)
 
 -- what a caller knows of a block: nothing, by 0, or that the index names it and that it passes all checks of a block before that of its
 -- checksums
@@ -64,25 +64,25 @@ abbrev pub Formed : List ℕ → ℕ → Type 0
 Formed img b = (b ≡ 0) ⊎ ((has b (indexed img) ≡ true) × BlockOk img b)
 
 -- a checksum of the block at b is wrong
-abbrev pub wrongSum : List ℕ → ℕ → Bool
-wrongSum img b = sumsDiffer (crcOf (blockPayload img b)) (blockCmpCrc64 img b) (blockCrc64 img b)
+abbrev pub wrong_sum : List ℕ → ℕ → Bool
+wrong_sum img b = sums_differ (crc_of (block_payload img b)) (block_cmp_crc64 img b) (block_crc64 img b)
 
 -- a test that is asked only where the checks before it pass
-unfoldable pub onlyAfter : Verdict → Bool → Bool
-onlyAfter Passes b = b
-onlyAfter (Refuses r) b = false
+unfoldable pub only_after : Verdict → Bool → Bool
+only_after Passes b = b
+only_after (Refuses r) b = false
 
 -- the block at b is well formed, and one of its checksums is wrong
 unfoldable pub damaged : List ℕ → ℕ → Bool
-damaged img b = onlyAfter (blockVerdict img b) (wrongSum img b)
+damaged img b = only_after (block_verdict img b) (wrong_sum img b)
 
 -- 27 in a damaged block that is none of those still to be looked at
 abbrev pub mark : List ℕ → List ℕ → ℕ → Verdict
 mark img left b = row (not (has b left) and damaged img b) (refusal 27 b)
 
 -- table entry n, if it is looked at, while the blocks `left` are still to be: all checks but that of their checksums
-unfoldable pub lookedVerdict : List ℕ → Opened → (ℕ → Bool) → List ℕ → ℕ → Verdict
-lookedVerdict img t looks left n = choose (looks n) (entryForm img t n then mark img left (pointerAt img t n).block.0) Passes
+unfoldable pub looked_verdict : List ℕ → Opened → (ℕ → Bool) → List ℕ → ℕ → Verdict
+looked_verdict img t looks left n = choose (looks n) (entry_form img t n then mark img left (pointer_at img t n).block.0) Passes
 
 -- the first of `count` table entries that a check refuses, and how; the count where there is none
 pub record IsFirst (check : ℕ → Verdict) (count : ℕ) (first : First) : Type 0 where
@@ -93,21 +93,21 @@ pub record IsFirst (check : ℕ → Verdict) (count : ℕ) (first : First) : Typ
 
 -- the first table entry that is refused, of those that are looked at, while the blocks `left` are still to be
 abbrev pub FirstLeft : List ℕ → Opened → (ℕ → Bool) → List ℕ → First → Type 0
-FirstLeft img t looks left first = IsFirst (lookedVerdict img t looks left) t.count first
+FirstLeft img t looks left first = IsFirst (looked_verdict img t looks left) t.count first
 
 -- the same, while these index entries are still to be looked at
 abbrev pub FirstFrom : List ℕ → Opened → (ℕ → Bool) → ℕ → ℕ → First → Type 0
-FirstFrom img t looks left p first = FirstLeft img t looks (offsetsOf DBLK (entriesFrom img left p)) first
+FirstFrom img t looks left p first = FirstLeft img t looks (offsets_of DBLK (entries_from img left p)) first
 
 -- the first table entry that is refused, 21 too
 abbrev pub FirstOfAll : List ℕ → Opened → First → Type 0
-FirstOfAll img t first = IsFirst (sectorVerdict img (entries img (indexOffset img)) t) t.count first
+FirstOfAll img t first = IsFirst (sector_verdict img (entries img (index_offset img)) t) t.count first
 
 -- the first that is refused other than with 21
 abbrev pub FirstRefused : List ℕ → Opened → First → Type 0
-FirstRefused img t first = IsFirst (λ (a : ℕ). otherThan21 (sectorVerdict img (entries img (indexOffset img)) t a)) t.count first
+FirstRefused img t first = IsFirst (λ (a : ℕ). other_than_21 (sector_verdict img (entries img (index_offset img)) t a)) t.count first
 
 -- of those for which a test says yes
 abbrev pub FirstWithin : List ℕ → Opened → (ℕ → Bool) → First → Type 0
 FirstWithin img t within first =
-    IsFirst (λ (a : ℕ). choose (within a) (otherThan21 (sectorVerdict img (entries img (indexOffset img)) t a)) Passes) t.count first
+    IsFirst (λ (a : ℕ). choose (within a) (other_than_21 (sector_verdict img (entries img (index_offset img)) t a)) Passes) t.count first

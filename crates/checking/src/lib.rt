@@ -7,13 +7,13 @@
 // written entry to its parent, one of the child's table entries is read each time that the parent's is.
 ghost use Rattle.std.specs.Prelude.{true, false, not, List, ◌∷◌, ◌≡◌, ℕ, ◌+◌, ◌-◌, ◌*◌, ◌^◌, ◌≤◌, ◌<◌, length};
 ghost use Rattle.format.specs.Tests.{◌and◌};
-ghost use Rattle.format.specs.Refusals.{accepted, firstRefusal};
-ghost use Rattle.format.specs.Layouts.{indexOffset, entryLength, entries};
+ghost use Rattle.format.specs.Refusals.{accepted, first_refusal};
+ghost use Rattle.format.specs.Layouts.{index_offset, entry_length, entries};
 ghost use Rattle.format.specs.Opening.{opening};
-ghost use Rattle.format.specs.Reading.{tableEntry, unwritten, has, pointerAt, sectorVerdict};
-ghost use Rattle.format.specs.Committing.{anyOutside, sectorsVerdict, discVerdict};
+ghost use Rattle.format.specs.Reading.{table_entry, unwritten, has, pointer_at, sector_verdict};
+ghost use Rattle.format.specs.Committing.{any_outside, sectors_verdict, disc_verdict};
 ghost use Rattle.opening.specs.Answers.{contents, held};
-ghost use Rattle.checking.specs.Checked.{leaves, inScope, Lent, lookedAt, indexed, formVerdict, entryForm, Formed, damaged, FirstLeft, FirstFrom, FirstWithin, FirstRefused, FirstOfAll};
+ghost use Rattle.checking.specs.Checked.{leaves, in_scope, Lent, looked_at, indexed, form_verdict, entry_form, Formed, damaged, FirstLeft, FirstFrom, FirstWithin, FirstRefused, FirstOfAll};
 
 use fields::{get, part};
 use format::{ByteOffset, EntryNumber, INDEX_OFFSET, Pointer, Refusal, SectorAddress, Verdict};
@@ -42,7 +42,7 @@ struct Child {
 
 // Whether an address of the list has no table entry.
 fn any_outside(t: Opened, addresses: &[i64]) -> bool
-    ensures { result ≡ anyOutside (contents t) addresses.now }
+    ensures { result ≡ any_outside (contents t) addresses.now }
 {
     let mut k: usize = 0;
     // an iteration for each address, up to the first that is outside
@@ -78,7 +78,7 @@ fn is_left(child: &[u8], c: Child, t: Opened, n: EntryNumber) -> bool
 // Whether table entry n of the disc that opened as t is in the scope.
 fn is_in_scope(child: &[u8], scope: Scope, t: Opened, n: EntryNumber) -> bool
     requires { Lent child.now scope × (n.0 < 2 ^ 63) }
-    ensures { result ≡ inScope child.now scope (contents t) n.0 }
+    ensures { result ≡ in_scope child.now scope (contents t) n.0 }
 {
     match scope {
         Scope::All => true,
@@ -89,7 +89,7 @@ fn is_in_scope(child: &[u8], scope: Scope, t: Opened, n: EntryNumber) -> bool
 // Whether table entry n, whose number is e, is looked at: it is written and in the scope.
 fn is_looked_at(child: &[u8], scope: Scope, t: Opened, n: EntryNumber, e: u64) -> bool
     requires { Lent child.now scope × (n.0 < 2 ^ 63) }
-    ensures { result ≡ (not (unwritten (contents t).kind e) and inScope child.now scope (contents t) n.0) }
+    ensures { result ≡ (not (unwritten (contents t).kind e) and in_scope child.now scope (contents t) n.0) }
 {
     if opening::is_unwritten(t, e) {
         return false;
@@ -101,7 +101,7 @@ fn is_looked_at(child: &[u8], scope: Scope, t: Opened, n: EntryNumber, e: u64) -
 // the item's number is looked at.
 fn form_verdict(s: &[u8], t: Opened, place: ByteOffset, p: Pointer, known: ByteOffset) -> Verdict
     requires { (opening s.now ≡ accepted (contents t)) × Formed s.now known.0 }
-    ensures { result ≡ formVerdict s.now place.0 p }
+    ensures { result ≡ form_verdict s.now place.0 p }
 {
     let b = p.block;
     if sectors::is_known(b, known) {
@@ -119,8 +119,8 @@ fn form_verdict(s: &[u8], t: Opened, place: ByteOffset, p: Pointer, known: ByteO
 
 // Table entry n, whose number is e, which is written and encodes p, but for its block's checksums: 73, then checks 22 to 26.
 fn entry_form(s: &[u8], t: Opened, n: EntryNumber, e: u64, p: Pointer, known: ByteOffset) -> Verdict
-    requires { (opening s.now ≡ accepted (contents t)) × (n.0 < (contents t).count) × (e ≡ tableEntry s.now (contents t) n.0) × (p ≡ pointerAt s.now (contents t) n.0) × Formed s.now known.0 }
-    ensures { result ≡ entryForm s.now (contents t) n.0 }
+    requires { (opening s.now ≡ accepted (contents t)) × (n.0 < (contents t).count) × (e ≡ table_entry s.now (contents t) n.0) × (p ≡ pointer_at s.now (contents t) n.0) × Formed s.now known.0 }
+    ensures { result ≡ entry_form s.now (contents t) n.0 }
 {
     if opening::is_unknown(t, e) {
         let place = ByteOffset(0);
@@ -132,7 +132,7 @@ fn entry_form(s: &[u8], t: Opened, n: EntryNumber, e: u64, p: Pointer, known: By
 // The first table entry of the scope that is refused other than with 21, by all checks but that of the checksums.
 fn first_form(s: &[u8], t: Opened, child: &[u8], scope: Scope) -> First
     requires { (opening s.now ≡ accepted (contents t)) × Lent child.now scope }
-    ensures { FirstLeft s.now (contents t) (lookedAt s.now (contents t) child.now scope) (indexed s.now) result }
+    ensures { FirstLeft s.now (contents t) (looked_at s.now (contents t) child.now scope) (indexed s.now) result }
 {
     let count = opening::count(t);
     let mut known = ByteOffset(0);
@@ -179,7 +179,7 @@ fn is_damaged(s: &[u8], b: ByteOffset) -> bool
 // The first table entry of the scope below `first` that points into the damaged block at b, with 27; `first` where there is none.
 fn first_into(s: &[u8], t: Opened, child: &[u8], scope: Scope, b: ByteOffset, first: First) -> First
     requires { (opening s.now ≡ accepted (contents t)) × Lent child.now scope × (first.number.0 ≤ (contents t).count) × (damaged s.now b.0 ≡ true) }
-    ensures { (left : List ℕ) → has b.0 left ≡ false → FirstLeft s.now (contents t) (lookedAt s.now (contents t) child.now scope) (b.0 ∷ left) first → FirstLeft s.now (contents t) (lookedAt s.now (contents t) child.now scope) left result }
+    ensures { (left : List ℕ) → has b.0 left ≡ false → FirstLeft s.now (contents t) (looked_at s.now (contents t) child.now scope) (b.0 ∷ left) first → FirstLeft s.now (contents t) (looked_at s.now (contents t) child.now scope) left result }
 {
     let limit = first.number;
     let mut a: u64 = 0;
@@ -216,8 +216,8 @@ fn with_block(
     left: u64,
     first: First,
 ) -> First
-    requires { (opening s.now ≡ accepted (contents t)) × Lent child.now scope × (0 < left) × (p.0 + entryLength * left ≤ length s.now) × FirstFrom s.now (contents t) (lookedAt s.now (contents t) child.now scope) left p.0 first }
-    ensures { FirstFrom s.now (contents t) (lookedAt s.now (contents t) child.now scope) (left - 1) (p.0 + entryLength) result }
+    requires { (opening s.now ≡ accepted (contents t)) × Lent child.now scope × (0 < left) × (p.0 + entry_length * left ≤ length s.now) × FirstFrom s.now (contents t) (looked_at s.now (contents t) child.now scope) left p.0 first }
+    ensures { FirstFrom s.now (contents t) (looked_at s.now (contents t) child.now scope) (left - 1) (p.0 + entry_length) result }
 {
     let e = index::entry(s, p);
     if !index::is_user_data(e, b"DBLK") {
@@ -236,7 +236,7 @@ fn with_block(
 // All sectors of the scope by rising address, that is, by the numbers of their table entries: the first that is refused other than with 21.
 fn first_within(s: &[u8], t: Opened, child: &[u8], scope: Scope) -> First
     requires { (opening s.now ≡ accepted (contents t)) × Lent child.now scope }
-    ensures { FirstWithin s.now (contents t) (inScope child.now scope (contents t)) result }
+    ensures { FirstWithin s.now (contents t) (in_scope child.now scope (contents t)) result }
 {
     let mut first = first_form(s, t, child, scope);
     let index = get(s, INDEX_OFFSET, 8);
@@ -270,7 +270,7 @@ pub fn first_left(s: &[u8], t: Opened, child: &[u8], u: Opened, limit: EntryNumb
 // The refusal of the first of all.
 pub fn sectors_verdict(s: &[u8], t: Opened) -> Verdict
     requires { opening s.now ≡ accepted (contents t) }
-    ensures { result ≡ sectorsVerdict s.now (entries s.now (indexOffset s.now)) (contents t) }
+    ensures { result ≡ sectors_verdict s.now (entries s.now (index_offset s.now)) (contents t) }
 {
     let first = first_refused(s, t);
     first.verdict
@@ -301,7 +301,7 @@ pub fn first_unwritten(s: &[u8], t: Opened, first: First) -> First
 // All sectors by rising address, 21 too: the first refusal.
 pub fn every_verdict(s: &[u8], t: Opened) -> Verdict
     requires { opening s.now ≡ accepted (contents t) }
-    ensures { result ≡ firstRefusal (sectorVerdict s.now (entries s.now (indexOffset s.now)) (contents t)) (contents t).count 0 }
+    ensures { result ≡ first_refusal (sector_verdict s.now (entries s.now (index_offset s.now)) (contents t)) (contents t).count 0 }
 {
     let first = first_unwritten(s, t, first_refused(s, t));
     first.verdict
@@ -310,7 +310,7 @@ pub fn every_verdict(s: &[u8], t: Opened) -> Verdict
 // A commit's checks of the disc that opened as t: 74, 20, then all sectors.
 fn disc_verdict_at(s: &[u8], t: Opened, addresses: &[i64]) -> Verdict
     requires { opening s.now ≡ accepted (contents t) }
-    ensures { result ≡ discVerdict s.now (indexOffset s.now) addresses.now }
+    ensures { result ≡ disc_verdict s.now (index_offset s.now) addresses.now }
 {
     let v = opening::kind_verdict(t);
     if let Verdict::Refuses(r) = v {
@@ -326,7 +326,7 @@ fn disc_verdict_at(s: &[u8], t: Opened, addresses: &[i64]) -> Verdict
 // Over an opened image, which it takes apart.
 pub fn disc_verdict<'a, 'b>(image: Image<'a>, addresses: &'b [i64]) -> Verdict
     requires { opening image.bytes.now ≡ accepted (held image) }
-    ensures { result ≡ discVerdict image.entry.bytes.now (indexOffset image.entry.bytes.now) addresses.now }
+    ensures { result ≡ disc_verdict image.entry.bytes.now (index_offset image.entry.bytes.now) addresses.now }
 {
     disc_verdict_at(opening::bytes(image), opening::numbers(image), addresses)
 }
@@ -334,7 +334,7 @@ pub fn disc_verdict<'a, 'b>(image: Image<'a>, addresses: &'b [i64]) -> Verdict
 // Makes the opened image and hands it on.
 pub fn disc_verdict_of(s: &[u8], t: Opened, addresses: &[i64]) -> Verdict
     requires { opening s.now ≡ accepted (contents t) }
-    ensures { result ≡ discVerdict s.now (indexOffset s.now) addresses.now }
+    ensures { result ≡ disc_verdict s.now (index_offset s.now) addresses.now }
 {
     disc_verdict(opening::view(s, t), addresses)
 }

@@ -8,36 +8,36 @@ use native.Mathlib.Nat.{eq-or-lt_of_le}
 use native.Mathlib.Numerals.{add-one}
 use native.Mathlib.Omega.{arith}
 use lib.ListN.{length, length-append}
-use Rattle.format.specs.Committing.{amongStored, Step, storeAll}
-use Rattle.format.proofs.Storing.{Among, amongStored-found, among-some, among_none}
+use Rattle.format.specs.Committing.{among_stored, Step, store_all}
+use Rattle.format.proofs.Storing.{Among, among_stored-found, among-some, among_none}
 use Rattle.planning.proofs.Seen.{among-more, step-among}
-use Rattle.storing.specs.Turns.{noDisc, addAt}
+use Rattle.storing.specs.Turns.{no_disc, add_at}
 use Rattle.storing.proofs.Steps.{nowhere, add-again, add-new}
-use Rattle.composing.specs.Composes.{handed, storedOf}
+use Rattle.composing.specs.Composes.{handed, stored_of}
 use Rattle.composing.proofs.Handed.{some_or_none, handed-some, handed-none, items-some, items-none, items-most}
 
 -- ---- a sector that is among those before it, or not
 module _ (block : ℕ) (st : List (List ℕ)) (d : List ℕ) where
-  add-old : Among st d → (addAt block st d).stored ≡ st
-  add-old a = go (amongStored st d) refl
+  add-old : Among st d → (add_at block st d).stored ≡ st
+  add-old a = go (among_stored st d) refl
     where
-      go : (u : Option ℕ) → amongStored st d ≡ u → (addAt block st d).stored ≡ st
+      go : (u : Option ℕ) → among_stored st d ≡ u → (add_at block st d).stored ≡ st
       go (some j) e = ap (λ (s : Step). s.stored) (add-again block st d e)
       go none e = absurd (among_none st d e a)
 
-  add-fresh : ¬ Among st d → length (addAt block st d).stored ≡ length st + 1
-  add-fresh n = go (amongStored st d) refl
+  add-fresh : ¬ Among st d → length (add_at block st d).stored ≡ length st + 1
+  add-fresh n = go (among_stored st d) refl
     where
-      go : (u : Option ℕ) → amongStored st d ≡ u → length (addAt block st d).stored ≡ length st + 1
+      go : (u : Option ℕ) → among_stored st d ≡ u → length (add_at block st d).stored ≡ length st + 1
       go (some j) e = absurd (n (among-some st d j e))
       go none e = ap (λ (s : Step). length s.stored) (add-new block st d e) ∙ length-append st (d ∷ [])
 
   -- some are stored after it
-  add-some : length (addAt block st d).stored ≢ 0
-  add-some = go (amongStored st d) refl
+  add-some : length (add_at block st d).stored ≢ 0
+  add-some = go (among_stored st d) refl
     where
-      go : (u : Option ℕ) → amongStored st d ≡ u → length (addAt block st d).stored ≢ 0
-      go (some j) e z = absurd (omega (arith, ap (λ (s : Step). length s.stored) (add-again block st d e), (amongStored-found st d j e).0))
+      go : (u : Option ℕ) → among_stored st d ≡ u → length (add_at block st d).stored ≢ 0
+      go (some j) e z = absurd (omega (arith, ap (λ (s : Step). length s.stored) (add-again block st d e), (among_stored-found st d j e).0))
       go none e z = absurd (omega (arith, ap (λ (s : Step). length s.stored) (add-new block st d e), length-append st (d ∷ [])))
 
 module _ (f : ℕ → List ℕ) where
@@ -66,24 +66,24 @@ module _ (f : ℕ → List ℕ) where
 
 module _ (block : ℕ) (f : ℕ → List ℕ) where
   abbrev items : ℕ → List (List ℕ)
-  items k = (storedOf block f k).items
+  items k = (stored_of block f k).items
 
   -- and the stored ones are the same, each once
   items-among : (k : ℕ) (d : List ℕ) → Among (items k) d ↔ Among (handed f k) d
-  unfolding handed storeAll
+  unfolding handed store_all
   items-among zero d = ((λ h. h), λ h. h)
   items-among (suc k) d =
       let ih = items-among k d in
       ⊎_elim
       (λ s.
       let p = among-more (handed f k) (f k) d in
-      let q = step-among [] noDisc block (items k) (f k) d (nowhere d) in
+      let q = step-among [] no_disc block (items k) (f k) d (nowhere d) in
       rw (items-some block f k s, handed-some f k s) ((λ h. p.1 (⊎_map ih.0 (λ y. y) (q.0 h))), λ h. q.1 (⊎_map ih.1 (λ y. y) (p.0 h))))
       (λ s. rw (items-none block f k s, handed-none f k s) ih) (some_or_none (f k))
 
   -- ---- where `stored` of the first k are counted: sector k
   pub counting-starts : 0 ≡ length (items 0)
-  unfolding handed storeAll
+  unfolding handed store_all
   counting-starts = refl
 
   module _ (k : ℕ) {stored : ℕ} (c : stored ≡ length (items k)) where

@@ -8,77 +8,77 @@ use native.Mathlib.Nat.{le_refl, mul-le-mul_right}
 use native.Mathlib.Numerals.{add-one}
 use native.Mathlib.Omega.{arith}
 use lib.ListN.{length}
-use Rattle.fields.specs.Bytes.{overwrite, toLe}
+use Rattle.fields.specs.Bytes.{overwrite, to_le}
 use Rattle.fields.proofs.Overwrite.{length-overwrite, overwrite-then, overwrite-nil, overwrite-comm, overwrite-cover}
 use Rattle.format.specs.declared.Pointer.{Pointer}
 use Rattle.format.specs.Lists.{All}
-use Rattle.format.specs.Layouts.{blockHeaderLength, tableHeaderLength, tableEntryLength, encode}
-use Rattle.format.specs.Committing.{storeAll, tableEntryBytes}
+use Rattle.format.specs.Layouts.{block_header_length, table_header_length, table_entry_length, encode}
+use Rattle.format.specs.Committing.{store_all, table_entry_bytes}
 use Rattle.format.proofs.Lists.{Sized, length-flatten}
 use Rattle.format.proofs.Storing.{length-entries}
 use Rattle.storing.specs.declared.Handed.{Handed}
-use Rattle.storing.specs.Stores.{tableEntriesBytes}
-use Rattle.storing.specs.Turns.{noDisc, addAt, items_in, addIn, Steps, Stepped}
+use Rattle.storing.specs.Stores.{table_entries_bytes}
+use Rattle.storing.specs.Turns.{no_disc, add_at, items_in, add_in, Steps, Stepped}
 use Rattle.storing.proofs.Pieces.{pieces-written, flatten-next}
 use Rattle.storing.proofs.Steps.{Small, step_small}
 use Rattle.composing.specs.declared.Layout.{Layout}
-use Rattle.composing.specs.Composes.{handed, storedOf, pointerOf, pointersOf, entry_at, filled, Lays, Enters, Entered}
+use Rattle.composing.specs.Composes.{handed, stored_of, pointer_of, pointers_of, entry_at, filled, Lays, Enters, Entered}
 use Rattle.composing.proofs.Handed.{some_or_none, pointer-some, pointer_none, step_of, items-some, items-none, items-most, items-sized, pointers-length}
 
 -- ---- one entry
 module _ {buf sector : List ℕ} {at : Layout} {a stored : ℕ} where
-  pub entered-none : {after : List ℕ} → length sector ≡ 0 → after ≡ overwrite buf (entry_at at a) (toLe tableEntryLength 0) → Entered buf after at a sector stored stored
+  pub entered-none : {after : List ℕ} → length sector ≡ 0 → after ≡ overwrite buf (entry_at at a) (to_le table_entry_length 0) → Entered buf after at a sector stored stored
   entered-none h e = record { none = λ z. (refl, e); some = λ s. absurd (s h) }
 
-  module _ {r : Handed} {mid : List ℕ} (h : Enters buf at a sector stored) (s : length sector ≢ 0) (w : Stepped buf mid at.used (addIn buf at.used sector stored) r) where
+  module _ {r : Handed} {mid : List ℕ} (h : Enters buf at a sector stored) (s : length sector ≢ 0) (w : Stepped buf mid at.used (add_in buf at.used sector stored) r) where
     pub entry-encodes : (at.shift ≤ 32) × (r.pointer.block.0 < 2 ^ 32) × (r.pointer.item.0 < 2 ^ 32)
     entry-encodes =
         let p : Small r.pointer =
         rw w.pointer
-        (step_small [] noDisc at.used _ sector (length sector) (λ b o. absurd (omega (arith, o.inside))) s (omega (arith, (h.step s).room, h.short))) in
+        (step_small [] no_disc at.used _ sector (length sector) (λ b o. absurd (omega (arith, o.inside))) s (omega (arith, (h.step s).room, h.short))) in
         (h.low, p.0, p.1)
 
-    pub entered-some : {entry : ℕ} {after : List ℕ} → entry ≡ encode at.shift r.pointer → after ≡ overwrite mid (entry_at at a) (toLe tableEntryLength entry)
+    pub entered-some : {entry : ℕ} {after : List ℕ} → entry ≡ encode at.shift r.pointer → after ≡ overwrite mid (entry_at at a) (to_le table_entry_length entry)
         → Entered buf after at a sector stored r.stored
     entered-some n e =
         record {
           none = λ z. absurd (s z);
-          some = λ z. (w.stored, e ∙ (λ j. overwrite (w.buffer j) (entry_at at a) (toLe tableEntryLength ((n ∙ ap (encode at.shift) w.pointer) j))));
+          some = λ z. (w.stored, e ∙ (λ j. overwrite (w.buffer j) (entry_at at a) (to_le table_entry_length ((n ∙ ap (encode at.shift) w.pointer) j))));
         }
 
 -- ---- the entries of the first k
-entries_next : (shift : ℕ) (ps : List (Option Pointer)) (p : Option Pointer) → map (tableEntryBytes shift) (ps ++ (p ∷ [])) ≡ map (tableEntryBytes shift) ps ++ (tableEntryBytes shift p ∷ [])
+entries_next : (shift : ℕ) (ps : List (Option Pointer)) (p : Option Pointer) → map (table_entry_bytes shift) (ps ++ (p ∷ [])) ≡ map (table_entry_bytes shift) ps ++ (table_entry_bytes shift p ∷ [])
 entries_next shift [] p = refl
-entries_next shift (q ∷ ps) p = ap (λ (l : List (List ℕ)). tableEntryBytes shift q ∷ l) (entries_next shift ps p)
+entries_next shift (q ∷ ps) p = ap (λ (l : List (List ℕ)). table_entry_bytes shift q ∷ l) (entries_next shift ps p)
 
 entries-more : (block : ℕ) (f : ℕ → List ℕ) (shift k : ℕ)
-    → tableEntriesBytes shift (pointersOf block f (suc k)) ≡ tableEntriesBytes shift (pointersOf block f k) ++ tableEntryBytes shift (pointerOf block (storedOf block f k).items (f k))
-unfolding pointersOf
-entries-more block f shift k = ap flatten (entries_next shift (pointersOf block f k) _) ∙ flatten-next _ _
+    → table_entries_bytes shift (pointers_of block f (suc k)) ≡ table_entries_bytes shift (pointers_of block f k) ++ table_entry_bytes shift (pointer_of block (stored_of block f k).items (f k))
+unfolding pointers_of
+entries-more block f shift k = ap flatten (entries_next shift (pointers_of block f k) _) ∙ flatten-next _ _
 
 -- ---- before entry a
 -- the sectors that are stored for those before it stand, in what was `base`
 pub record Standing (base buf : List ℕ) (f : ℕ → List ℕ) (count : ℕ) (at : Layout) (stored a : ℕ) : Type 0 where
-  pub counted : stored ≡ length (storedOf at.used f a).items
+  pub counted : stored ≡ length (stored_of at.used f a).items
   pub most : a ≤ count
-  pub is : buf ≡ overwrite base (at.used + blockHeaderLength) (flatten (storedOf at.used f a).items)
+  pub is : buf ≡ overwrite base (at.used + block_header_length) (flatten (stored_of at.used f a).items)
 
 -- and so do the entries
 pub record Going (buf₀ buf : List ℕ) (f : ℕ → List ℕ) (count size : ℕ) (at : Layout) (stored a : ℕ) : Type 0 where
-  pub standing : Standing (overwrite buf₀ (at.table.0 + tableHeaderLength) (tableEntriesBytes at.shift (pointersOf at.used f a))) buf f count at stored a
+  pub standing : Standing (overwrite buf₀ (at.table.0 + table_header_length) (table_entries_bytes at.shift (pointers_of at.used f a))) buf f count at stored a
 
 module _ {buf₀ : List ℕ} {f : ℕ → List ℕ} {count size : ℕ} {at : Layout} (h : Lays buf₀ f count size at) where
   abbrev start : ℕ
-  start = at.used + blockHeaderLength
+  start = at.used + block_header_length
 
   abbrev table : ℕ
-  table = at.table.0 + tableHeaderLength
+  table = at.table.0 + table_header_length
 
   abbrev items : ℕ → List (List ℕ)
-  items k = (storedOf at.used f k).items
+  items k = (stored_of at.used f k).items
 
   abbrev entries : ℕ → List ℕ
-  entries k = tableEntriesBytes at.shift (pointersOf at.used f k)
+  entries k = table_entries_bytes at.shift (pointers_of at.used f k)
 
   -- the stored sectors lie before the entries
   items-room : (k : ℕ) → k ≤ count → start + length (items k) * size ≤ table
@@ -90,12 +90,12 @@ module _ {buf₀ : List ℕ} {f : ℕ → List ℕ} {count size : ℕ} {at : Lay
   items-long : (k : ℕ) → k ≤ count → length (flatten (items k)) ≡ length (items k) * size
   items-long k m = length-flatten size (items k) (sized k m)
 
-  entries-long : (k : ℕ) → length (entries k) ≡ tableEntryLength * k
-  entries-long k = length-entries at.shift (pointersOf at.used f k) ∙ ap (λ n. tableEntryLength * n) (pointers-length at.used f k)
+  entries-long : (k : ℕ) → length (entries k) ≡ table_entry_length * k
+  entries-long k = length-entries at.shift (pointers_of at.used f k) ∙ ap (λ n. table_entry_length * n) (pointers-length at.used f k)
 
   -- ---- the sectors alone
   pub standing-starts : Standing buf₀ buf₀ f count at 0 0
-  unfolding handed storeAll flatten
+  unfolding handed store_all flatten
   standing-starts = record { counted = refl; most = omega arith; is = sym (overwrite-nil buf₀ start) }
 
   module _ {base buf : List ℕ} {stored a : ℕ} (lb : length base ≡ length buf₀) (g : Standing base buf f count at stored a) where
@@ -140,14 +140,14 @@ module _ {buf₀ : List ℕ} {f : ℕ → List ℕ} {count size : ℕ} {at : Lay
         length-x : length x ≡ size
         length-x = ap length e ∙ h.sectors.sized a l f-some
 
-        step_is : addIn buf at.used x stored ≡ step_of at.used f a
-        step_is = ap (λ n. addAt at.used (items_in buf at.used stored n) x) length-x ∙ (λ j. addAt at.used (stand j) (e j))
+        step_is : add_in buf at.used x stored ≡ step_of at.used f a
+        step_is = ap (λ n. add_at at.used (items_in buf at.used stored n) x) length-x ∙ (λ j. add_at at.used (stand j) (e j))
 
-        stored_is : (addIn buf at.used x stored).stored ≡ items (suc a)
+        stored_is : (add_in buf at.used x stored).stored ≡ items (suc a)
         stored_is = ap (λ st. st.stored) step_is ∙ sym (items-some at.used f a f-some)
 
         -- there is room for it
-        pub standing-steps : Steps buf at.used x (addIn buf at.used x stored)
+        pub standing-steps : Steps buf at.used x (add_in buf at.used x stored)
         standing-steps =
             record {
               pos = s;
@@ -155,7 +155,7 @@ module _ {buf₀ : List ℕ} {f : ℕ → List ℕ} {count size : ℕ} {at : Lay
               room = rw (stored_is, length-x) (omega (arith, items-room (suc a) l, standing-long, h.entries));
             }
 
-        pub standing-some : {after : List ℕ} {r : Handed} → Stepped buf after at.used (addIn buf at.used x stored) r → Standing base after f count at r.stored (a + 1)
+        pub standing-some : {after : List ℕ} {r : Handed} → Stepped buf after at.used (add_in buf at.used x stored) r → Standing base after f count at r.stored (a + 1)
         standing-some w =
             rw (add-one a)
             (record {
@@ -179,7 +179,7 @@ module _ {buf₀ : List ℕ} {f : ℕ → List ℕ} {count size : ℕ} {at : Lay
 
   -- ---- with the entries
   pub going-starts : Going buf₀ buf₀ f count size at 0 0
-  unfolding handed storeAll pointersOf flatten
+  unfolding handed store_all pointers_of flatten
   going-starts = record { standing = record { counted = refl; most = omega arith; is = sym (overwrite-nil _ start ∙ overwrite-nil buf₀ table) } }
 
   module _ {buf : List ℕ} {stored a : ℕ} (g : Going buf₀ buf f count size at stored a) where
@@ -206,7 +206,7 @@ module _ {buf₀ : List ℕ} {f : ℕ → List ℕ} {count size : ℕ} {at : Lay
           }
 
       -- the sectors, and then the entry
-      next-is : {after : List ℕ} (entry : List ℕ) → tableEntryBytes at.shift (pointerOf at.used (items a) (f a)) ≡ entry
+      next-is : {after : List ℕ} (entry : List ℕ) → table_entry_bytes at.shift (pointer_of at.used (items a) (f a)) ≡ entry
           → after ≡ overwrite (overwrite buf start (flatten (items (suc a)))) (entry_at at a) entry
           → after ≡ overwrite (overwrite buf₀ table (entries (suc a))) start (flatten (items (suc a)))
       next-is {after} entry en ea =
@@ -219,7 +219,7 @@ module _ {buf₀ : List ℕ} {f : ℕ → List ℕ} {count size : ℕ} {at : Lay
           (overwrite-then buf₀ table (entries a) entry ∙ ap (overwrite buf₀ table) (ap (λ (n : List ℕ). entries a ++ n) (sym en) ∙ sym (entries-more at.used f at.shift a)))
 
       pub going-entered : {after : List ℕ} {next : ℕ} → Entered buf after at a x stored next → Going buf₀ after f count size at next (a + 1)
-      unfolding tableEntryBytes
+      unfolding table_entry_bytes
       going-entered {after} {next} w =
           rw (add-one a)
           (⊎_elim
@@ -230,9 +230,9 @@ module _ {buf₀ : List ℕ} {f : ℕ → List ℕ} {count size : ℕ} {at : Lay
             standing = record {
               counted = r.0 ∙ ap length i;
               most = l;
-              is = next-is (toLe tableEntryLength (encode at.shift (step_of at.used f a).pointer))
-                  (ap (tableEntryBytes at.shift) (pointer-some at.used (items a) (f a) (f-some long g.standing l e s)))
-                  (r.1 ∙ (λ j. overwrite (overwrite buf start (flatten (i j))) (entry_at at a) (toLe tableEntryLength (encode at.shift (step_is long g.standing l e s j).pointer))));
+              is = next-is (to_le table_entry_length (encode at.shift (step_of at.used f a).pointer))
+                  (ap (table_entry_bytes at.shift) (pointer-some at.used (items a) (f a) (f-some long g.standing l e s)))
+                  (r.1 ∙ (λ j. overwrite (overwrite buf start (flatten (i j))) (entry_at at a) (to_le table_entry_length (encode at.shift (step_is long g.standing l e s j).pointer))));
             };
           })
           (λ z.
@@ -242,8 +242,8 @@ module _ {buf₀ : List ℕ} {f : ℕ → List ℕ} {count size : ℕ} {at : Lay
             standing = record {
               counted = r.0 ∙ g.standing.counted ∙ ap length (sym i);
               most = l;
-              is = next-is (toLe tableEntryLength 0) (ap (tableEntryBytes at.shift) (pointer_none at.used (items a) (f a) (f-none long g.standing l e z)))
-                  (r.1 ∙ ap (λ (b : List ℕ). overwrite b (entry_at at a) (toLe tableEntryLength 0)) (sym (over-again i)));
+              is = next-is (to_le table_entry_length 0) (ap (table_entry_bytes at.shift) (pointer_none at.used (items a) (f a) (f-none long g.standing l e z)))
+                  (r.1 ∙ ap (λ (b : List ℕ). overwrite b (entry_at at a) (to_le table_entry_length 0)) (sym (over-again i)));
             };
           })
           (some_or_none x))

@@ -14,11 +14,11 @@ use Rattle.format.specs.declared.Pointer.{Pointer}
 use Rattle.format.specs.Lists.{All, done, more}
 use Rattle.format.specs.Tests.{same, choose}
 use Rattle.format.specs.Refusals.{refusal, refused, accepted}
-use Rattle.format.specs.Layouts.{applicationLength, indexOffset, entries}
+use Rattle.format.specs.Layouts.{application_length, index_offset, entries}
 use Rattle.format.specs.Opening.{Opened, opened}
-use Rattle.format.specs.Writing.{mostSectors, placed, setHeader}
-use Rattle.format.specs.Creating.{createdIndexAt, createdUsed}
-use Rattle.format.specs.Committing.{onDisc, pieces, Step, Stored, storeAll, storedFor, given, oldPointer, newPointer, newPointers, pointersFor, indexStart, usedAfter, appendedBytes, appendedFor, appended}
+use Rattle.format.specs.Writing.{most_sectors, placed, set_header}
+use Rattle.format.specs.Creating.{created_index_at, created_used}
+use Rattle.format.specs.Committing.{on_disc, pieces, Step, Stored, store_all, stored_for, given, old_pointer, new_pointer, new_pointers, pointers_for, index_start, used_after, appended_bytes, appended_for, appended}
 use Rattle.format.specs.Answers.{answered}
 use Rattle.format.proofs.Tests.{below_true, below-iff, same_true, same-iff, choose-true, choose-false}
 use Rattle.format.proofs.Lists.{all_append, all_map}
@@ -28,21 +28,21 @@ use Rattle.format.proofs.Ends.{disc-some}
 use Rattle.format.proofs.Created.{length-new}
 use Rattle.format.proofs.Chains.{stop-last, on-last}
 use Rattle.format.proofs.Answers.{outcome-stops, outcome-done}
-use Rattle.format.proofs.Composing.{made, made-offset, made-sound, made-opened, made-entries, made-unwritten, made-empty, Composable, composedUsed, composedIndex, composed, composed-is, image-is}
-use Rattle.storing.specs.Turns.{noDisc, addAt}
+use Rattle.format.proofs.Composing.{made, made-offset, made-sound, made-opened, made-entries, made-unwritten, made-empty, Composable, composed_used, composed_index, composed, composed-is, image-is}
+use Rattle.storing.specs.Turns.{no_disc, add_at}
 use Rattle.storing.proofs.Steps.{add-lost}
 use Rattle.composing.specs.declared.Layout.{Layout}
-use Rattle.composing.specs.Composes.{handed, numbersOf, storedOf, pointerOf, pointersOf, appendedOf, composedIn, Plan, Fits}
+use Rattle.composing.specs.Composes.{handed, numbers_of, stored_of, pointer_of, pointers_of, appended_of, composed_in, Plan, Fits}
 use Rattle.composing.proofs.Handed.{some_or_none, where-some, where-none, pointer-some, pointer_none, pointers-some, pointers-none}
 use Rattle.composing.proofs.Laid.{start_is, end_is, image-fits}
 
 -- ---- a disc that holds no sector
-same-all : (img : List ℕ) (t : Opened) → ((d : List ℕ) → onDisc img t d ≡ none) → (block : ℕ) (ds st : List (List ℕ)) → storeAll img t block st ds ≡ storeAll [] noDisc block st ds
-unfolding storeAll
+same-all : (img : List ℕ) (t : Opened) → ((d : List ℕ) → on_disc img t d ≡ none) → (block : ℕ) (ds st : List (List ℕ)) → store_all img t block st ds ≡ store_all [] no_disc block st ds
+unfolding store_all
 same-all img t lost block [] st = refl
 same-all img t lost block (d ∷ ds) st =
-    ap (λ (s : Step). record { items = (storeAll img t block s.stored ds).items; pointers = s.pointer ∷ (storeAll img t block s.stored ds).pointers }) (add-lost block st d img t (lost d))
-    ∙ ap (λ (r : Stored). record { items = r.items; pointers = (addAt block st d).pointer ∷ r.pointers }) (same-all img t lost block ds (addAt block st d).stored)
+    ap (λ (s : Step). record { items = (store_all img t block s.stored ds).items; pointers = s.pointer ∷ (store_all img t block s.stored ds).pointers }) (add-lost block st d img t (lost d))
+    ∙ ap (λ (r : Stored). record { items = r.items; pointers = (add_at block st d).pointer ∷ r.pointers }) (same-all img t lost block ds (add_at block st d).stored)
 
 -- ---- what stands beside a number
 or-none : {A : Type 0} (u : Option A) → or_else u none ≡ u
@@ -66,28 +66,28 @@ given-more (c ∷ l) (z ∷ ys) b y a h = or-more (same c a) z _ _ _ (given-more
 
 module _ (block : ℕ) (f : ℕ → List ℕ) where
   abbrev items : ℕ → List (List ℕ)
-  items k = (storedOf block f k).items
+  items k = (stored_of block f k).items
 
   abbrev pointers : ℕ → List Pointer
-  pointers k = (storedOf block f k).pointers
+  pointers k = (stored_of block f k).pointers
 
-  numbers-some : (k : ℕ) → length (f k) ≢ 0 → numbersOf f (suc k) ≡ numbersOf f k ++ (k ∷ [])
-  unfolding numbersOf
-  numbers-some k h = ap (λ (l : List ℕ). numbersOf f k ++ l) (where-some (f k) k h)
+  numbers-some : (k : ℕ) → length (f k) ≢ 0 → numbers_of f (suc k) ≡ numbers_of f k ++ (k ∷ [])
+  unfolding numbers_of
+  numbers-some k h = ap (λ (l : List ℕ). numbers_of f k ++ l) (where-some (f k) k h)
 
-  numbers-none : (k : ℕ) → length (f k) ≡ 0 → numbersOf f (suc k) ≡ numbersOf f k
-  unfolding numbersOf
-  numbers-none k h = ap (λ (l : List ℕ). numbersOf f k ++ l) (where-none (f k) k h) ∙ append-nil (numbersOf f k)
+  numbers-none : (k : ℕ) → length (f k) ≡ 0 → numbers_of f (suc k) ≡ numbers_of f k
+  unfolding numbers_of
+  numbers-none k h = ap (λ (l : List ℕ). numbers_of f k ++ l) (where-none (f k) k h) ∙ append-nil (numbers_of f k)
 
-  numbers-below : (k : ℕ) → All (λ (n : ℕ). n < k) (numbersOf f k)
-  unfolding numbersOf
+  numbers-below : (k : ℕ) → All (λ (n : ℕ). n < k) (numbers_of f k)
+  unfolding numbers_of
   numbers-below zero = done
   numbers-below (suc k) =
-      let rest : All (λ (n : ℕ). n < suc k) (numbersOf f k) = all_map (λ n l. omega arith) (numbers-below k) in
+      let rest : All (λ (n : ℕ). n < suc k) (numbers_of f k) = all_map (λ n l. omega arith) (numbers-below k) in
       ⊎_elim (λ s. rw (numbers-some k s) (all_append rest (more (le_refl _) done))) (λ z. rw (numbers-none k z) rest) (some_or_none (f k))
 
-  numbers-length : (k : ℕ) → length (numbersOf f k) ≡ length (pointers k)
-  unfolding numbersOf handed storeAll
+  numbers-length : (k : ℕ) → length (numbers_of f k) ≡ length (pointers k)
+  unfolding numbers_of handed store_all
   numbers-length zero = refl
   numbers-length (suc k) =
       let ih = numbers-length k in
@@ -96,23 +96,23 @@ module _ (block : ℕ) (f : ℕ → List ℕ) where
       (λ z. rw (numbers-none k z, pointers-none block f k z) ih) (some_or_none (f k))
 
   -- the number of an entry is beside its pointer, and that of an entry without a sector is not there
-  other : (k : ℕ) → given (numbersOf f k) (pointers k) k ≡ none
-  other k = given-other (numbersOf f k) (pointers k) k (all_map (λ n l e. absurd (omega arith)) (numbers-below k))
+  other : (k : ℕ) → given (numbers_of f k) (pointers k) k ≡ none
+  other k = given-other (numbers_of f k) (pointers k) k (all_map (λ n l e. absurd (omega arith)) (numbers-below k))
 
-  given_is : (k n : ℕ) → n < k → given (numbersOf f k) (pointers k) n ≡ pointerOf block (items n) (f n)
+  given_is : (k n : ℕ) → n < k → given (numbers_of f k) (pointers k) n ≡ pointer_of block (items n) (f n)
   unfolding or_else
   given_is zero n l = absurd (omega arith)
   given_is (suc k) n l =
       ⊎_elim
       (λ s.
       rw (numbers-some k s, pointers-some block f k s)
-      (given-more (numbersOf f k) (pointers k) k (addAt block (items k) (f k)).pointer n (numbers-length k)
+      (given-more (numbers_of f k) (pointers k) k (add_at block (items k) (f k)).pointer n (numbers-length k)
       ∙ ⊎_elim
       (λ e.
       let i : n ≡ k = omega arith in
       rw i (rw (other k) (choose-true _ _ _ (same_true k k refl) ∙ sym (pointer-some block (items k) (f k) s))))
       (λ b.
-      ap (or_else (given (numbersOf f k) (pointers k) n)) (choose-false _ _ _ (same-iff.1 (λ (e : k ≡ n). absurd (omega arith)))) ∙ or-none _ ∙ given_is k n (omega arith))
+      ap (or_else (given (numbers_of f k) (pointers k) n)) (choose-false _ _ _ (same-iff.1 (λ (e : k ≡ n). absurd (omega arith)))) ∙ or-none _ ∙ given_is k n (omega arith))
       (eq-or-lt_of_le l)))
       (λ z.
       rw (numbers-none k z, pointers-none block f k z)
@@ -121,40 +121,40 @@ module _ (block : ℕ) (f : ℕ → List ℕ) where
 
 -- ---- the pointers of the new table
 new-more : (img : List ℕ) (t : Opened) (l : List ℕ) (ps : List Pointer) (k a : ℕ)
-    → newPointers img t l ps (suc k) a ≡ newPointers img t l ps k a ++ (newPointer img t l ps (a + k) ∷ [])
-unfolding newPointers
+    → new_pointers img t l ps (suc k) a ≡ new_pointers img t l ps k a ++ (new_pointer img t l ps (a + k) ∷ [])
+unfolding new_pointers
 new-more img t l ps zero a = rw (add-zero a) refl
 new-more img t l ps (suc k) a =
     let e : suc a + k ≡ a + suc k = omega arith in
-    ap (λ (us : List (Option Pointer)). newPointer img t l ps a ∷ us) (new-more img t l ps k (suc a) ∙ ap (λ n. newPointers img t l ps k (suc a) ++ (newPointer img t l ps n ∷ [])) e)
+    ap (λ (us : List (Option Pointer)). new_pointer img t l ps a ∷ us) (new-more img t l ps k (suc a) ∙ ap (λ n. new_pointers img t l ps k (suc a) ++ (new_pointer img t l ps n ∷ [])) e)
 
-new-pointers : (block : ℕ) (f : ℕ → List ℕ) (img : List ℕ) (t : Opened) (count : ℕ) → ((a : ℕ) → a < count → oldPointer img t a ≡ none)
-    → (k : ℕ) → k ≤ count → newPointers img t (numbersOf f count) (storedOf block f count).pointers k 0 ≡ pointersOf block f k
-unfolding newPointers newPointer pointersOf
+new-pointers : (block : ℕ) (f : ℕ → List ℕ) (img : List ℕ) (t : Opened) (count : ℕ) → ((a : ℕ) → a < count → old_pointer img t a ≡ none)
+    → (k : ℕ) → k ≤ count → new_pointers img t (numbers_of f count) (stored_of block f count).pointers k 0 ≡ pointers_of block f k
+unfolding new_pointers new_pointer pointers_of
 new-pointers block f img t count old zero l = refl
 new-pointers block f img t count old (suc k) l =
-    let N : List ℕ = numbersOf f count in
-    let P : List Pointer = (storedOf block f count).pointers in
-    let here : newPointer img t N P (0 + k) ≡ pointerOf block (storedOf block f k).items (f k) =
-    ap (newPointer img t N P) (zero-add k) ∙ (λ j. or_else (given_is block f count k l j) (old k l j)) ∙ or-none _ in
+    let N : List ℕ = numbers_of f count in
+    let P : List Pointer = (stored_of block f count).pointers in
+    let here : new_pointer img t N P (0 + k) ≡ pointer_of block (stored_of block f k).items (f k) =
+    ap (new_pointer img t N P) (zero-add k) ∙ (λ j. or_else (given_is block f count k l j) (old k l j)) ∙ or-none _ in
     new-more img t N P k 0 ∙ (λ j. new-pointers block f img t count old k (omega arith) j ++ (here j ∷ []))
 
 -- ---- what is handed in for the entries of f, as a commit takes it
 pub record Hands (f : ℕ → List ℕ) (count : ℕ) (numbers : List ℕ) (size : ℕ) (sectors : List ℕ) : Type 0 where
-  pub numbers-are : numbers ≡ numbersOf f count
+  pub numbers-are : numbers ≡ numbers_of f count
   pub sectors-are : pieces (length numbers) size sectors ≡ handed f count
 
-module _ (count : ℕ) (application : List ℕ) (major minor mediaType creationTime lastWrittenTime : ℕ) (fit : length application ≡ applicationLength) (most : count ≤ mostSectors) where
+module _ (count : ℕ) (application : List ℕ) (major minor mediaType creationTime lastWrittenTime : ℕ) (fit : length application ≡ application_length) (most : count ≤ most_sectors) where
   abbrev used : ℕ
-  used = createdUsed count
+  used = created_used count
 
   abbrev o : ℕ
-  o = createdIndexAt count
+  o = created_index_at count
 
   abbrev new : List ℕ
   new = made count application major minor mediaType creationTime lastWrittenTime
 
-  offset-is : indexOffset new ≡ o
+  offset-is : index_offset new ≡ o
   offset-is = made-offset count application major minor mediaType creationTime lastWrittenTime fit most
 
   sound : Sound new o
@@ -163,32 +163,32 @@ module _ (count : ℕ) (application : List ℕ) (major minor mediaType creationT
   long : length new ≡ used
   long = length-new count application major minor mediaType creationTime lastWrittenTime fit
 
-  lost : (d : List ℕ) → onDisc new (opened new o) d ≡ none
-  lost d = go (onDisc new (opened new o) d) refl
+  lost : (d : List ℕ) → on_disc new (opened new o) d ≡ none
+  lost d = go (on_disc new (opened new o) d) refl
     where
-      go : (u : Option ℕ) → onDisc new (opened new o) d ≡ u → u ≡ none
+      go : (u : Option ℕ) → on_disc new (opened new o) d ≡ u → u ≡ none
       go none e = refl
       go (some n) e =
           absurd (made-empty count application major minor mediaType creationTime lastWrittenTime fit most d (disc-some new (rw offset-is sound) d n (rw offset-is e)))
 
   module _ {f : ℕ → List ℕ} {numbers : List ℕ} {size : ℕ} {sectors : List ℕ} (d : Hands f count numbers size sectors) where
-    stored_is : storedFor new o numbers size sectors ≡ storedOf used f count
-    unfolding storedFor
-    stored_is = same-all new (opened new o) lost (length new) (pieces (length numbers) size sectors) [] ∙ (λ j. storeAll [] noDisc (long j) [] (d.sectors-are j))
+    stored_is : stored_for new o numbers size sectors ≡ stored_of used f count
+    unfolding stored_for
+    stored_is = same-all new (opened new o) lost (length new) (pieces (length numbers) size sectors) [] ∙ (λ j. store_all [] no_disc (long j) [] (d.sectors-are j))
 
-    pointers-are : pointersFor new o numbers (storedOf used f count).pointers ≡ pointersOf used f count
-    unfolding pointersFor
+    pointers-are : pointers_for new o numbers (stored_of used f count).pointers ≡ pointers_of used f count
+    unfolding pointers_for
     pointers-are =
-        let ps : List Pointer = (storedOf used f count).pointers in
+        let ps : List Pointer = (stored_of used f count).pointers in
         let many : (opened new o).count ≡ count = ap (λ (t : Opened). t.count) (made-opened count application major minor mediaType creationTime lastWrittenTime fit most) in
-        (λ j. newPointers new (opened new o) (d.numbers-are j) ps (many j) 0)
+        (λ j. new_pointers new (opened new o) (d.numbers-are j) ps (many j) 0)
         ∙ new-pointers used f new (opened new o) count (made-unwritten count application major minor mediaType creationTime lastWrittenTime fit most) count (le_refl count)
 
-    pub added_is : appended new o numbers size sectors ≡ appendedOf f size count
+    pub added_is : appended new o numbers size sectors ≡ appended_of f size count
     unfolding appended
     added_is =
-        ap (λ (st : Stored). appendedFor (length new) size (entries new o) st.items (pointersFor new o numbers st.pointers)) stored_is
-        ∙ (λ j. appendedFor (long j) size (made-entries count application major minor mediaType creationTime lastWrittenTime fit most j) (storedOf used f count).items (pointers-are j))
+        ap (λ (st : Stored). appended_for (length new) size (entries new o) st.items (pointers_for new o numbers st.pointers)) stored_is
+        ∙ (λ j. appended_for (long j) size (made-entries count application major minor mediaType creationTime lastWrittenTime fit most j) (stored_of used f count).items (pointers-are j))
 
 -- ---- the two calls, as they are planned
 module _ (buffer : List ℕ) (count : ℕ) (numbers : List ℕ) (size : ℕ) (sectors application : List ℕ) (major minor mediaType creationTime lastWrittenTime : ℕ)
@@ -196,14 +196,14 @@ module _ (buffer : List ℕ) (count : ℕ) (numbers : List ℕ) (size : ℕ) (se
   abbrev image : List ℕ
   image = made count application major minor mediaType creationTime lastWrittenTime
 
-  added : appended image (createdIndexAt count) numbers size sectors ≡ appendedOf f size count
+  added : appended image (created_index_at count) numbers size sectors ≡ appended_of f size count
   added = added_is count application major minor mediaType creationTime lastWrittenTime k.sized k.most d
 
-  used-is : composedUsed buffer count numbers size sectors application major minor mediaType creationTime lastWrittenTime ≡ at.end
-  used-is = ap (usedAfter (createdUsed count)) added ∙ end_is p
+  used-is : composed_used buffer count numbers size sectors application major minor mediaType creationTime lastWrittenTime ≡ at.end
+  used-is = ap (used_after (created_used count)) added ∙ end_is p
 
-  index_is : composedIndex buffer count numbers size sectors application major minor mediaType creationTime lastWrittenTime ≡ at.index.0
-  index_is = ap (indexStart (createdUsed count)) added ∙ start_is p
+  index_is : composed_index buffer count numbers size sectors application major minor mediaType creationTime lastWrittenTime ≡ at.index.0
+  index_is = ap (index_start (created_used count)) added ∙ start_is p
 
   -- there is no room
   pub composed-full : length buffer < at.end
@@ -214,8 +214,8 @@ module _ (buffer : List ℕ) (count : ℕ) (numbers : List ℕ) (size : ℕ) (se
 
   -- there is, and the new image stands in front
   module _ (h : at.end ≤ length buffer) {b₁ : List ℕ} (e₁ : b₁ ≡ overwrite buffer 0 image) where
-    front : take (createdUsed count) b₁ ≡ image
-    front = ap (take (createdUsed count)) e₁ ∙ image-is _ _ _ _ _ _ _ _ _ _ _ k (image-fits p h)
+    front : take (created_used count) b₁ ≡ image
+    front = ap (take (created_used count)) e₁ ∙ image-is _ _ _ _ _ _ _ _ _ _ _ k (image-fits p h)
 
     pub composed-fits : Fits b₁ f count size stored at
     composed-fits =
@@ -229,9 +229,9 @@ module _ (buffer : List ℕ) (count : ℕ) (numbers : List ℕ) (size : ℕ) (se
           named = rw front (made-entries count application major minor mediaType creationTime lastWrittenTime k.sized k.most);
         }
 
-    pub composed-done : {b₂ : List ℕ} → b₂ ≡ composedIn b₁ f size count lastWrittenTime
+    pub composed-done : {b₂ : List ℕ} → b₂ ≡ composed_in b₁ f size count lastWrittenTime
         → answered (accepted (placed at.end at.index.0)) b₂ ≡ composed buffer count numbers size sectors application major minor mediaType creationTime lastWrittenTime
     composed-done e₂ =
         outcome-done buffer (on-last _ (below-iff.1 (omega (arith, used-is)))) (sym (λ j. placed (used-is j) (index_is j)))
-        (e₂ ∙ (λ j. setHeader (overwrite (e₁ j) (createdUsed count) (appendedBytes (sym added j))) (indexStart (createdUsed count) (sym added j)) lastWrittenTime))
+        (e₂ ∙ (λ j. set_header (overwrite (e₁ j) (created_used count) (appended_bytes (sym added j))) (index_start (created_used count) (sym added j)) lastWrittenTime))
         ∙ sym (composed-is buffer count numbers size sectors application major minor mediaType creationTime lastWrittenTime k)

@@ -4,7 +4,7 @@
 //
 // Cost: each sector is compared with those stored before it, up to the first that is equal; else linear in what is written.
 ghost use Rattle.std.specs.Prelude.{◌≢◌, ◌≡◌, ◌≤◌};
-ghost use Rattle.format.specs.Writing.{mostSectors, largestSize, mostAddresses};
+ghost use Rattle.format.specs.Writing.{most_sectors, largest_size, most_addresses};
 ghost use Rattle.composing.specs.Composes.{layout_of, Enters, Entered, Filled, Finished};
 
 use format::{ByteOffset, CREATED_ENTRIES, ItemNumber};
@@ -23,7 +23,7 @@ pub struct Layout {
 
 // Where all of it stands, if so many sectors are stored, one at least.
 pub fn lay_out(count: u64, size: u64, stored: u64) -> Layout
-    requires { (count ≤ mostSectors) × (size ≤ largestSize) × (stored ≤ mostAddresses) × (stored ≢ 0) }
+    requires { (count ≤ most_sectors) × (size ≤ largest_size) × (stored ≤ most_addresses) × (stored ≢ 0) }
     ensures { result ≡ layout_of count size stored }
 {
     let first = CREATED_ENTRIES + 8 * count;

@@ -8,56 +8,56 @@ use lib.ListN.{length, replicate, length-replicate}
 use Rattle.fields.specs.Bytes.{overwrite}
 use Rattle.format.specs.declared.Placed.{Placed}
 use Rattle.format.specs.declared.Verdict.{Verdict}
-use Rattle.format.specs.Layouts.{indexOffset}
+use Rattle.format.specs.Layouts.{index_offset}
 use Rattle.format.specs.Opening.{opened}
 use Rattle.format.specs.Writing.{Outcome, outcome, placed}
-use Rattle.format.specs.Exporting.{flatFile, exactVerdict, exportExact}
+use Rattle.format.specs.Exporting.{flat_file, exact_verdict, export_exact}
 use Rattle.format.specs.Importing.{import}
-use Rattle.format.specs.Demands.{openingNumber, exportingNumber, importingNumber}
+use Rattle.format.specs.Demands.{OpeningNumber, ExportingNumber, ImportingNumber}
 use Rattle.format.proofs.Buffers.{outcome-refuses}
 use Rattle.format.proofs.Exporting as exporting
 use Rattle.format.proofs.Composing.{image-length}
 use Rattle.format.proofs.Importing as importing
 use Rattle.format.proofs.Refusing.{demand-1-refusals}
-use Rattle.text.specs.Text.{TOO-LONG, NEWLINE, longestInput}
-use Rattle.converting.specs.Texts.{exportText, importText}
+use Rattle.text.specs.Text.{TOO-LONG, NEWLINE, longest_input}
+use Rattle.converting.specs.Texts.{export_text, import_text}
 use Rattle.converting.proofs.Fills.{Fills, long-text}
 
 -- ---- two digits are enough
-opening-small : (n : ℕ) → openingNumber n → n < 100
+opening-small : (n : ℕ) → OpeningNumber n → n < 100
 opening-small n = ⊎_elim (λ h. omega arith) (λ h. omega arith)
 
-exporting-small : (n : ℕ) → exportingNumber n → n < 100
+exporting-small : (n : ℕ) → ExportingNumber n → n < 100
 exporting-small n = ⊎_elim (opening-small n) (⊎_elim (λ h. omega arith) (⊎_elim (λ h. omega arith) (λ h. omega arith)))
 
-importing-small : (n : ℕ) → importingNumber n → n < 100
+importing-small : (n : ℕ) → ImportingNumber n → n < 100
 importing-small n = ⊎_elim (λ h. omega arith) (⊎_elim (λ h. omega arith) (⊎_elim (λ h. omega arith) (λ h. omega arith)))
 
 blank-long : (n : ℕ) → length {A = ℕ} (replicate n 0) ≡ n
 blank-long n = length-replicate {A = ℕ} n 0
 
 -- ---- the calls
-pub export-fills : (img : List ℕ) → Fills (λ n. n) (exportExact img)
-unfolding exportExact
+pub export-fills : (img : List ℕ) → Fills (λ n. n) (export_exact img)
+unfolding export_exact
 export-fills img =
-    let o : ℕ = indexOffset img in
-    let file : List ℕ = flatFile img (opened img o) in
+    let o : ℕ = index_offset img in
+    let file : List ℕ = flat_file img (opened img o) in
     record {
-      verdict = λ n. exactVerdict img o (replicate n 0);
+      verdict = λ n. exact_verdict img o (replicate n 0);
       value = length file;
       image = file;
       is = λ b. ap (λ (v : Verdict). outcome b v (length file) (overwrite b 0 file)) (exporting.verdict-alike img o b (replicate (length b) 0) (sym (blank-long (length b))));
       sized = λ n v. refl;
       room = λ n v. rw blank-long at ((exporting.exact-ok img o (replicate n 0)).0 v).file.room;
-      few = λ n r v. exporting-small _ (demand-1-refusals.exportingExactly img (replicate n 0) r ((outcome-refuses _ _ _ _ r).1 v)).0;
+      few = λ n r v. exporting-small _ (demand-1-refusals.exporting_exactly img (replicate n 0) r ((outcome-refuses _ _ _ _ r).1 v)).0;
     }
 
 pub import-fills : (file : List ℕ) (size : ℕ) (application : List ℕ) (major minor mediaType creationTime lastWrittenTime : ℕ)
     → Fills (λ (p : Placed). p.used) (λ (b : List ℕ). import b file size application major minor mediaType creationTime lastWrittenTime)
 import-fills file size application major minor mediaType creationTime lastWrittenTime =
-    let all : List ℕ → Verdict = λ (b : List ℕ). importing.wholeVerdict b file size application major minor mediaType creationTime lastWrittenTime in
-    let p : Placed = placed (importing.importedUsed [] file size application major minor mediaType creationTime lastWrittenTime) (importing.importedIndex [] file size application major minor mediaType creationTime lastWrittenTime) in
-    let image : List ℕ = importing.importedImage [] file size application major minor mediaType creationTime lastWrittenTime in
+    let all : List ℕ → Verdict = λ (b : List ℕ). importing.whole_verdict b file size application major minor mediaType creationTime lastWrittenTime in
+    let p : Placed = placed (importing.imported_used [] file size application major minor mediaType creationTime lastWrittenTime) (importing.imported_index [] file size application major minor mediaType creationTime lastWrittenTime) in
+    let image : List ℕ = importing.imported_image [] file size application major minor mediaType creationTime lastWrittenTime in
     record {
       verdict = λ n. all (replicate n 0);
       value = p;
@@ -78,10 +78,10 @@ import-fills file size application major minor mediaType creationTime lastWritte
     }
 
 -- ---- a longer input
-pub export-long : (input : List ℕ) → longestInput < length input → exportText input ≡ TOO-LONG ++ NEWLINE
-unfolding exportText
+pub export-long : (input : List ℕ) → longest_input < length input → export_text input ≡ TOO-LONG ++ NEWLINE
+unfolding export_text
 export-long input h = long-text _ _ input h
 
-pub import-long : (input : List ℕ) → longestInput < length input → importText input ≡ TOO-LONG ++ NEWLINE
-unfolding importText
+pub import-long : (input : List ℕ) → longest_input < length input → import_text input ≡ TOO-LONG ++ NEWLINE
+unfolding import_text
 import-long input h = long-text _ _ input h

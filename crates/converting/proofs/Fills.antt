@@ -14,7 +14,7 @@ use Rattle.format.specs.Answers.{answered}
 use Rattle.format.proofs.Buffers.{outcome-accepted, outcome-refused}
 use Rattle.format.proofs.Exporting.{front}
 use Rattle.text.specs.Buffer.{Writes, Prints}
-use Rattle.text.specs.Text.{TOO-LONG, NEWLINE, refusedLine, longestInput}
+use Rattle.text.specs.Text.{TOO-LONG, NEWLINE, refused_line, longest_input}
 use Rattle.text.proofs.Decimal.{length-refused}
 use Rattle.text.proofs.Writes.{unless-long, unless-short, writes-prints}
 use Rattle.converting.specs.Texts.{shown, text, zeros}
@@ -30,11 +30,11 @@ pub record Fills {A : Type 0} (size : A → ℕ) (call : List ℕ → Outcome A)
   pub few : (n : ℕ) (r : Refusal) → verdict n ≡ Refuses r → r.number < 100
 
 -- a longer input
-pub long-text : {A : Type 0} (size : A → ℕ) (o : Outcome A) (input : List ℕ) → longestInput < length input → text size input o ≡ TOO-LONG ++ NEWLINE
+pub long-text : {A : Type 0} (size : A → ℕ) (o : Outcome A) (input : List ℕ) → longest_input < length input → text size input o ≡ TOO-LONG ++ NEWLINE
 unfolding text
 long-text size o input h = unless-long input _ h
 
-module _ {A : Type 0} {size : A → ℕ} {call : List ℕ → Outcome A} (f : Fills size call) (input : List ℕ) (h : length input ≤ longestInput) where
+module _ {A : Type 0} {size : A → ℕ} {call : List ℕ → Outcome A} (f : Fills size call) (input : List ℕ) (h : length input ≤ longest_input) where
   abbrev blank : List ℕ
   blank = zeros 65536
 
@@ -50,7 +50,7 @@ module _ {A : Type 0} {size : A → ℕ} {call : List ℕ → Outcome A} (f : Fi
       text-is ∙ (rw v refl) ∙ ap (λ n. take n (overwrite blank 0 f.image)) (f.sized 65536 v)
       ∙ front f.image blank (omega (arith, f.room 65536 v, length-replicate {A = ℕ} 65536 0))
 
-  refuses-text : (r : Refusal) → f.verdict 65536 ≡ Refuses r → text size input (call blank) ≡ refusedLine r.number
+  refuses-text : (r : Refusal) → f.verdict 65536 ≡ Refuses r → text size input (call blank) ≡ refused_line r.number
   unfolding outcome shown
   refuses-text r v = text-is ∙ (rw v refl)
 
@@ -71,7 +71,7 @@ module _ {A : Type 0} {size : A → ℕ} {call : List ℕ → Outcome A} (f : Fi
         })
 
     pub prints-refusal : {u : Answer A} (r : Refusal) {middle after : List ℕ} {n : ℕ} → u ≡ refused r → answered u middle ≡ call buffer
-        → Writes middle 0 (refusedLine r.number) after n → Prints buffer (text size input (call blank)) after n
+        → Writes middle 0 (refused_line r.number) after n → Prints buffer (text size input (call blank)) after n
     unfolding answered
     prints-refusal r {middle} {after} {n} q e w =
         let v = (rw q at e) ∙ by-verdict in

@@ -5,23 +5,23 @@ use Rattle.std.specs.Prelude.{List, ℕ, take, replicate}
 use Rattle.format.specs.declared.Placed.{Placed}
 use Rattle.format.specs.Refusals.{Answer, refused, accepted}
 use Rattle.format.specs.Writing.{Outcome}
-use Rattle.format.specs.Exporting.{exportExact}
+use Rattle.format.specs.Exporting.{export_exact}
 use Rattle.format.specs.Importing.{import}
-use Rattle.text.specs.Text.{refusedLine, unlessLong}
+use Rattle.text.specs.Text.{refused_line, unless_long}
 
 -- so many bytes of a buffer as an accepted call answers, by this of its values; or the line of its refusal
 unfoldable pub shown : {A : Type 0} → (A → ℕ) → Answer A → List ℕ → List ℕ
 shown size (accepted a) buffer = take (size a) buffer
-shown size (refused r) buffer = refusedLine r.number
+shown size (refused r) buffer = refused_line r.number
 
 unfoldable pub text : {A : Type 0} → (A → ℕ) → List ℕ → Outcome A → List ℕ
-text size input o = unlessLong input (shown size o.result o.buffer)
+text size input o = unless_long input (shown size o.result o.buffer)
 
 abbrev pub zeros : ℕ → List ℕ
 zeros n = replicate n 0
 
-unfoldable pub exportText : List ℕ → List ℕ
-exportText input = text (λ n. n) input (exportExact input (zeros 65536))
+unfoldable pub export_text : List ℕ → List ℕ
+export_text input = text (λ n. n) input (export_exact input (zeros 65536))
 
-unfoldable pub importText : List ℕ → List ℕ
-importText input = text (λ (p : Placed). p.used) input (import (zeros 65536) input 2048 (zeros 64) 0 0 0 0 0)
+unfoldable pub import_text : List ℕ → List ℕ
+import_text input = text (λ (p : Placed). p.used) input (import (zeros 65536) input 2048 (zeros 64) 0 0 0 0 0)

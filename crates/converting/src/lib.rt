@@ -1,12 +1,12 @@
 // What the programs `export` and `import` print, as functions on slices.
 ghost use Rattle.text.specs.Buffer.{Prints};
-ghost use Rattle.converting.specs.Texts.{exportText, importText};
+ghost use Rattle.converting.specs.Texts.{export_text, import_text};
 
 use flat::{ExportedExact, Updated};
 
 // What the exporting program prints for an image: its flat file, in which nothing is filled, or why there is none. It is written to the front of out; the answer is how many bytes it is.
 pub fn export(input: &[u8], out: &mut [u8; 65536]) -> usize
-    ensures { Prints out.old (exportText input.now) out.new result }
+    ensures { Prints out.old (export_text input.now) out.new result }
 {
     if 65536 < input.len() {
         return text::write(out, 0, b"too long\n");
@@ -20,7 +20,7 @@ pub fn export(input: &[u8], out: &mut [u8; 65536]) -> usize
 
 // What the importing program prints for a flat file: an image of it, or why there is none.
 pub fn import(input: &[u8], out: &mut [u8; 65536]) -> usize
-    ensures { Prints out.old (importText input.now) out.new result }
+    ensures { Prints out.old (import_text input.now) out.new result }
 {
     if 65536 < input.len() {
         return text::write(out, 0, b"too long\n");

@@ -28,17 +28,17 @@ shifts zero register = register
 shifts (suc n) register = shifts n (shift register)
 
 -- a byte: "exclusive-or it into the low 8 bits, then eight times shift"
-unfoldable pub addByte : ℕ → ℕ → ℕ
+unfoldable pub add_byte : ℕ → ℕ → ℕ
 unfolding shifts
-addByte register byte = shifts 8 (bit_xor register byte)
+add_byte register byte = shifts 8 (bit_xor register byte)
 
 -- "for each byte", in order
 unfoldable pub run : ℕ → List ℕ → ℕ
-unfolding addByte
+unfolding add_byte
 run register [] = register
-run register (byte ∷ bytes) = run (addByte register byte) bytes
+run register (byte ∷ bytes) = run (add_byte register byte) bytes
 
 -- the checksum: "start with all 64 bits one", and "at the end invert all bits"
-unfoldable pub crcOf : List ℕ → ℕ
+unfoldable pub crc_of : List ℕ → ℕ
 unfolding run
-crcOf bytes = ones - run ones bytes
+crc_of bytes = ones - run ones bytes

@@ -1,6 +1,6 @@
 // Internal: the checksum of document 01, CRC-64/XZ.
 ghost use Rattle.std.specs.Prelude.{◌≡◌};
-ghost use Rattle.crc64.specs.Crc.{run, crcOf};
+ghost use Rattle.crc64.specs.Crc.{run, crc_of};
 
 mod register; // the rule, a bit at a time
 mod tables; // the tables that serve eight bits at a time
@@ -11,7 +11,7 @@ const THRESHOLD: usize = 128;
 
 // The checksum of s.
 pub fn checksum(s: &[u8]) -> u64
-    ensures { result ≡ crcOf s.now }
+    ensures { result ≡ crc_of s.now }
 {
     !update(0xffff_ffff_ffff_ffff, s)
 }

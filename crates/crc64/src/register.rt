@@ -1,6 +1,6 @@
 // The register, a bit at a time.
 ghost use Rattle.std.specs.Prelude.{◌≡◌};
-ghost use Rattle.crc64.specs.Crc.{shift, shifts, addByte, run};
+ghost use Rattle.crc64.specs.Crc.{shift, shifts, add_byte, run};
 
 // Shift right by one and, if a one fell out, exclusive-or the polynomial.
 pub fn shift(register: u64) -> u64
@@ -29,7 +29,7 @@ pub fn shifts(register: u64, n: u32) -> u64
 
 // One byte into the register.
 fn add_byte(register: u64, byte: u8) -> u64
-    ensures { result ≡ addByte register byte }
+    ensures { result ≡ add_byte register byte }
 {
     shifts(register ^ (byte as u64), 8)
 }

@@ -8,7 +8,7 @@ use native.Mathlib.Omega.{arith}
 use lib.Dec.{eqb}
 use lib.ListN.{length, get_or}
 use borrow.Author.Tests.{eqb-true, eq-eqb, ne_eqb}
-use Rattle.fields.specs.Bytes.{part, fromLe, field, equal}
+use Rattle.fields.specs.Bytes.{part, from_le, field, equal}
 use Rattle.fields.proofs.Numbers.{field-same}
 use Rattle.fields.proofs.Overwrite.{part-whole}
 
@@ -54,7 +54,7 @@ unfolding field
 equal-numbers s at t hs ht h = by (equal (part s at (length t)) t) refl
   where
     by : (b : Bool) → equal (part s at (length t)) t ≡ b → eqb (field s at (length t)) (field t 0 (length t)) ≡ equal (part s at (length t)) t
-    by true e = eq-eqb _ _ (ap fromLe (equal-true _ t e ∙ sym (part-whole t))) ∙ sym e
+    by true e = eq-eqb _ _ (ap from_le (equal-true _ t e ∙ sym (part-whole t))) ∙ sym e
     by false e =
         ne_eqb _ _
         (λ n. true≢false (sym (equal-iff.1 (field-same s t at 0 (length t) hs ht h (omega arith) n ∙ part-whole t)) ∙ e)) ∙ sym e

@@ -7,16 +7,16 @@ use native.Mathlib.Nat.{add-zero}
 use native.Mathlib.Omega.{arith}
 use lib.ListN.{length, take, get_or, length-append, length-take, get_or-append}
 use lib.Seq.{get_or-take, get_or-append-add, take-length}
-use Rattle.fields.specs.Bytes.{part, fromLe, toLe, field, overwrite}
-use Rattle.fields.proofs.Numbers.{length-toLe, fromLe-toLe}
-use Rattle.fields.proofs.Overwrite.{length-overwrite, getD-in, part-alike}
+use Rattle.fields.specs.Bytes.{part, from_le, to_le, field, overwrite}
+use Rattle.fields.proofs.Numbers.{length-to_le, from_le-to_le}
+use Rattle.fields.proofs.Overwrite.{length-overwrite, get_or-in, part-alike}
 
 pub record Holds (s : List ℕ) (at : ℕ) (run : List ℕ) : Type 0 where
   pub fits : at + length run ≤ length s
   pub there : (i : ℕ) → i < length run → get_or s (at + i) 0 ≡ get_or run i 0
 
 pub holds-overwrite : (s : List ℕ) (at : ℕ) (run : List ℕ) → at + length run ≤ length s → Holds (overwrite s at run) at run
-holds-overwrite s at run h = record { fits = rw length-overwrite h; there = λ i k. getD-in s at run i k h }
+holds-overwrite s at run h = record { fits = rw length-overwrite h; there = λ i k. get_or-in s at run i k h }
 
 pub holds-take : (s : List ℕ) (n at : ℕ) (run : List ℕ) → Holds s at run → at + length run ≤ n → Holds (take n s) at run
 holds-take s n at run h k =
@@ -52,7 +52,7 @@ holds-right s at a b h {n} q =
     }
 
 -- ---- a number
-pub holds-number : (s : List ℕ) (at k v : ℕ) → Holds s at (toLe k v) → v < 256 ^ k → field s at k ≡ v
+pub holds-number : (s : List ℕ) (at k v : ℕ) → Holds s at (to_le k v) → v < 256 ^ k → field s at k ≡ v
 unfolding field
 holds-number s at k v h b =
-    ap (λ m. fromLe (part s at m)) (sym (length-toLe k v)) ∙ ap fromLe (holds-all s at (toLe k v) h) ∙ fromLe-toLe k v b
+    ap (λ m. from_le (part s at m)) (sym (length-to_le k v)) ∙ ap from_le (holds-all s at (to_le k v) h) ∙ from_le-to_le k v b

@@ -1,4 +1,4 @@
--- Laws of `toLe`, `fromLe` and `field`. Assumes nothing.
+-- Laws of `to_le`, `from_le` and `field`. Assumes nothing.
 use mathlib.Core.Path.{◌≡◌, refl, sym, ap, ◌∙◌}
 use mathlib.Core.List.{List, [], ◌∷◌}
 use Prim.Native.Nat.{ℕ, zero, suc, ◌+◌, ◌-◌, ◌*◌, ◌/◌, ◌%◌, ◌^◌, ◌≤◌, ◌<◌}
@@ -8,29 +8,29 @@ use lib.Dec.{lit<}
 use lib.ListN.{length, get_or}
 use lib.Pow.{pow-lt}
 use lib.Seq.{take-nil, drop-nil}
-use Rattle.fields.specs.Bytes.{part, fromLe, toLe, field}
+use Rattle.fields.specs.Bytes.{part, from_le, to_le, field}
 use Rattle.fields.proofs.Overwrite.{part_step, part_none}
 use Rattle.fields.proofs.Steps.{sub-step, sub-done}
 
-pub length-toLe : (k v : ℕ) → length (toLe k v) ≡ k
-unfolding toLe
-length-toLe zero v = refl
-length-toLe (suc k) v = ap suc (length-toLe k _)
+pub length-to_le : (k v : ℕ) → length (to_le k v) ≡ k
+unfolding to_le
+length-to_le zero v = refl
+length-to_le (suc k) v = ap suc (length-to_le k _)
 
-pub fromLe-toLe : (k v : ℕ) → v < 256 ^ k → fromLe (toLe k v) ≡ v
-unfolding toLe fromLe
-fromLe-toLe zero v h = omega arith
-fromLe-toLe (suc k) v h =
-    ap (λ (n : ℕ). v % 256 + 256 * n) (fromLe-toLe k (v / 256) ((div-lt_iff_lt-mul {k = 256} (lit< tt)).1 (rw pow-suc at h)))
+pub from_le-to_le : (k v : ℕ) → v < 256 ^ k → from_le (to_le k v) ≡ v
+unfolding to_le from_le
+from_le-to_le zero v h = omega arith
+from_le-to_le (suc k) v h =
+    ap (λ (n : ℕ). v % 256 + 256 * n) (from_le-to_le k (v / 256) ((div-lt_iff_lt-mul {k = 256} (lit< tt)).1 (rw pow-suc at h)))
     ∙ mod-add-div v 256
 
 pub field-zero : (s : List ℕ) (at : ℕ) → field s at 0 ≡ 0
-unfolding field part fromLe
+unfolding field part from_le
 field-zero s at = refl
 
 -- the lowest byte of a number, and the others
 pub field_step : (s : List ℕ) (at k : ℕ) → field s at (suc k) ≡ get_or s at 0 + 256 * field s (suc at) k
-unfolding field part fromLe
+unfolding field part from_le
 field_step [] at k = rw (drop-nil, take-nil)
 field_step (b ∷ bs) zero k = refl
 field_step (b ∷ bs) (suc at) k = field_step bs at k
@@ -40,29 +40,29 @@ field_lt s at zero h = rw field-zero (lit< tt)
 field_lt s at (suc k) h = rw (field_step, pow-suc) (omega (arith, h at, field_lt s (suc at) k h))
 
 -- the bytes of the number that bytes make are those bytes
-pub toLe-field : (s : List ℕ) (at k : ℕ) → ((i : ℕ) → get_or s i 0 < 256) → at + k ≤ length s → toLe k (field s at k) ≡ part s at k
-unfolding toLe
-toLe-field s at zero h l = sym (part_none s at)
-toLe-field s at (suc k) h l =
+pub to_le-field : (s : List ℕ) (at k : ℕ) → ((i : ℕ) → get_or s i 0 < 256) → at + k ≤ length s → to_le k (field s at k) ≡ part s at k
+unfolding to_le
+to_le-field s at zero h l = sym (part_none s at)
+to_le-field s at (suc k) h l =
     let v : field s at (suc k) ≡ get_or s at 0 + 256 * field s (suc at) k = field_step s at k in
     let low : field s at (suc k) % 256 ≡ get_or s at 0 = omega (arith, h at) in
     let rest : field s at (suc k) / 256 ≡ field s (suc at) k = omega (arith, h at) in
-    rw (low, rest, toLe-field s (suc at) k h (omega arith)) (sym (part_step s at k (omega arith)))
+    rw (low, rest, to_le-field s (suc at) k h (omega arith)) (sym (part_step s at k (omega arith)))
 
 -- so bytes that make the same number are the same
 pub field-same : (s t : List ℕ) (p q k : ℕ) → ((i : ℕ) → get_or s i 0 < 256) → ((i : ℕ) → get_or t i 0 < 256) → p + k ≤ length s → q + k ≤ length t
     → field s p k ≡ field t q k → part s p k ≡ part t q k
-field-same s t p q k hs ht a b e = sym (toLe-field s p k hs a) ∙ ap (toLe k) e ∙ toLe-field t q k ht b
+field-same s t p q k hs ht a b e = sym (to_le-field s p k hs a) ∙ ap (to_le k) e ∙ to_le-field t q k ht b
 
 -- ---- the iterations of the loops that write and read a number
 
-pub toLe-step : (i k v : ℕ) → i < k → toLe (k - i) v ≡ v % 256 ∷ toLe (k - (i + 1)) (v / 256)
-unfolding toLe
-toLe-step i k v h = rw (sub-step i k h)
+pub to_le-step : (i k v : ℕ) → i < k → to_le (k - i) v ≡ v % 256 ∷ to_le (k - (i + 1)) (v / 256)
+unfolding to_le
+to_le-step i k v h = rw (sub-step i k h)
 
-pub toLe-done : (i k v : ℕ) → k ≤ i → toLe (k - i) v ≡ []
-unfolding toLe
-toLe-done i k v h = rw (sub-done i k h)
+pub to_le-done : (i k v : ℕ) → k ≤ i → to_le (k - i) v ≡ []
+unfolding to_le
+to_le-done i k v h = rw (sub-done i k h)
 
 -- one byte more, below those read
 pub field-turn : (s : List ℕ) (at k i acc : ℕ) → 0 < i → i ≤ k → acc ≡ field s (at + i) (k - i)

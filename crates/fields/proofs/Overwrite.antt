@@ -53,11 +53,11 @@ overwrite-split s at new h = sets-eq new s at h
 abbrev pub Off : ℕ → ℕ → ℕ → Type 0
 Off i at n = (i < at) ⊎ (at + n ≤ i)
 
-pub getD-off : (s : List ℕ) (at : ℕ) (new : List ℕ) (i : ℕ) → Off i at (length new) → get_or (overwrite s at new) i 0 ≡ get_or s i 0
+pub get_or-off : (s : List ℕ) (at : ℕ) (new : List ℕ) (i : ℕ) → Off i at (length new) → get_or (overwrite s at new) i 0 ≡ get_or s i 0
 unfolding overwrite
-getD-off s at [] i o = refl
-getD-off s at (x ∷ xs) i o =
-    getD-off (set s at x) (suc at) xs i (⊎_elim (λ h. inl (omega arith)) (λ h. inr (omega arith)) o)
+get_or-off s at [] i o = refl
+get_or-off s at (x ∷ xs) i o =
+    get_or-off (set s at x) (suc at) xs i (⊎_elim (λ h. inl (omega arith)) (λ h. inr (omega arith)) o)
     ∙ get_or-set_other s at i x 0 (λ e. ⊎_elim (λ h. omega arith) (λ h. omega arith) o)
 
 pub take-overwrite : (s : List ℕ) (at : ℕ) (new : List ℕ) (n : ℕ) → n ≤ at → take n (overwrite s at new) ≡ take n s
@@ -129,8 +129,8 @@ part_same s at n new e h =
     ∙ ap (take n) (drop_at (take at s) (new ++ drop (at + length new) s) at (length-take-le at s (omega arith)))
     ∙ take_at new (drop (at + length new) s) n e
 
-pub getD-in : (s : List ℕ) (at : ℕ) (new : List ℕ) (i : ℕ) → i < length new → at + length new ≤ length s → get_or (overwrite s at new) (at + i) 0 ≡ get_or new i 0
-getD-in s at new i h room =
+pub get_or-in : (s : List ℕ) (at : ℕ) (new : List ℕ) (i : ℕ) → i < length new → at + length new ≤ length s → get_or (overwrite s at new) (at + i) 0 ≡ get_or new i 0
+get_or-in s at new i h room =
     sym (get_d_part (overwrite s at new) at (length new) i h)
     ∙ ap (λ (l : List ℕ). get_or l i 0) (part_same s at (length new) new refl room)
 

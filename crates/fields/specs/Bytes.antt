@@ -9,18 +9,18 @@ unfoldable pub part : List ℕ → ℕ → ℕ → List ℕ
 part s at n = take n (drop at s)
 
 -- the number that bytes spell, the lowest first
-unfoldable pub fromLe : List ℕ → ℕ
-fromLe [] = 0
-fromLe (b ∷ bs) = b + 256 * fromLe bs
+unfoldable pub from_le : List ℕ → ℕ
+from_le [] = 0
+from_le (b ∷ bs) = b + 256 * from_le bs
 
 -- v in k bytes, the lowest first; what does not fit is cut off
-unfoldable pub toLe : ℕ → ℕ → List ℕ
-toLe zero v = []
-toLe (suc k) v = v % 256 ∷ toLe k (v / 256)
+unfoldable pub to_le : ℕ → ℕ → List ℕ
+to_le zero v = []
+to_le (suc k) v = v % 256 ∷ to_le k (v / 256)
 
 -- the number in the k bytes of s from place `at`; a byte past the end counts 0
 unfoldable pub field : List ℕ → ℕ → ℕ → ℕ
-field s at k = fromLe (part s at k)
+field s at k = from_le (part s at k)
 
 -- s with `new` stored over it, byte by byte, from place `at`; what would lie past the end is dropped
 unfoldable pub overwrite : List ℕ → ℕ → List ℕ → List ℕ

@@ -1,7 +1,7 @@
 // Internal: bytes in a lent slice. Little-endian numbers are read and written; runs of bytes are taken, copied, cleared
 // and compared. Offsets and counts are u64, as in the format. And how large a signed number is.
 ghost use Rattle.std.specs.Prelude.{◌≡◌, ◌+◌, ◌-◌, ◌≤◌, length, replicate, nat_abs};
-ghost use Rattle.fields.specs.Bytes.{part, field, toLe, overwrite, equal};
+ghost use Rattle.fields.specs.Bytes.{part, field, to_le, overwrite, equal};
 
 // How many bytes lie from `at` to the end, none if `at` is past it. A test for "past the end" by `room` adds nothing that
 // could wrap: n bytes at `at` lie past the end exactly if `room(s, at) < n`, for n above 0.
@@ -55,7 +55,7 @@ pub fn get_short(s: &[u8], at: u64) -> u16
 // Writes the k lowest bytes of v at `at`, the lowest first.
 pub fn put(buf: &mut [u8], at: u64, k: u64, v: u64)
     requires { at + k ≤ length buf.old }
-    ensures { buf.new ≡ overwrite buf.old at (toLe k v) }
+    ensures { buf.new ≡ overwrite buf.old at (to_le k v) }
 {
     let mut rest = v;
     let mut i: u64 = 0;

@@ -14,15 +14,15 @@ use Rattle.fields.proofs.Overwrite.{length-overwrite, overwrite-then, overwrite-
 use Rattle.format.specs.declared.Place.{Place}
 use Rattle.format.specs.declared.Verdict.TheVariants.{Passes, Refuses}
 use Rattle.format.specs.Tests.{same, differs, below, ◌and◌, choose}
-use Rattle.format.specs.Lists.{ofEach, howMany}
+use Rattle.format.specs.Lists.{of_each, how_many}
 use Rattle.format.specs.Refusals.{refusal, row}
-use Rattle.format.specs.Layouts.{indexOffset, entries}
+use Rattle.format.specs.Layouts.{index_offset, entries}
 use Rattle.format.specs.Opening.{Opened, opened}
-use Rattle.format.specs.Reading.{notWritten, itemBytes}
-use Rattle.format.specs.Committing.{sectorsVerdict}
-use Rattle.format.specs.Exporting.{size_at, sizeFrom, flatSize, piece_at, flatFile, sizeVerdict}
+use Rattle.format.specs.Reading.{not_written, item_bytes}
+use Rattle.format.specs.Committing.{sectors_verdict}
+use Rattle.format.specs.Exporting.{size_at, size_from, flat_size, piece_at, flat_file, size_verdict}
 use Rattle.format.proofs.Tests.{below_true, below-iff, differs-iff, differs_true, and-true, choose-true, choose-false}
-use Rattle.format.proofs.Refusals.{row-refuses, row-passes, firstRefusal-iff}
+use Rattle.format.proofs.Refusals.{row-refuses, row-passes, first_refusal-iff}
 use Rattle.format.proofs.Checks.{AddressOk, address-ok}
 use Rattle.format.proofs.Exporting.{SizeOk, size_ok, piece-length, file-length}
 use Rattle.opening.proofs.Accepted.{opened-is}
@@ -33,43 +33,43 @@ use Rattle.flat.specs.Exports.{Uniform}
 
 -- ---- the size of the lowest written one: those below n are not written
 module _ (img : List ℕ) (t : Opened) where
-  pub sizing-starts : sizeFrom img t (t.count - 0) 0 ≡ flatSize img t
-  unfolding flatSize
+  pub sizing-starts : size_from img t (t.count - 0) 0 ≡ flat_size img t
+  unfolding flat_size
   sizing-starts = rw sub-zero refl
 
-  module _ {n : ℕ} (g : sizeFrom img t (t.count - n) n ≡ flatSize img t) where
-    next : n < t.count → choose (notWritten img t n) (sizeFrom img t (t.count - (n + 1)) (n + 1)) (size_at img t n) ≡ flatSize img t
-    unfolding sizeFrom
+  module _ {n : ℕ} (g : size_from img t (t.count - n) n ≡ flat_size img t) where
+    next : n < t.count → choose (not_written img t n) (size_from img t (t.count - (n + 1)) (n + 1)) (size_at img t n) ≡ flat_size img t
+    unfolding size_from
     next h =
-        ap (λ k. choose (notWritten img t n) (sizeFrom img t (t.count - (n + 1)) k) (size_at img t n)) (add-one n)
-        ∙ sym (ap (λ k. sizeFrom img t k n) (sub-step n t.count h)) ∙ g
+        ap (λ k. choose (not_written img t n) (size_from img t (t.count - (n + 1)) k) (size_at img t n)) (add-one n)
+        ∙ sym (ap (λ k. size_from img t k n) (sub-step n t.count h)) ∙ g
 
-    pub sizing-goes : n < t.count → slot.Empty ≡ slot_at img t n → sizeFrom img t (t.count - (n + 1)) (n + 1) ≡ flatSize img t
+    pub sizing-goes : n < t.count → slot.Empty ≡ slot_at img t n → size_from img t (t.count - (n + 1)) (n + 1) ≡ flat_size img t
     sizing-goes h e = sym (choose-true _ _ _ (slot-gap img t n e)) ∙ next h
 
-    pub sizing-found : n < t.count → {p : Place} → slot.Sector p ≡ slot_at img t n → p.size ≡ flatSize img t
+    pub sizing-found : n < t.count → {p : Place} → slot.Sector p ≡ slot_at img t n → p.size ≡ flat_size img t
     unfolding size_at
     sizing-found h {p} e = ap (λ (q : Place). q.size) (sym (slot-place img t n p e)) ∙ sym (choose-false _ _ _ (slot-written img t n p e)) ∙ next h
 
-    pub sizing-none : t.count ≤ n → 0 ≡ flatSize img t
-    unfolding sizeFrom
-    sizing-none h = sym (ap (λ k. sizeFrom img t k n) (sub-done n t.count h)) ∙ g
+    pub sizing-none : t.count ≤ n → 0 ≡ flat_size img t
+    unfolding size_from
+    sizing-none h = sym (ap (λ k. size_from img t k n) (sub-done n t.count h)) ∙ g
 
 -- ---- 40: all written ones have it
 module _ (img : List ℕ) (t : Opened) (n : ℕ) where
-  pub size-gap : slot.Empty ≡ slot_at img t n → sizeVerdict img t n ≡ Passes
+  pub size-gap : slot.Empty ≡ slot_at img t n → size_verdict img t n ≡ Passes
   size-gap e = (size_ok img t n).1 (inl (slot-gap img t n e))
 
-  module _ {p : Place} (e : slot.Sector p ≡ slot_at img t n) {size : ℕ} (s : size ≡ flatSize img t) where
+  module _ {p : Place} (e : slot.Sector p ≡ slot_at img t n) {size : ℕ} (s : size ≡ flat_size img t) where
     here : size_at img t n ≡ p.size
     unfolding size_at
     here = ap (λ (q : Place). q.size) (slot-place img t n p e)
 
-    pub size_same : p.size ≡ size → sizeVerdict img t n ≡ Passes
+    pub size_same : p.size ≡ size → size_verdict img t n ≡ Passes
     size_same q = (size_ok img t n).1 (inr (here ∙ q ∙ s))
 
-    pub size-other : p.size ≢ size → sizeVerdict img t n ≡ Refuses (refusal 40 0)
-    unfolding sizeVerdict
+    pub size-other : p.size ≢ size → size_verdict img t n ≡ Refuses (refusal 40 0)
+    unfolding size_verdict
     size-other q = row-refuses _ _ (and-true _ _ (ap not (slot-written img t n p e)) (differs_true _ _ (λ z. q (sym here ∙ z ∙ sym s))))
 
 -- ---- 41: room for n sectors
@@ -88,15 +88,15 @@ module _ (f : ℕ → Bool) (n : ℕ) where
   pub record Counting (a so : ℕ) : Type 0 where
     pub most : a ≤ n
     pub few : so ≤ a
-    pub left : so + howMany f (n - a) a ≡ howMany f n 0
+    pub left : so + how_many f (n - a) a ≡ how_many f n 0
 
   pub counting-starts : Counting 0 0
   counting-starts = record { most = omega arith; few = omega arith; left = rw sub-zero (omega arith) }
 
   module _ {a so : ℕ} (g : Counting a so) where
-    next-count : a < n → howMany f (n - a) a ≡ choose (f a) (suc (howMany f (n - (a + 1)) (a + 1))) (howMany f (n - (a + 1)) (a + 1))
-    unfolding howMany
-    next-count h = ap (λ k. howMany f k a) (sub-step a n h) ∙ ap (λ k. choose (f a) (suc (howMany f (n - (a + 1)) k)) (howMany f (n - (a + 1)) k)) (sym (add-one a))
+    next-count : a < n → how_many f (n - a) a ≡ choose (f a) (suc (how_many f (n - (a + 1)) (a + 1))) (how_many f (n - (a + 1)) (a + 1))
+    unfolding how_many
+    next-count h = ap (λ k. how_many f k a) (sub-step a n h) ∙ ap (λ k. choose (f a) (suc (how_many f (n - (a + 1)) k)) (how_many f (n - (a + 1)) k)) (sym (add-one a))
 
     pub counting-yes : a < n → f a ≡ true → Counting (a + 1) (so + 1)
     counting-yes h e = record { most = omega arith; few = omega (arith, g.few); left = omega (arith, g.left, next-count h ∙ choose-true _ _ _ e) }
@@ -104,9 +104,9 @@ module _ (f : ℕ → Bool) (n : ℕ) where
     pub counting-no : a < n → f a ≡ false → Counting (a + 1) so
     counting-no h e = record { most = omega arith; few = omega (arith, g.few); left = omega (arith, g.left, next-count h ∙ choose-false _ _ _ e) }
 
-    pub counting-done : n ≤ a → so ≡ howMany f n 0
-    unfolding howMany
-    counting-done h = omega (arith, g.left, ap (λ k. howMany f k a) (sub-done a n h))
+    pub counting-done : n ≤ a → so ≡ how_many f n 0
+    unfolding how_many
+    counting-done h = omega (arith, g.left, ap (λ k. how_many f k a) (sub-done a n h))
 
 -- ---- 21: there are sectors, and none is written
 module _ (count gaps : ℕ) where
@@ -120,12 +120,12 @@ module _ (count gaps : ℕ) where
 
 -- ---- what stands for table entry n, as the code finds it
 module _ (img : List ℕ) (t : Opened) (n : ℕ) where
-  pub piece-gap : slot.Empty ≡ slot_at img t n → {size : ℕ} → size ≡ flatSize img t → replicate size 0 ≡ piece_at img t n
+  pub piece-gap : slot.Empty ≡ slot_at img t n → {size : ℕ} → size ≡ flat_size img t → replicate size 0 ≡ piece_at img t n
   unfolding piece_at
   piece-gap e s = ap (λ k. replicate k 0) s ∙ sym (choose-true _ _ _ (slot-gap img t n e))
 
   pub piece-sector : {p : Place} → slot.Sector p ≡ slot_at img t n → part img p.start.0 p.size ≡ piece_at img t n
-  unfolding piece_at itemBytes
+  unfolding piece_at item_bytes
   piece-sector {p} e =
       ap (λ (q : Place). part img q.start.0 q.size) (sym (slot-place img t n p e)) ∙ sym (choose-false _ _ _ (slot-written img t n p e))
 
@@ -134,29 +134,29 @@ pub record Going (img : List ℕ) (t : Opened) (size : ℕ) (out₀ out : List �
   pub long : length out ≡ length out₀
   pub place : at ≡ n * size
   pub most : n ≤ t.count
-  pub left : overwrite out at (flatten (ofEach (piece_at img t) (t.count - n) n)) ≡ overwrite out₀ 0 (flatFile img t)
+  pub left : overwrite out at (flatten (of_each (piece_at img t) (t.count - n) n)) ≡ overwrite out₀ 0 (flat_file img t)
 
 module _ (img : List ℕ) (t : Opened) (size : ℕ) (u : Uniform img t size) where
   abbrev o : ℕ
-  o = indexOffset img
+  o = index_offset img
 
   is : opened img o ≡ t
   is = opened-is img t u.checked.0
 
   fine : (n : ℕ) → n < (opened img o).count → AddressOk img o n
-  unfolding sectorsVerdict
-  fine = rw is (λ n h. (firstRefusal-iff t.count t.count 0 (omega arith) (λ m l. address-ok img (entries img o) t m)).0 u.checked.1 n (omega arith) h)
+  unfolding sectors_verdict
+  fine = rw is (λ n h. (first_refusal-iff t.count t.count 0 (omega arith) (λ m l. address-ok img (entries img o) t m)).0 u.checked.1 n (omega arith) h)
 
   sized : (n : ℕ) → n < (opened img o).count → SizeOk img (opened img o) n
-  sized = rw is (λ n h. (firstRefusal-iff t.count t.count 0 (omega arith) (λ m l. size_ok img t m)).0 u.sizes n (omega arith) h)
+  sized = rw is (λ n h. (first_refusal-iff t.count t.count 0 (omega arith) (λ m l. size_ok img t m)).0 u.sizes n (omega arith) h)
 
   piece-sized : (n : ℕ) → n < t.count → length (piece_at img t n) ≡ size
   piece-sized n h =
-      subst (λ (v : Opened). n < v.count → length (piece_at img v n) ≡ flatSize img v) is (piece-length img o fine sized n) h ∙ sym u.sizeIs
+      subst (λ (v : Opened). n < v.count → length (piece_at img v n) ≡ flat_size img v) is (piece-length img o fine sized n) h ∙ sym u.size_is
 
-  pub bytes-sized : length (flatFile img t) ≡ t.count * size
+  pub bytes-sized : length (flat_file img t) ≡ t.count * size
   bytes-sized =
-      subst (λ (v : Opened). length (flatFile img v) ≡ v.count * flatSize img v) is (file-length img o fine sized) ∙ ap (λ k. t.count * k) (sym u.sizeIs)
+      subst (λ (v : Opened). length (flat_file img v) ≡ v.count * flat_size img v) is (file-length img o fine sized) ∙ ap (λ k. t.count * k) (sym u.size_is)
 
   -- a sector that stands for an entry lies in the image, and has room where a piece has
   module _ {n : ℕ} (h : n < t.count) {p : Place} (e : slot.Sector p ≡ slot_at img t n) where
@@ -167,7 +167,7 @@ module _ (img : List ℕ) (t : Opened) (size : ℕ) (u : Uniform img t size) whe
     sector-room at l w r = rw (w ∙ piece-sector img t n e, piece-sized n h) r
 
   pub going-starts : (out : List ℕ) → Going img t size out out 0 0
-  unfolding flatFile
+  unfolding flat_file
   going-starts out = record { long = refl; place = sym (zero-mul size); most = omega arith; left = rw sub-zero refl }
 
   module _ {out₀ out : List ℕ} {at n : ℕ} (g : Going img t size out₀ out at n) (room : t.count * size ≤ length out₀) where
@@ -175,12 +175,12 @@ module _ (img : List ℕ) (t : Opened) (size : ℕ) (u : Uniform img t size) whe
     going-room h = let m : suc n * size ≤ t.count * size = mul-le-mul_right size h in omega (arith, g.long, g.place, suc-mul n size)
 
     pub going-goes : n < t.count → {after : List ℕ} → after ≡ overwrite out at (piece_at img t n) → Going img t size out₀ after (at + size) (n + 1)
-    unfolding ofEach flatten
+    unfolding of_each flatten
     going-goes h {after} v =
         let f : ℕ → List ℕ = piece_at img t in
-        let rest : List ℕ = flatten (ofEach f (t.count - (n + 1)) (n + 1)) in
-        let s : flatten (ofEach f (t.count - n) n) ≡ f n ++ rest =
-        ap (λ k. flatten (ofEach f k n)) (sub-step n t.count h) ∙ ap (λ k. f n ++ flatten (ofEach f (t.count - (n + 1)) k)) (sym (add-one n)) in
+        let rest : List ℕ = flatten (of_each f (t.count - (n + 1)) (n + 1)) in
+        let s : flatten (of_each f (t.count - n) n) ≡ f n ++ rest =
+        ap (λ k. flatten (of_each f k n)) (sub-step n t.count h) ∙ ap (λ k. f n ++ flatten (of_each f (t.count - (n + 1)) k)) (sym (add-one n)) in
         record {
           long = ap length v ∙ length-overwrite out at (f n) ∙ g.long;
           place = omega (arith, g.place, add-one n, suc-mul n size);
@@ -189,10 +189,10 @@ module _ (img : List ℕ) (t : Opened) (size : ℕ) (u : Uniform img t size) whe
               ∙ overwrite-then out at (f n) rest ∙ ap (overwrite out at) (sym s) ∙ g.left;
         }
 
-    pub going_done : t.count ≤ n → (at ≡ length (flatFile img t)) × (out ≡ overwrite out₀ 0 (flatFile img t))
-    unfolding ofEach flatten
+    pub going_done : t.count ≤ n → (at ≡ length (flat_file img t)) × (out ≡ overwrite out₀ 0 (flat_file img t))
+    unfolding of_each flatten
     going_done h =
         let q : n ≡ t.count = omega (arith, g.most) in (
           g.place ∙ ap (λ k. k * size) q ∙ sym bytes-sized,
-          sym (overwrite-nil out at) ∙ ap (λ k. overwrite out at (flatten (ofEach (piece_at img t) k n))) (sym (sub-done n t.count h)) ∙ g.left,
+          sym (overwrite-nil out at) ∙ ap (λ k. overwrite out at (flatten (of_each (piece_at img t) k n))) (sym (sub-done n t.count h)) ∙ g.left,
         )

@@ -11,16 +11,16 @@ use Rattle.format.specs.declared.Refusal.{Refusal}
 use Rattle.format.specs.declared.Verdict.{Verdict}
 use Rattle.format.specs.declared.Verdict.TheVariants.{Passes, Refuses}
 use Rattle.format.specs.Tests.{same, differs, below, ◌and◌}
-use Rattle.format.specs.Refusals.{refusal, row, ◌then◌, firstRefusal, Answer, refused, accepted}
-use Rattle.format.specs.Layouts.{indexOffset, entries}
-use Rattle.format.specs.Opening.{Opened, opened, openVerdict, opening}
-use Rattle.format.specs.Reading.{sectorVerdict}
+use Rattle.format.specs.Refusals.{refusal, row, ◌then◌, first_refusal, Answer, refused, accepted}
+use Rattle.format.specs.Layouts.{index_offset, entries}
+use Rattle.format.specs.Opening.{Opened, opened, open_verdict, opening}
+use Rattle.format.specs.Reading.{sector_verdict}
 use Rattle.format.specs.Writing.{Outcome, outcome}
-use Rattle.format.specs.Committing.{sectorsVerdict}
-use Rattle.format.specs.Exporting.{flatFile, gapCount, fileVerdict, exactVerdict, exportVerdict, exportExact, flat, export}
+use Rattle.format.specs.Committing.{sectors_verdict}
+use Rattle.format.specs.Exporting.{flat_file, gap_count, file_verdict, exact_verdict, export_verdict, export_exact, flat, export}
 use Rattle.format.specs.Answers.{answered}
 use Rattle.format.proofs.Tests.{below-iff}
-use Rattle.format.proofs.Refusals.{row-iff, then-rest, firstRefusal-iff, answer-accepted, answer-refused}
+use Rattle.format.proofs.Refusals.{row-iff, then-rest, first_refusal-iff, answer-accepted, answer-refused}
 use Rattle.format.proofs.Chains.{stops}
 use Rattle.format.proofs.Checks.{sector-ok, address-ok}
 use Rattle.format.proofs.Answers.{outcome-stops}
@@ -60,8 +60,8 @@ module _ {A B : Type 0} (out new after : List ℕ) where
 
 -- ---- 41, of a disc whose written sectors have one size, by its count and the size
 module _ (img : List ℕ) (t : Opened) {size : ℕ} (u : Uniform img t size) {count : ℕ} (c : count ≡ t.count) where
-  pub room-is : (out : List ℕ) {v : Verdict} → v ≡ row (below (length out) (count * size)) (refusal 41 0) → v ≡ fileVerdict img t out
-  unfolding fileVerdict
+  pub room-is : (out : List ℕ) {v : Verdict} → v ≡ row (below (length out) (count * size)) (refusal 41 0) → v ≡ file_verdict img t out
+  unfolding file_verdict
   room-is out e =
       e ∙ ap (λ n. row (below (length out) n) (refusal 41 0)) (ap (λ n. n * size) c ∙ sym (bytes-sized img t size u)) ∙ sym (then-rest _ _ u.sizes)
 
@@ -70,63 +70,63 @@ module _ (img : List ℕ) (t : Opened) {size : ℕ} (u : Uniform img t size) {co
 
 -- ---- where all sectors pass, 21 too, they pass but for 21
 pub every-checked : (img : List ℕ) (t : Opened) → opening img ≡ accepted t
-    → Passes ≡ firstRefusal (sectorVerdict img (entries img (indexOffset img)) t) t.count 0 → Checked img t
-unfolding sectorsVerdict
+    → Passes ≡ first_refusal (sector_verdict img (entries img (index_offset img)) t) t.count 0 → Checked img t
+unfolding sectors_verdict
 every-checked img t e h =
-    let good = (firstRefusal-iff t.count t.count 0 (omega arith) (λ n l. sector-ok img (entries img (indexOffset img)) t n)).0 (sym h) in
-    (e, (firstRefusal-iff t.count t.count 0 (omega arith) (λ n l. address-ok img (entries img (indexOffset img)) t n)).1 (λ n l b. inr (good n l b)))
+    let good = (first_refusal-iff t.count t.count 0 (omega arith) (λ n l. sector-ok img (entries img (index_offset img)) t n)).0 (sym h) in
+    (e, (first_refusal-iff t.count t.count 0 (omega arith) (λ n l. address-ok img (entries img (index_offset img)) t n)).1 (λ n l b. inr (good n l b)))
 
 -- ---- of a disc that opened as t
 module _ (img : List ℕ) (t : Opened) (e : opening img ≡ accepted t) (out : List ℕ) where
   abbrev o : ℕ
-  o = indexOffset img
+  o = index_offset img
 
   abbrev file : List ℕ
-  file = flatFile img t
+  file = flat_file img t
 
   -- what is behind opening's checks is about t
   opened-outcome : {A : Type 0} (rest : Opened → Verdict) (value : Opened → A) (new : Opened → List ℕ)
-      → outcome out (rest t) (value t) (new t) ≡ outcome out (openVerdict img o then rest (opened img o)) (value (opened img o)) (new (opened img o))
+      → outcome out (rest t) (value t) (new t) ≡ outcome out (open_verdict img o then rest (opened img o)) (value (opened img o)) (new (opened img o))
   unfolding opening
   opened-outcome rest value new =
       let r = answer-accepted _ _ t e in
       sym (ap (λ (v : Verdict). outcome out v (value (opened img o)) (new (opened img o))) (then-rest _ _ r.0)
       ∙ ap (λ (u : Opened). outcome out (rest u) (value u) (new u)) r.1)
 
-  pub exact-opened : outcome out (firstRefusal (sectorVerdict img (entries img o) t) t.count 0 then fileVerdict img t out) (length file) (overwrite out 0 file) ≡ exportExact img out
-  unfolding exportExact exactVerdict
+  pub exact-opened : outcome out (first_refusal (sector_verdict img (entries img o) t) t.count 0 then file_verdict img t out) (length file) (overwrite out 0 file) ≡ export_exact img out
+  unfolding export_exact exact_verdict
   exact-opened =
-      opened-outcome (λ u. firstRefusal (sectorVerdict img (entries img o) u) u.count 0 then fileVerdict img u out) (λ u. length (flatFile img u))
-      (λ u. overwrite out 0 (flatFile img u))
+      opened-outcome (λ u. first_refusal (sector_verdict img (entries img o) u) u.count 0 then file_verdict img u out) (λ u. length (flat_file img u))
+      (λ u. overwrite out 0 (flat_file img u))
 
   abbrev blank : Opened → Verdict
-  blank u = row (differs u.count 0 and same (gapCount img u) u.count) (refusal 21 0)
+  blank u = row (differs u.count 0 and same (gap_count img u) u.count) (refusal 21 0)
 
-  pub export-opened : outcome out (sectorsVerdict img (entries img o) t then (blank t then fileVerdict img t out)) (flat (length file) (gapCount img t)) (overwrite out 0 file) ≡ export img out
-  unfolding export exportVerdict
+  pub export-opened : outcome out (sectors_verdict img (entries img o) t then (blank t then file_verdict img t out)) (flat (length file) (gap_count img t)) (overwrite out 0 file) ≡ export img out
+  unfolding export export_verdict
   export-opened =
-      opened-outcome (λ u. sectorsVerdict img (entries img o) u then (blank u then fileVerdict img u out)) (λ u. flat (length (flatFile img u)) (gapCount img u))
-      (λ u. overwrite out 0 (flatFile img u))
+      opened-outcome (λ u. sectors_verdict img (entries img o) u then (blank u then file_verdict img u out)) (λ u. flat (length (flat_file img u)) (gap_count img u))
+      (λ u. overwrite out 0 (flat_file img u))
 
   -- where the sectors pass and some are written, it is what both rules do then
-  module _ (s : Passes ≡ sectorsVerdict img (entries img o) t) (b : Passes ≡ blank t) (after : List ℕ) where
-    whole : {w : Outcome Flat} → w ≡ outcome out (fileVerdict img t out) (flat (length file) (gapCount img t)) (overwrite out 0 file) → w ≡ export img out
+  module _ (s : Passes ≡ sectors_verdict img (entries img o) t) (b : Passes ≡ blank t) (after : List ℕ) where
+    whole : {w : Outcome Flat} → w ≡ outcome out (file_verdict img t out) (flat (length file) (gap_count img t)) (overwrite out 0 file) → w ≡ export img out
     whole h = outcome-rest out _ _ _ s (outcome-rest out _ _ _ b h) ∙ export-opened
 
-    pub file-refused : (r : Refusal) → answered (refused r) after ≡ outcome out (fileVerdict img t out) (length file) (overwrite out 0 file) → answered (refused r) after ≡ export img out
+    pub file-refused : (r : Refusal) → answered (refused r) after ≡ outcome out (file_verdict img t out) (length file) (overwrite out 0 file) → answered (refused r) after ≡ export img out
     file-refused r h = whole (value-refused out (overwrite out 0 file) after _ r _ _ h)
 
-    pub file-exported : (n : ℕ) {filled : ℕ} → filled ≡ gapCount img t
-        → answered (accepted n) after ≡ outcome out (fileVerdict img t out) (length file) (overwrite out 0 file) → answered (accepted (flat n filled)) after ≡ export img out
+    pub file-exported : (n : ℕ) {filled : ℕ} → filled ≡ gap_count img t
+        → answered (accepted n) after ≡ outcome out (file_verdict img t out) (length file) (overwrite out 0 file) → answered (accepted (flat n filled)) after ≡ export img out
     file-exported n g h =
-        ap (λ k. answered (accepted (flat n k)) after) g ∙ whole (value-accepted out (overwrite out 0 file) after _ (λ m. flat m (gapCount img t)) n _ h)
+        ap (λ k. answered (accepted (flat n k)) after) g ∙ whole (value-accepted out (overwrite out 0 file) after _ (λ m. flat m (gap_count img t)) n _ h)
 
 -- ---- of one that does not open
 module _ (img : List ℕ) (r : Refusal) (e : refused r ≡ opening img) (out : List ℕ) where
-  pub exact-unopened : answered (refused r) out ≡ exportExact img out
-  unfolding exportExact exactVerdict opening
+  pub exact-unopened : answered (refused r) out ≡ export_exact img out
+  unfolding export_exact exact_verdict opening
   exact-unopened = outcome-stops out _ _ (stops _ (sym (answer-refused _ _ r (sym e))))
 
   pub export-unopened : answered (refused r) out ≡ export img out
-  unfolding export exportVerdict opening
+  unfolding export export_verdict opening
   export-unopened = outcome-stops out _ _ (stops _ (sym (answer-refused _ _ r (sym e))))

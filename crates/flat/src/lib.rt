@@ -6,11 +6,11 @@
 ghost use Rattle.std.specs.Prelude.{◌≡◌, ◌+◌, ◌*◌, ◌≤◌, ◌<◌, length};
 ghost use Rattle.fields.specs.Bytes.{overwrite};
 ghost use Rattle.format.specs.Tests.{same, differs, below, ◌and◌};
-ghost use Rattle.format.specs.Refusals.{refusal, row, accepted, firstRefusal};
+ghost use Rattle.format.specs.Refusals.{refusal, row, accepted, first_refusal};
 ghost use Rattle.format.specs.Opening.{opening};
 ghost use Rattle.format.specs.Writing.{outcome};
-ghost use Rattle.format.specs.Exporting.{flatSize, piece_at, flatFile, gapCount, sizeVerdict, fileVerdict, exportExact, export};
-ghost use Rattle.format.specs.Answers.{exported, exportedExact, answered};
+ghost use Rattle.format.specs.Exporting.{flat_size, piece_at, flat_file, gap_count, size_verdict, file_verdict, export_exact, export};
+ghost use Rattle.format.specs.Answers.{exported, exported_exact, answered};
 ghost use Rattle.opening.specs.Answers.{contents};
 ghost use Rattle.search.specs.Found.{Checked};
 ghost use Rattle.flat.specs.Exports.{Uniform};
@@ -26,7 +26,7 @@ use search::Slot;
 // The size of the lowest written sector; 0 where none is written.
 fn flat_size(s: &[u8], t: Opened) -> u64
     requires { Checked s.now (contents t) }
-    ensures { result ≡ flatSize s.now (contents t) }
+    ensures { result ≡ flat_size s.now (contents t) }
 {
     let count = opening::count(t);
     let mut n: u64 = 0;
@@ -43,8 +43,8 @@ fn flat_size(s: &[u8], t: Opened) -> u64
 
 // 40 if a written sector has another size.
 fn sizes_verdict(s: &[u8], t: Opened, size: u64) -> Verdict
-    requires { Checked s.now (contents t) × (size ≡ flatSize s.now (contents t)) }
-    ensures { result ≡ firstRefusal (sizeVerdict s.now (contents t)) (contents t).count 0 }
+    requires { Checked s.now (contents t) × (size ≡ flat_size s.now (contents t)) }
+    ensures { result ≡ first_refusal (size_verdict s.now (contents t)) (contents t).count 0 }
 {
     let count = opening::count(t);
     let mut n: u64 = 0;
@@ -95,7 +95,7 @@ fn put_piece(s: &[u8], t: Opened, n: EntryNumber, out: &mut [u8], at: u64, size:
 // Writes the file, whose pieces have this size, to the front of `out`; how many bytes that is.
 fn put_file(s: &[u8], t: Opened, out: &mut [u8], size: u64) -> u64
     requires { Uniform s.now (contents t) size × ((contents t).count * size ≤ length out.old) }
-    ensures { (result ≡ length (flatFile s.now (contents t))) × (out.new ≡ overwrite out.old 0 (flatFile s.now (contents t))) }
+    ensures { (result ≡ length (flat_file s.now (contents t))) × (out.new ≡ overwrite out.old 0 (flat_file s.now (contents t))) }
 {
     let count = opening::count(t);
     let mut at: u64 = 0;
@@ -112,7 +112,7 @@ fn put_file(s: &[u8], t: Opened, out: &mut [u8], size: u64) -> u64
 // What both rules do once the sectors are checked: 40, 41, and the file.
 fn export_file(s: &[u8], t: Opened, out: &mut [u8]) -> ExportedExact
     requires { Checked s.now (contents t) }
-    ensures { answered (exportedExact result) out.new ≡ outcome out.old (fileVerdict s.now (contents t) out.old) (length (flatFile s.now (contents t))) (overwrite out.old 0 (flatFile s.now (contents t))) }
+    ensures { answered (exported_exact result) out.new ≡ outcome out.old (file_verdict s.now (contents t) out.old) (length (flat_file s.now (contents t))) (overwrite out.old 0 (flat_file s.now (contents t))) }
 {
     let size = flat_size(s, t);
     let v = sizes_verdict(s, t, size);
@@ -130,7 +130,7 @@ fn export_file(s: &[u8], t: Opened, out: &mut [u8]) -> ExportedExact
 // The exact export of a disc that opened as t.
 fn export_exact_at(s: &[u8], t: Opened, out: &mut [u8]) -> ExportedExact
     requires { opening s.now ≡ accepted (contents t) }
-    ensures { answered (exportedExact result) out.new ≡ exportExact s.now out.old }
+    ensures { answered (exported_exact result) out.new ≡ export_exact s.now out.old }
 {
     let v = checking::every_verdict(s, t);
     if let Verdict::Refuses(r) = v {
@@ -142,7 +142,7 @@ fn export_exact_at(s: &[u8], t: Opened, out: &mut [u8]) -> ExportedExact
 // How many sectors are not written.
 fn count_gaps(s: &[u8], t: Opened) -> u64
     requires { opening s.now ≡ accepted (contents t) }
-    ensures { result ≡ gapCount s.now (contents t) }
+    ensures { result ≡ gap_count s.now (contents t) }
 {
     let count = opening::count(t);
     let mut gaps: u64 = 0;
@@ -192,7 +192,7 @@ fn export_at(s: &[u8], t: Opened, out: &mut [u8]) -> Exported
 // Fills the front of `out` with all sectors of the disc by rising address, and answers how many bytes that is; or says why it can't: opening's numbers, the
 // first refusal of a sector by rising address, 21 too, 40 where sizes differ, 41 where the buffer is too short. Later bytes stay as they are.
 pub fn export_exact(image: &[u8], out: &mut [u8]) -> ExportedExact
-    ensures { answered (exportedExact result) out.new ≡ exportExact image.now out.old }
+    ensures { answered (exported_exact result) out.new ≡ export_exact image.now out.old }
 {
     let opened = opening::open(image);
     match opened {

@@ -8,11 +8,11 @@ use Rattle.format.specs.declared.Refusal.{Refusal}
 use Rattle.format.specs.declared.TableKind.TheVariants.{First}
 use Rattle.format.specs.declared.Verdict.TheVariants.{Passes, Refuses}
 use Rattle.format.specs.Refusals.{refusal, row, ◌then◌, refused, accepted}
-use Rattle.format.specs.Layouts.{indexOffset}
+use Rattle.format.specs.Layouts.{index_offset}
 use Rattle.format.specs.Opening.{Opened, opening}
-use Rattle.format.specs.Writing.{isSecond, writableVerdict}
+use Rattle.format.specs.Writing.{is_second, writable_verdict}
 use Rattle.format.specs.Answers.{answered}
-use Rattle.format.specs.Flattening.{count_of, Written, written_of, pairVerdict, sizesVerdict, lentVerdict, flattenVerdict, flatten}
+use Rattle.format.specs.Flattening.{count_of, Written, written_of, pair_verdict, sizes_verdict, lent_verdict, flatten_verdict, flatten}
 use Rattle.format.proofs.Refusals.{row-iff, then-rest, answer-accepted, answer-refused}
 use Rattle.format.proofs.Checks.{second-iff}
 use Rattle.format.proofs.Chains.{stops, goes}
@@ -21,36 +21,36 @@ use Rattle.format.proofs.Flattening.{flatten-is}
 
 module _ (buffer child parent application : List ℕ) where
   -- a refusal of the checks is the call's
-  pub flatten-stops : (major minor mediaType creationTime lastWrittenTime : ℕ) {r : Refusal} → Refuses r ≡ flattenVerdict buffer child parent application
+  pub flatten-stops : (major minor mediaType creationTime lastWrittenTime : ℕ) {r : Refusal} → Refuses r ≡ flatten_verdict buffer child parent application
       → answered (refused r) buffer ≡ flatten buffer child parent application major minor mediaType creationTime lastWrittenTime
   flatten-stops major minor mediaType creationTime lastWrittenTime e =
       outcome-stops buffer _ _ (stops _ e) ∙ sym (flatten-is buffer child parent application major minor mediaType creationTime lastWrittenTime)
 
   -- 31 and 33
-  pub lent-stops : {r : Refusal} → Refuses r ≡ lentVerdict buffer application → Refuses r ≡ flattenVerdict buffer child parent application
-  unfolding flattenVerdict
+  pub lent-stops : {r : Refusal} → Refuses r ≡ lent_verdict buffer application → Refuses r ≡ flatten_verdict buffer child parent application
+  unfolding flatten_verdict
   lent-stops e = stops _ e
 
-  module _ (l : lentVerdict buffer application ≡ Passes) where
+  module _ (l : lent_verdict buffer application ≡ Passes) where
     -- the child's opening numbers
-    pub child-stops : {r : Refusal} → refused r ≡ opening child → Refuses r ≡ flattenVerdict buffer child parent application
-    unfolding flattenVerdict writableVerdict opening
+    pub child-stops : {r : Refusal} → refused r ≡ opening child → Refuses r ≡ flatten_verdict buffer child parent application
+    unfolding flatten_verdict writable_verdict opening
     child-stops {r} e = goes (sym l) (stops _ (stops _ (sym (answer-refused _ _ r (sym e)))))
 
     module _ (t : Opened) (o : opening child ≡ accepted t) where
-      writable-is : writableVerdict child (indexOffset child) ≡ row (isSecond t.kind) (refusal 74 0)
-      unfolding writableVerdict opening
-      writable-is = let q = answer-accepted _ _ t o in then-rest _ _ q.0 ∙ ap (λ (u : Opened). row (isSecond u.kind) (refusal 74 0)) q.1
+      writable-is : writable_verdict child (index_offset child) ≡ row (is_second t.kind) (refusal 74 0)
+      unfolding writable_verdict opening
+      writable-is = let q = answer-accepted _ _ t o in then-rest _ _ q.0 ∙ ap (λ (u : Opened). row (is_second u.kind) (refusal 74 0)) q.1
 
       -- 74
-      pub kind-stops : {r : Refusal} → Refuses r ≡ row (isSecond t.kind) (refusal 74 0) → Refuses r ≡ flattenVerdict buffer child parent application
-      unfolding flattenVerdict
+      pub kind-stops : {r : Refusal} → Refuses r ≡ row (is_second t.kind) (refusal 74 0) → Refuses r ≡ flatten_verdict buffer child parent application
+      unfolding flatten_verdict
       kind-stops e = goes (sym l) (stops _ (e ∙ sym writable-is))
 
       module _ (k : t.kind ≡ First) where
         -- what is left behind it
-        pub rest-is : flattenVerdict buffer child parent application ≡ (pairVerdict child parent then sizesVerdict (count_of child) (written_of child parent))
-        unfolding flattenVerdict
+        pub rest-is : flatten_verdict buffer child parent application ≡ (pair_verdict child parent then sizes_verdict (count_of child) (written_of child parent))
+        unfolding flatten_verdict
         rest-is = then-rest _ _ l ∙ then-rest _ _ (writable-is ∙ (row-iff (refusal 74 0) (second-iff t.kind)).1 k)
 
 -- no sector

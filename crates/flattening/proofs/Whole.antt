@@ -10,20 +10,20 @@ use Rattle.format.specs.declared.Verdict.TheVariants.{Passes}
 use Rattle.format.specs.Lists.{All}
 use Rattle.format.specs.Refusals.{refusal, refused, accepted}
 use Rattle.format.specs.Opening.{Opened, opening}
-use Rattle.format.specs.Writing.{mostSectors, largestSize, mostAddresses, placed}
-use Rattle.format.specs.Creating.{createdUsed, createdBytes}
+use Rattle.format.specs.Writing.{most_sectors, largest_size, most_addresses, placed}
+use Rattle.format.specs.Creating.{created_used, created_bytes}
 use Rattle.format.specs.Answers.{answered}
-use Rattle.format.specs.Flattening.{count_of, pair_at, Written, written_of, size_of, sectorsOf, flattenVerdict, flatten}
+use Rattle.format.specs.Flattening.{count_of, pair_at, Written, written_of, size_of, sectors_of, flatten_verdict, flatten}
 use Rattle.format.proofs.Lists.{not-empty, Sized}
 use Rattle.format.proofs.Storing.{stored-few}
 use Rattle.format.proofs.Composing.{Composable}
-use Rattle.format.proofs.Flattening.{sectorList, numberList, pair-some, Flattenable, flattenable, composable, pieces_are, flatten-composed}
+use Rattle.format.proofs.Flattening.{sector_list, number_list, pair-some, Flattenable, flattenable, composable, pieces_are, flatten-composed}
 use Rattle.opening.proofs.Accepted.{opened-is}
-use Rattle.pairs.specs.Pairs.{sectorAt}
+use Rattle.pairs.specs.Pairs.{sector_at}
 use Rattle.pairs.proofs.Sectors.{sector-some, sector-is}
-use Rattle.storing.specs.Turns.{noDisc}
+use Rattle.storing.specs.Turns.{no_disc}
 use Rattle.composing.specs.declared.Layout.{Layout}
-use Rattle.composing.specs.Composes.{handed, storedOf, composedIn, layout_of, Sectors, Lays, Plan, Fits}
+use Rattle.composing.specs.Composes.{handed, stored_of, composed_in, layout_of, Sectors, Lays, Plan, Fits}
 use Rattle.composing.proofs.Counting.{some_stored}
 use Rattle.composing.proofs.Laid.{Most, most-lays}
 use Rattle.composing.proofs.New.{Hands, composed-full, composed-fits, composed-done}
@@ -45,8 +45,8 @@ split (w ∷ ws) h = record { head = w; rest = ws; is = refl }
 
 pub record Ready (buffer child parent application : List ℕ) (count size : ℕ) : Type 0 where
   pub many : count ≡ count_of child
-  pub checked : flattenVerdict buffer child parent application ≡ Passes
-  pub sizeIs : size ≡ size_of (written_of child parent)
+  pub checked : flatten_verdict buffer child parent application ≡ Passes
+  pub size_is : size ≡ size_of (written_of child parent)
   pub any : written_of child parent ≢ []
 
 module _ {buffer child parent application : List ℕ} {count size : ℕ} (q : Ready buffer child parent application count size) where
@@ -60,25 +60,25 @@ module _ {buffer child parent application : List ℕ} {count size : ℕ} (q : Re
   ws = s.head ∷ s.rest
 
   abbrev f : ℕ → List ℕ
-  f = sectorAt child parent
+  f = sector_at child parent
 
-  c : Composable buffer (count_of child) (numberList ws) (size_of ws) (sectorsOf ws) application
+  c : Composable buffer (count_of child) (number_list ws) (size_of ws) (sectors_of ws) application
   c = composable k s.head s.rest s.is
 
-  sized : All (Sized (size_of ws)) (sectorList ws)
-  sized = subst (λ (l : List Written). All (Sized (size_of l)) (sectorList l)) s.is k.sized
+  sized : All (Sized (size_of ws)) (sector_list ws)
+  sized = subst (λ (l : List Written). All (Sized (size_of l)) (sector_list l)) s.is k.sized
 
   size_is : size ≡ size_of ws
-  size_is = q.sizeIs ∙ ap size_of s.is
+  size_is = q.size_is ∙ ap size_of s.is
 
-  handed-are : handed f (count_of child) ≡ sectorList ws
+  handed-are : handed f (count_of child) ≡ sector_list ws
   unfolding written_of
-  handed-are = sym (sectors-are (pair_at child parent) (pair-some child parent) (count_of child)) ∙ ap sectorList s.is
+  handed-are = sym (sectors-are (pair_at child parent) (pair-some child parent) (count_of child)) ∙ ap sector_list s.is
 
-  hands : Hands f (count_of child) (numberList ws) (size_of ws) (sectorsOf ws)
+  hands : Hands f (count_of child) (number_list ws) (size_of ws) (sectors_of ws)
   unfolding written_of
   hands = record {
-    numbers-are = ap numberList (sym s.is) ∙ numbers-are (pair_at child parent) (pair-some child parent) (count_of child);
+    numbers-are = ap number_list (sym s.is) ∙ numbers-are (pair_at child parent) (pair-some child parent) (count_of child);
     sectors-are = pieces_are (size_of ws) ws sized ∙ sym handed-are;
   }
 
@@ -86,11 +86,11 @@ module _ {buffer child parent application : List ℕ} {count size : ℕ} (q : Re
   unfolding written_of
   sectors = record {
     sized = λ n h e.
-        sized-at (pair_at child parent) size (count_of child) 0 n (f n) (rw q.sizeIs k.sized) (omega arith) (omega (arith, q.many)) (sector-some child parent n (f n) refl (omega arith));
+        sized-at (pair_at child parent) size (count_of child) 0 n (f n) (rw q.size_is k.sized) (omega arith) (omega (arith, q.many)) (sector-some child parent n (f n) refl (omega arith));
     pos = rw size_is c.some;
   }
 
-  stored_some : (block : ℕ) → length (storedOf block f count).items ≢ 0
+  stored_some : (block : ℕ) → length (stored_of block f count).items ≢ 0
   unfolding written_of
   stored_some block =
       let w = somewhere (pair_at child parent) (count_of child) 0 q.any in
@@ -98,30 +98,30 @@ module _ {buffer child parent application : List ℕ} {count size : ℕ} (q : Re
       some_stored block f count w.at (omega (arith, w.inside, q.many)) (rw i.0 (not-empty w.sector i.1))
 
   -- no more are stored than there are
-  few : (block : ℕ) → length (storedOf block f count).items ≤ length (written_of child parent)
+  few : (block : ℕ) → length (stored_of block f count).items ≤ length (written_of child parent)
   few block =
-      rw q.many (omega (arith, stored-few [] noDisc block (handed f (count_of child)) [], ap length handed-are, ap length (sym s.is), length-map ws (λ (w : Written). w.sector)))
+      rw q.many (omega (arith, stored-few [] no_disc block (handed f (count_of child)) [], ap length handed-are, ap length (sym s.is), length-map ws (λ (w : Written). w.sector)))
 
-  lays : {n : ℕ} → n ≤ length (written_of child parent) → n ≢ 0 → (count ≤ mostSectors) × (size ≤ largestSize) × (n ≤ mostAddresses) × (n ≢ 0)
-  lays l o = (omega (arith, q.many, k.most), omega (arith, q.sizeIs, k.small), omega (arith, k.few), o)
+  lays : {n : ℕ} → n ≤ length (written_of child parent) → n ≢ 0 → (count ≤ most_sectors) × (size ≤ largest_size) × (n ≤ most_addresses) × (n ≢ 0)
+  lays l o = (omega (arith, q.many, k.most), omega (arith, q.size_is, k.small), omega (arith, k.few), o)
 
-  pub flat-lays : (block : ℕ) {stored : ℕ} → stored ≡ length (storedOf block f count).items → (count ≤ mostSectors) × (size ≤ largestSize) × (stored ≤ mostAddresses) × (stored ≢ 0)
+  pub flat-lays : (block : ℕ) {stored : ℕ} → stored ≡ length (stored_of block f count).items → (count ≤ most_sectors) × (size ≤ largest_size) × (stored ≤ most_addresses) × (stored ≢ 0)
   flat-lays block e = lays (omega (arith, few block)) (λ y. stored_some block (sym e ∙ y))
 
   -- if all were stored
-  pub flat-all : {n : ℕ} → n ≡ length (written_of child parent) → (count ≤ mostSectors) × (size ≤ largestSize) × (n ≤ mostAddresses) × (n ≢ 0)
+  pub flat-all : {n : ℕ} → n ≡ length (written_of child parent) → (count ≤ most_sectors) × (size ≤ largest_size) × (n ≤ most_addresses) × (n ≢ 0)
   flat-all e = lays (omega arith) (λ y. stored_some 0 (omega (arith, few 0)))
 
   module _ {most : Layout} (l : most ≡ layout_of count size (length (written_of child parent))) where
     pub flat-most : Most f count size (length (written_of child parent)) most
-    flat-most = record { sectors = sectors; few = few (createdUsed count); laid = l }
+    flat-most = record { sectors = sectors; few = few (created_used count); laid = l }
 
     -- with room for that
     pub flat-roomy : {buf : List ℕ} → length buf ≡ length buffer → most.end ≤ length buffer → Lays buf f count size most
     flat-roomy e h = most-lays flat-most (omega (arith, k.long)) (omega arith)
 
-  pub flat-plan : {stored : ℕ} {at : Layout} → stored ≡ length (storedOf (createdUsed count) f count).items → at ≡ layout_of count size stored → Plan f count size stored at
-  flat-plan e l = record { sectors = sectors; some = λ y. stored_some (createdUsed count) (sym e ∙ y); counted = e; laid = l }
+  pub flat-plan : {stored : ℕ} {at : Layout} → stored ≡ length (stored_of (created_used count) f count).items → at ≡ layout_of count size stored → Plan f count size stored at
+  flat-plan e l = record { sectors = sectors; some = λ y. stored_some (created_used count) (sym e ∙ y); counted = e; laid = l }
 
   module _ (major minor mediaType creationTime lastWrittenTime : ℕ) {stored : ℕ} {at : Layout} (p : Plan f count size stored at) where
     plan : Plan f (count_of child) (size_of ws) stored at
@@ -132,14 +132,14 @@ module _ {buffer child parent application : List ℕ} {count size : ℕ} (q : Re
         composed-full _ _ _ _ _ _ major minor mediaType creationTime lastWrittenTime c hands plan h
         ∙ sym (flatten-composed buffer child parent application major minor mediaType creationTime lastWrittenTime k s.head s.rest s.is)
 
-    module _ (h : at.end ≤ length buffer) {b₁ : List ℕ} (e₁ : b₁ ≡ overwrite buffer 0 (createdBytes count application major minor mediaType creationTime lastWrittenTime)) where
-      made : b₁ ≡ overwrite buffer 0 (createdBytes (count_of child) application major minor mediaType creationTime lastWrittenTime)
+    module _ (h : at.end ≤ length buffer) {b₁ : List ℕ} (e₁ : b₁ ≡ overwrite buffer 0 (created_bytes count application major minor mediaType creationTime lastWrittenTime)) where
+      made : b₁ ≡ overwrite buffer 0 (created_bytes (count_of child) application major minor mediaType creationTime lastWrittenTime)
       made = rw q.many at e₁
 
       pub flat-fits : Fits b₁ f count size stored at
       flat-fits = rw (q.many, size_is) (composed-fits _ _ _ _ _ _ major minor mediaType creationTime lastWrittenTime c hands plan h made)
 
-      pub flat-done : {b₂ : List ℕ} → b₂ ≡ composedIn b₁ f size count lastWrittenTime
+      pub flat-done : {b₂ : List ℕ} → b₂ ≡ composed_in b₁ f size count lastWrittenTime
           → answered (accepted (placed at.end at.index.0)) b₂ ≡ flatten buffer child parent application major minor mediaType creationTime lastWrittenTime
       flat-done e₂ =
           composed-done _ _ _ _ _ _ major minor mediaType creationTime lastWrittenTime c hands plan h made (rw (q.many, size_is) at e₂)

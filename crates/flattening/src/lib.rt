@@ -11,13 +11,13 @@ ghost use Rattle.fields.specs.Bytes.{overwrite};
 ghost use Rattle.format.specs.declared.TableKind.TheVariants.{First};
 ghost use Rattle.format.specs.declared.Verdict.TheVariants.{Passes};
 ghost use Rattle.format.specs.Refusals.{accepted};
-ghost use Rattle.format.specs.Layouts.{blockHeaderLength};
+ghost use Rattle.format.specs.Layouts.{block_header_length};
 ghost use Rattle.format.specs.Opening.{opening};
-ghost use Rattle.format.specs.Flattening.{written_of, size_of, lentVerdict, flattenVerdict, flatten};
+ghost use Rattle.format.specs.Flattening.{written_of, size_of, lent_verdict, flatten_verdict, flatten};
 ghost use Rattle.format.specs.Answers.{updated, answered};
 ghost use Rattle.opening.specs.Answers.{contents, outcome};
-ghost use Rattle.pairs.specs.Pairs.{Pair, sectorAt};
-ghost use Rattle.composing.specs.Composes.{storedOf, layout_of, filled, Lays};
+ghost use Rattle.pairs.specs.Pairs.{Pair, sector_at};
+ghost use Rattle.composing.specs.Composes.{stored_of, layout_of, filled, Lays};
 
 use composing::Layout;
 use format::{ByteOffset, EntryNumber, Placed, Verdict};
@@ -37,7 +37,7 @@ struct Stamp {
 // How many of the pair's sectors are stored, wherever the block will be.
 fn count_stored<'a>(child: &'a [u8], t: Opened, parent: &'a [u8], p: Opening) -> u64
     requires { Pair child.now parent.now (contents t) (outcome p) }
-    ensures { (block : ℕ) → result ≡ length (storedOf block (sectorAt child.now parent.now) (contents t).count).items }
+    ensures { (block : ℕ) → result ≡ length (stored_of block (sector_at child.now parent.now) (contents t).count).items }
 {
     let count = opening::count(t);
     let mut stored: u64 = 0;
@@ -64,8 +64,8 @@ fn put_entries<'a, 'b>(
     p: Opening,
     at: Layout,
 )
-    requires { Pair child.now parent.now (contents t) (outcome p) × Lays buf.old (sectorAt child.now parent.now) (contents t).count (size_of (written_of child.now parent.now)) at }
-    ensures { buf.new ≡ filled buf.old (sectorAt child.now parent.now) (contents t).count at }
+    requires { Pair child.now parent.now (contents t) (outcome p) × Lays buf.old (sector_at child.now parent.now) (contents t).count (size_of (written_of child.now parent.now)) at }
+    ensures { buf.new ≡ filled buf.old (sector_at child.now parent.now) (contents t).count at }
 {
     let count = opening::count(t);
     let mut stored: u64 = 0;
@@ -87,9 +87,9 @@ fn put_sectors<'a, 'b>(
     p: Opening,
     most: Layout,
 ) -> u64
-    requires { Pair child.now parent.now (contents t) (outcome p) × Lays buf.old (sectorAt child.now parent.now) (contents t).count (size_of (written_of child.now parent.now)) most }
-    ensures { let items = (storedOf most.used (sectorAt child.now parent.now) (contents t).count).items in
-        (result ≡ length items) × (buf.new ≡ overwrite buf.old (most.used + blockHeaderLength) (flattened items)) }
+    requires { Pair child.now parent.now (contents t) (outcome p) × Lays buf.old (sector_at child.now parent.now) (contents t).count (size_of (written_of child.now parent.now)) most }
+    ensures { let items = (stored_of most.used (sector_at child.now parent.now) (contents t).count).items in
+        (result ≡ length items) × (buf.new ≡ overwrite buf.old (most.used + block_header_length) (flattened items)) }
 {
     let count = opening::count(t);
     let mut stored: u64 = 0;
@@ -117,7 +117,7 @@ fn flatten_tight<'a, 'b, 'c>(
     application: &'c [u8],
     new: Stamp,
 ) -> Updated
-    requires { Pair child.now parent.now (contents t) (outcome p) × (flattenVerdict buffer.old child.now parent.now application.now ≡ Passes)
+    requires { Pair child.now parent.now (contents t) (outcome p) × (flatten_verdict buffer.old child.now parent.now application.now ≡ Passes)
         × (size ≡ size_of (written_of child.now parent.now)) × (written_of child.now parent.now ≢ []) }
     ensures { answered (updated result) buffer.new ≡ flatten buffer.old child.now parent.now application.now new.major new.minor new.mediaType new.created new.written }
 {
@@ -159,7 +159,7 @@ fn flatten_roomy<'a, 'b, 'c>(
     application: &'c [u8],
     new: Stamp,
 ) -> Updated
-    requires { Pair child.now parent.now (contents t) (outcome p) × (flattenVerdict buffer.old child.now parent.now application.now ≡ Passes)
+    requires { Pair child.now parent.now (contents t) (outcome p) × (flatten_verdict buffer.old child.now parent.now application.now ≡ Passes)
         × (size ≡ size_of (written_of child.now parent.now)) × (written_of child.now parent.now ≢ [])
         × (most ≡ layout_of (contents t).count size (length (written_of child.now parent.now))) × (most.end ≤ length buffer.old) }
     ensures { answered (updated result) buffer.new ≡ flatten buffer.old child.now parent.now application.now new.major new.minor new.mediaType new.created new.written }
@@ -196,7 +196,7 @@ fn flatten_some<'a, 'b, 'c>(
     application: &'c [u8],
     new: Stamp,
 ) -> Updated
-    requires { Pair child.now parent.now (contents t) (outcome p) × (flattenVerdict buffer.old child.now parent.now application.now ≡ Passes)
+    requires { Pair child.now parent.now (contents t) (outcome p) × (flatten_verdict buffer.old child.now parent.now application.now ≡ Passes)
         × (size ≡ size_of (written_of child.now parent.now)) × (written_of child.now parent.now ≢ [])
         × (sectors ≡ length (written_of child.now parent.now)) }
     ensures { answered (updated result) buffer.new ≡ flatten buffer.old child.now parent.now application.now new.major new.minor new.mediaType new.created new.written }
@@ -219,7 +219,7 @@ fn flatten_opened<'a, 'b, 'c>(
     application: &'c [u8],
     new: Stamp,
 ) -> Updated
-    requires { (opening child.now ≡ accepted (contents t)) × ((contents t).kind ≡ First) × (lentVerdict buffer.old application.now ≡ Passes) }
+    requires { (opening child.now ≡ accepted (contents t)) × ((contents t).kind ≡ First) × (lent_verdict buffer.old application.now ≡ Passes) }
     ensures { answered (updated result) buffer.new ≡ flatten buffer.old child.now parent.now application.now new.major new.minor new.mediaType new.created new.written }
 {
     let p = opening::open(parent);
@@ -257,7 +257,7 @@ fn flatten_child<'a, 'b, 'c>(
     application: &'c [u8],
     new: Stamp,
 ) -> Updated
-    requires { (opening child.now ≡ accepted (contents t)) × (lentVerdict buffer.old application.now ≡ Passes) }
+    requires { (opening child.now ≡ accepted (contents t)) × (lent_verdict buffer.old application.now ≡ Passes) }
     ensures { answered (updated result) buffer.new ≡ flatten buffer.old child.now parent.now application.now new.major new.minor new.mediaType new.created new.written }
 {
     let v = opening::kind_verdict(t);

@@ -22,10 +22,10 @@ use Rattle.format.specs.declared.Updated.TheVariants as update
 use Rattle.format.specs.declared.Verdict.{Verdict}
 use Rattle.format.specs.declared.Verdict.TheVariants.{Passes, Refuses}
 use Rattle.format.specs.Refusals.{refused, accepted}
-use Rattle.format.specs.Opening.{Opened, opening, range_of, sectorCount}
-use Rattle.format.specs.Reading.{readVerdict, locate}
+use Rattle.format.specs.Opening.{Opened, opening, range_of, sector_count}
+use Rattle.format.specs.Reading.{read_verdict, locate}
 use Rattle.format.specs.Writing.{outcome}
-use Rattle.format.specs.Answers.{counted, located, locatedOver, sourcedOver, updated, exported, exportedExact, answered}
+use Rattle.format.specs.Answers.{counted, located, located_over, sourced_over, updated, exported, exported_exact, answered}
 use Rattle.format.proofs.Refusals.{answer-passes, answer-refuses, answer-accepted, answer-refused, then-refuses}
 
 pub counted-distinct : (x y : Counted) → counted x ≡ counted y → x ≡ y
@@ -42,19 +42,19 @@ located-distinct (place.At p) (place.Refused r) e = let z : ◌≡◌ {A = ℕ} 
 located-distinct (place.Refused r) (place.At p) e = let z : ◌≡◌ {A = ℕ} 0 1 = cc in absurd (omega arith)
 located-distinct (place.Refused r) (place.Refused q) e = cc
 
-pub locatedOver-distinct : (x y : LocatedOver) → locatedOver x ≡ locatedOver y → x ≡ y
-unfolding locatedOver
-locatedOver-distinct (place-over.In p) (place-over.In q) e = cc
-locatedOver-distinct (place-over.In p) (place-over.Refused r) e = let z : ◌≡◌ {A = ℕ} 0 1 = cc in absurd (omega arith)
-locatedOver-distinct (place-over.Refused r) (place-over.In p) e = let z : ◌≡◌ {A = ℕ} 0 1 = cc in absurd (omega arith)
-locatedOver-distinct (place-over.Refused r) (place-over.Refused q) e = cc
+pub located_over-distinct : (x y : LocatedOver) → located_over x ≡ located_over y → x ≡ y
+unfolding located_over
+located_over-distinct (place-over.In p) (place-over.In q) e = cc
+located_over-distinct (place-over.In p) (place-over.Refused r) e = let z : ◌≡◌ {A = ℕ} 0 1 = cc in absurd (omega arith)
+located_over-distinct (place-over.Refused r) (place-over.In p) e = let z : ◌≡◌ {A = ℕ} 0 1 = cc in absurd (omega arith)
+located_over-distinct (place-over.Refused r) (place-over.Refused q) e = cc
 
-pub sourcedOver-distinct : (x y : SourceOver) → sourcedOver x ≡ sourcedOver y → x ≡ y
-unfolding sourcedOver
-sourcedOver-distinct (source-over.Image n) (source-over.Image m) e = cc
-sourcedOver-distinct (source-over.Image n) (source-over.Refused r) e = let z : ◌≡◌ {A = ℕ} 0 1 = cc in absurd (omega arith)
-sourcedOver-distinct (source-over.Refused r) (source-over.Image n) e = let z : ◌≡◌ {A = ℕ} 0 1 = cc in absurd (omega arith)
-sourcedOver-distinct (source-over.Refused r) (source-over.Refused q) e = cc
+pub sourced_over-distinct : (x y : SourceOver) → sourced_over x ≡ sourced_over y → x ≡ y
+unfolding sourced_over
+sourced_over-distinct (source-over.Image n) (source-over.Image m) e = cc
+sourced_over-distinct (source-over.Image n) (source-over.Refused r) e = let z : ◌≡◌ {A = ℕ} 0 1 = cc in absurd (omega arith)
+sourced_over-distinct (source-over.Refused r) (source-over.Image n) e = let z : ◌≡◌ {A = ℕ} 0 1 = cc in absurd (omega arith)
+sourced_over-distinct (source-over.Refused r) (source-over.Refused q) e = cc
 
 pub updated-distinct : (x y : Updated) → updated x ≡ updated y → x ≡ y
 unfolding updated
@@ -70,12 +70,12 @@ exported-distinct (export.To n) (export.Refused r) e = let z : ◌≡◌ {A = �
 exported-distinct (export.Refused r) (export.To m) e = let z : ◌≡◌ {A = ℕ} 0 1 = cc in absurd (omega arith)
 exported-distinct (export.Refused r) (export.Refused q) e = cc
 
-pub exportedExact-distinct : (x y : ExportedExact) → exportedExact x ≡ exportedExact y → x ≡ y
-unfolding exportedExact
-exportedExact-distinct (export-exact.Length n) (export-exact.Length m) e = cc
-exportedExact-distinct (export-exact.Length n) (export-exact.Refused r) e = let z : ◌≡◌ {A = ℕ} 0 1 = cc in absurd (omega arith)
-exportedExact-distinct (export-exact.Refused r) (export-exact.Length m) e = let z : ◌≡◌ {A = ℕ} 0 1 = cc in absurd (omega arith)
-exportedExact-distinct (export-exact.Refused r) (export-exact.Refused q) e = cc
+pub exported_exact-distinct : (x y : ExportedExact) → exported_exact x ≡ exported_exact y → x ≡ y
+unfolding exported_exact
+exported_exact-distinct (export-exact.Length n) (export-exact.Length m) e = cc
+exported_exact-distinct (export-exact.Length n) (export-exact.Refused r) e = let z : ◌≡◌ {A = ℕ} 0 1 = cc in absurd (omega arith)
+exported_exact-distinct (export-exact.Refused r) (export-exact.Length m) e = let z : ◌≡◌ {A = ℕ} 0 1 = cc in absurd (omega arith)
+exported_exact-distinct (export-exact.Refused r) (export-exact.Refused q) e = cc
 
 -- ---- what a call that writes leaves, by its verdict
 module _ {A : Type 0} (buffer : List ℕ) {v : Verdict} where
@@ -89,16 +89,16 @@ module _ {A : Type 0} (buffer : List ℕ) {v : Verdict} where
 
 -- ---- by what opening answers
 module _ (img : List ℕ) where
-  pub count-refused : (r : Refusal) → refused r ≡ opening img → refused r ≡ sectorCount img
-  unfolding opening sectorCount
+  pub count-refused : (r : Refusal) → refused r ≡ opening img → refused r ≡ sector_count img
+  unfolding opening sector_count
   count-refused r e = sym (answer-refuses _ _ r (answer-refused _ _ r (sym e)))
 
-  pub count-opened : (t : Opened) → accepted t ≡ opening img → accepted (range_of t) ≡ sectorCount img
-  unfolding opening sectorCount
+  pub count-opened : (t : Opened) → accepted t ≡ opening img → accepted (range_of t) ≡ sector_count img
+  unfolding opening sector_count
   count-opened t e =
       let q = answer-accepted _ _ t (sym e) in
       sym (answer-passes _ _ q.0 ∙ ap (λ (u : Opened). accepted (range_of u)) q.1)
 
   pub locate-unopened : (r : Refusal) (a : ℤ) → refused r ≡ opening img → refused r ≡ locate img a
-  unfolding opening locate readVerdict
+  unfolding opening locate read_verdict
   locate-unopened r a e = sym (answer-refuses _ _ r (then-refuses _ _ r (answer-refused _ _ r (sym e))))

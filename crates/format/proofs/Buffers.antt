@@ -7,20 +7,20 @@ use native.Mathlib.Nat.{le_refl}
 use native.Mathlib.Omega.{arith}
 use lib.ListN.{length, take, get_or, length-take}
 use lib.Seq.{get_or-take, length-take-le}
-use Rattle.fields.specs.Bytes.{toLe, overwrite}
-use Rattle.fields.proofs.Numbers.{length-toLe}
-use Rattle.fields.proofs.Overwrite.{length-overwrite, getD-off, getD-in, overwrite-inside}
+use Rattle.fields.specs.Bytes.{to_le, overwrite}
+use Rattle.fields.proofs.Numbers.{length-to_le}
+use Rattle.fields.proofs.Overwrite.{length-overwrite, get_or-off, get_or-in, overwrite-inside}
 use Rattle.fields.proofs.Holds.{Holds, holds-take, holds-overwrite, holds-all, holds-number}
 use Rattle.format.specs.declared.Refusal.{Refusal}
 use Rattle.format.specs.declared.Verdict.{Verdict}
 use Rattle.format.specs.declared.Verdict.TheVariants.{Passes, Refuses}
 use Rattle.format.specs.Lists.{IsBytes}
 use Rattle.format.specs.Refusals.{refused, accepted}
-use Rattle.format.specs.Layouts.{headerLength, indexOffsetAt, lastWrittenAt, indexOffset}
-use Rattle.format.specs.Writing.{outcome, setHeader}
+use Rattle.format.specs.Layouts.{header_length, index_offset_at, last_written_at, index_offset}
+use Rattle.format.specs.Writing.{outcome, set_header}
 use Rattle.format.specs.Demands.{Elsewhere, HeaderSet}
 use Rattle.format.proofs.Agree.{KeptAt, Agree}
-use Rattle.format.proofs.Bytes.{bytes-overwrite, bytes-toLe}
+use Rattle.format.proofs.Bytes.{bytes-overwrite, bytes-to_le}
 
 -- ---- outcomes
 pub record Accepts {A : Type 0} (v : Verdict) (p q : A) (new after : List ℕ) : Type 0 where
@@ -64,75 +64,75 @@ outcome-new buffer (Refuses r) p one other h = refl
 -- ---- the header's two fields
 module _ (l : List ℕ) (o time : ℕ) where
   abbrev once : List ℕ
-  once = overwrite l indexOffsetAt (toLe 8 o)
+  once = overwrite l index_offset_at (to_le 8 o)
 
-  pub length-setHeader : length (setHeader l o time) ≡ length l
-  unfolding setHeader
-  length-setHeader = length-overwrite once lastWrittenAt (toLe 8 time) ∙ length-overwrite l indexOffsetAt (toLe 8 o)
+  pub length-set_header : length (set_header l o time) ≡ length l
+  unfolding set_header
+  length-set_header = length-overwrite once last_written_at (to_le 8 time) ∙ length-overwrite l index_offset_at (to_le 8 o)
 
-  pub setHeader-elsewhere : (p : ℕ) → Elsewhere p → get_or (setHeader l o time) p 0 ≡ get_or l p 0
-  unfolding setHeader
-  setHeader-elsewhere p h =
-      getD-off once lastWrittenAt (toLe 8 time) p
-      (⊎_elim (λ b. inl (omega arith)) (⊎_elim (λ b. inl (omega arith)) (λ b. inr (omega (arith, length-toLe 8 time)))) h)
-      ∙ getD-off l indexOffsetAt (toLe 8 o) p
-      (⊎_elim inl (⊎_elim (λ b. inr (omega (arith, length-toLe 8 o))) (λ b. inr (omega (arith, length-toLe 8 o)))) h)
+  pub set_header-elsewhere : (p : ℕ) → Elsewhere p → get_or (set_header l o time) p 0 ≡ get_or l p 0
+  unfolding set_header
+  set_header-elsewhere p h =
+      get_or-off once last_written_at (to_le 8 time) p
+      (⊎_elim (λ b. inl (omega arith)) (⊎_elim (λ b. inl (omega arith)) (λ b. inr (omega (arith, length-to_le 8 time)))) h)
+      ∙ get_or-off l index_offset_at (to_le 8 o) p
+      (⊎_elim inl (⊎_elim (λ b. inr (omega (arith, length-to_le 8 o))) (λ b. inr (omega (arith, length-to_le 8 o)))) h)
 
-  setHeader-kept : (p : ℕ) → KeptAt p → get_or (setHeader l o time) p 0 ≡ get_or l p 0
-  setHeader-kept p h = setHeader-elsewhere p (⊎_map (λ b. b) inr h)
+  set_header-kept : (p : ℕ) → KeptAt p → get_or (set_header l o time) p 0 ≡ get_or l p 0
+  set_header-kept p h = set_header-elsewhere p (⊎_map (λ b. b) inr h)
 
-  setHeader-holds : headerLength ≤ length l → Holds (setHeader l o time) indexOffsetAt (toLe 8 o)
-  unfolding setHeader
-  setHeader-holds long =
+  set_header-holds : header_length ≤ length l → Holds (set_header l o time) index_offset_at (to_le 8 o)
+  unfolding set_header
+  set_header-holds long =
       record {
-        fits = omega (arith, length-setHeader, length-toLe 8 o);
+        fits = omega (arith, length-set_header, length-to_le 8 o);
         there = λ i h.
-            getD-off once lastWrittenAt (toLe 8 time) (indexOffsetAt + i) (inl (omega (arith, length-toLe 8 o)))
-            ∙ getD-in l indexOffsetAt (toLe 8 o) i h (omega (arith, length-toLe 8 o));
+            get_or-off once last_written_at (to_le 8 time) (index_offset_at + i) (inl (omega (arith, length-to_le 8 o)))
+            ∙ get_or-in l index_offset_at (to_le 8 o) i h (omega (arith, length-to_le 8 o));
       }
 
-  setHeader-time : headerLength ≤ length l → Holds (setHeader l o time) lastWrittenAt (toLe 8 time)
-  unfolding setHeader
-  setHeader-time long = holds-overwrite once lastWrittenAt (toLe 8 time) (omega (arith, length-overwrite l indexOffsetAt (toLe 8 o), length-toLe 8 time))
+  set_header-time : header_length ≤ length l → Holds (set_header l o time) last_written_at (to_le 8 time)
+  unfolding set_header
+  set_header-time long = holds-overwrite once last_written_at (to_le 8 time) (omega (arith, length-overwrite l index_offset_at (to_le 8 o), length-to_le 8 time))
 
-  pub header-set : headerLength ≤ length l → HeaderSet (setHeader l o time) o time
+  pub header-set : header_length ≤ length l → HeaderSet (set_header l o time) o time
   header-set long =
       record {
-        indexOffset = rw (length-toLe 8 o) at (holds-all _ _ _ (setHeader-holds long));
-        lastWrittenTime = rw (length-toLe 8 time) at (holds-all _ _ _ (setHeader-time long));
+        index_offset = rw (length-to_le 8 o) at (holds-all _ _ _ (set_header-holds long));
+        lastWrittenTime = rw (length-to_le 8 time) at (holds-all _ _ _ (set_header-time long));
       }
 
-  pub bytes-setHeader : headerLength ≤ length l → IsBytes l → IsBytes (setHeader l o time)
-  unfolding setHeader
-  bytes-setHeader long h =
-      bytes-overwrite once lastWrittenAt (toLe 8 time) (omega (arith, length-overwrite l indexOffsetAt (toLe 8 o), length-toLe 8 time))
-      (bytes-overwrite l indexOffsetAt (toLe 8 o) (omega (arith, length-toLe 8 o)) h (bytes-toLe 8 o)) (bytes-toLe 8 time)
+  pub bytes-set_header : header_length ≤ length l → IsBytes l → IsBytes (set_header l o time)
+  unfolding set_header
+  bytes-set_header long h =
+      bytes-overwrite once last_written_at (to_le 8 time) (omega (arith, length-overwrite l index_offset_at (to_le 8 o), length-to_le 8 time))
+      (bytes-overwrite l index_offset_at (to_le 8 o) (omega (arith, length-to_le 8 o)) h (bytes-to_le 8 o)) (bytes-to_le 8 time)
 
 -- of an image that stands at the front of a buffer
-pub setHeader-inside : (buffer image : List ℕ) (o time : ℕ) → headerLength ≤ length image → length image ≤ length buffer
-    → setHeader (overwrite buffer 0 image) o time ≡ overwrite buffer 0 (setHeader image o time)
-unfolding setHeader
-setHeader-inside buffer image o time h k =
-    let once : List ℕ = overwrite image indexOffsetAt (toLe 8 o) in
-    let l : length once ≡ length image = length-overwrite image indexOffsetAt (toLe 8 o) in
-    ap (λ (b : List ℕ). overwrite b lastWrittenAt (toLe 8 time)) (overwrite-inside buffer image indexOffsetAt (toLe 8 o) (omega (arith, length-toLe 8 o)) k)
-    ∙ overwrite-inside buffer once lastWrittenAt (toLe 8 time) (omega (arith, length-toLe 8 time)) (omega arith)
+pub set_header-inside : (buffer image : List ℕ) (o time : ℕ) → header_length ≤ length image → length image ≤ length buffer
+    → set_header (overwrite buffer 0 image) o time ≡ overwrite buffer 0 (set_header image o time)
+unfolding set_header
+set_header-inside buffer image o time h k =
+    let once : List ℕ = overwrite image index_offset_at (to_le 8 o) in
+    let l : length once ≡ length image = length-overwrite image index_offset_at (to_le 8 o) in
+    ap (λ (b : List ℕ). overwrite b last_written_at (to_le 8 time)) (overwrite-inside buffer image index_offset_at (to_le 8 o) (omega (arith, length-to_le 8 o)) k)
+    ∙ overwrite-inside buffer once last_written_at (to_le 8 time) (omega (arith, length-to_le 8 time)) (omega arith)
 
 -- ---- the first n bytes of a buffer whose header was set
-pub indexOffset-set : (l : List ℕ) (n o time : ℕ) → headerLength ≤ n → n ≤ length l → o < 256 ^ 8 → indexOffset (take n (setHeader l o time)) ≡ o
-unfolding indexOffset
-indexOffset-set l n o time h k b =
-    let long : headerLength ≤ length l = omega arith in
-    holds-number (take n (setHeader l o time)) indexOffsetAt 8 o
-    (holds-take (setHeader l o time) n indexOffsetAt (toLe 8 o) (setHeader-holds l o time long) (omega (arith, length-toLe 8 o))) b
+pub index_offset-set : (l : List ℕ) (n o time : ℕ) → header_length ≤ n → n ≤ length l → o < 256 ^ 8 → index_offset (take n (set_header l o time)) ≡ o
+unfolding index_offset
+index_offset-set l n o time h k b =
+    let long : header_length ≤ length l = omega arith in
+    holds-number (take n (set_header l o time)) index_offset_at 8 o
+    (holds-take (set_header l o time) n index_offset_at (to_le 8 o) (set_header-holds l o time long) (omega (arith, length-to_le 8 o))) b
 
-pub agree-set : (l : List ℕ) (n o time : ℕ) → n ≤ length l → Agree (take n l) (take n (setHeader l o time))
+pub agree-set : (l : List ℕ) (n o time : ℕ) → n ≤ length l → Agree (take n l) (take n (set_header l o time))
 agree-set l n o time k =
     let ln : length (take n l) ≡ n = length-take-le n l k in
-    let lm : length (setHeader l o time) ≡ length l = length-setHeader l o time in
+    let lm : length (set_header l o time) ≡ length l = length-set_header l o time in
     record {
       longer = simp length-take (omega arith);
-      bytes = λ p b c. get_or-take n l p 0 (omega arith) ∙ sym (setHeader-kept l o time p b) ∙ sym (get_or-take n (setHeader l o time) p 0 (omega arith));
+      bytes = λ p b c. get_or-take n l p 0 (omega arith) ∙ sym (set_header-kept l o time p b) ∙ sym (get_or-take n (set_header l o time) p 0 (omega arith));
     }
 
 -- ---- an image to which a run was appended, and whose header was then set
@@ -141,10 +141,10 @@ module _ (l : List ℕ) (used : ℕ) (run : List ℕ) (o time : ℕ) where
   longer = overwrite l used run
 
   abbrev after : List ℕ
-  after = setHeader longer o time
+  after = set_header longer o time
 
   pub length-appended : length after ≡ length l
-  length-appended = length-setHeader longer o time ∙ length-overwrite l used run
+  length-appended = length-set_header longer o time ∙ length-overwrite l used run
 
   pub agree-append : used + length run ≤ length l → Agree (take used l) (take (used + length run) after)
   agree-append fits =
@@ -152,12 +152,12 @@ module _ (l : List ℕ) (used : ℕ) (run : List ℕ) (o time : ℕ) where
       record {
         longer = simp length-take (omega (arith, length-appended));
         bytes = λ p b c.
-            get_or-take used l p 0 (omega arith) ∙ sym (setHeader-kept longer o time p b ∙ getD-off l used run p (inl (omega arith)))
+            get_or-take used l p 0 (omega arith) ∙ sym (set_header-kept longer o time p b ∙ get_or-off l used run p (inl (omega arith)))
             ∙ sym (get_or-take (used + length run) after p 0 (omega arith));
       }
 
-  pub holds-appended : used + length run ≤ length l → headerLength ≤ used → Holds (take (used + length run) after) used run
+  pub holds-appended : used + length run ≤ length l → header_length ≤ used → Holds (take (used + length run) after) used run
   holds-appended fits low =
       let h : Holds longer used run = holds-overwrite l used run fits in
       holds-take after (used + length run) used run
-      (record { fits = omega (arith, length-appended); there = λ i b. setHeader-kept longer o time (used + i) (inr (omega arith)) ∙ h.there i b }) (le_refl _)
+      (record { fits = omega (arith, length-appended); there = λ i b. set_header-kept longer o time (used + i) (inr (omega arith)) ∙ h.there i b }) (le_refl _)

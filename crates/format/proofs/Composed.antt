@@ -8,16 +8,16 @@ use lib.ListN.{length, length-append, length-map}
 use lib.IntN.{ℤ, pos}
 use Rattle.format.specs.declared.TableKind.TheVariants.{First}
 use Rattle.format.specs.Lists.{Any}
-use Rattle.format.specs.Layouts.{DDT*, indexOffset, entries, userDataEntry, tableCount}
-use Rattle.format.specs.Opening.{Opened, openedAs, opened}
+use Rattle.format.specs.Layouts.{DDT*, index_offset, entries, user_data_entry, table_count}
+use Rattle.format.specs.Opening.{Opened, opened_as, opened}
 use Rattle.format.specs.Writing.{placed}
-use Rattle.format.specs.Creating.{createdIndexAt, createdUsed, createdEntries}
-use Rattle.format.specs.Committing.{entryNumbers, pieces, Appended, appended, indexStart, usedAfter}
-use Rattle.format.specs.Facts.{OpensWith, Stores, all, again, new, Reindexed, replaced, end, blockLengthFor}
-use Rattle.format.specs.Demands.{Held, Additions, newEntries, newImage}
+use Rattle.format.specs.Creating.{created_index_at, created_used, created_entries}
+use Rattle.format.specs.Committing.{entry_numbers, pieces, Appended, appended, index_start, used_after}
+use Rattle.format.specs.Facts.{OpensWith, Stores, all, again, new, Reindexed, replaced, end, block_length_for}
+use Rattle.format.specs.Demands.{Held, Additions, new_entries, new_image}
 use Rattle.format.proofs.Checks.{created-used, Sound}
 use Rattle.format.proofs.Opens.{opened-as, writable-with}
-use Rattle.format.proofs.Composing.{made, made-offset, made-sound, made-opened, made-entries, made-empty, made-numbers, Composable, added, composedUsed, composedIndex}
+use Rattle.format.proofs.Composing.{made, made-offset, made-sound, made-opened, made-entries, made-empty, made-numbers, Composable, added, composed_used, composed_index}
 use Rattle.format.proofs.Created.{length-new}
 use Rattle.format.proofs.Storing.{length-pieces}
 use Rattle.format.proofs.Bytes.{tag-bytes}
@@ -51,8 +51,8 @@ pub record Storable (handed : List (List ℕ)) : Type 0 where
   pub stores : Stores (λ (d : List ℕ). ⊥) [] handed stored
 
 image-some : (count size : ℕ) (stored : List (List ℕ)) → 0 < length stored
-    → newImage count size stored ≡ placed (189 + 8 * count + (36 + length stored * size) + (49 + 8 * count) + (20 + 16 * 2)) (189 + 8 * count + (36 + length stored * size) + (49 + 8 * count))
-unfolding newImage
+    → new_image count size stored ≡ placed (189 + 8 * count + (36 + length stored * size) + (49 + 8 * count) + (20 + 16 * 2)) (189 + 8 * count + (36 + length stored * size) + (49 + 8 * count))
+unfolding new_image
 image-some count size [] h = absurd (omega arith)
 image-some count size (d ∷ stored) h = refl
 
@@ -62,17 +62,17 @@ module _ (buffer : List ℕ) (count : ℕ) (numbers : List ℕ) (size : ℕ) (se
   abbrev disc : List ℕ
   disc = made count application major minor mediaType creationTime lastWrittenTime
 
-  offset-is : indexOffset disc ≡ createdIndexAt count
+  offset-is : index_offset disc ≡ created_index_at count
   offset-is = made-offset count application major minor mediaType creationTime lastWrittenTime k.sized k.most
 
-  s : Sound disc (indexOffset disc)
+  s : Sound disc (index_offset disc)
   s = rw offset-is (made-sound count application major minor mediaType creationTime lastWrittenTime k.sized k.most)
 
   held_none : (d : List ℕ) → Held disc d ↔ ⊥
   held_none d = (made-empty count application major minor mediaType creationTime lastWrittenTime k.sized k.most d, absurd)
 
   abbrev used₀ : ℕ
-  used₀ = createdUsed count
+  used₀ = created_used count
 
   abbrev addresses₀ : List ℤ
   addresses₀ = map pos numbers
@@ -86,28 +86,28 @@ module _ (buffer : List ℕ) (count : ℕ) (numbers : List ℕ) (size : ℕ) (se
   whole : length sectors ≡ length addresses₀ * size
   whole = k.whole ∙ ap (λ n. n * size) (sym many)
 
-  opens : OpensWith disc (indexOffset disc) First
-  opens = (writable-with disc (indexOffset disc)).0 (record { opens = s.opens; first = s.first })
+  opens : OpensWith disc (index_offset disc) First
+  opens = (writable-with disc (index_offset disc)).0 (record { opens = s.opens; first = s.first })
 
-  table-count : tableCount disc First opens.table ≡ count
-  unfolding openedAs
+  table-count : table_count disc First opens.table ≡ count
+  unfolding opened_as
   table-count =
-      sym (ap (λ (u : Opened). u.count) (opened-as disc (indexOffset disc) First opens.table opens.opens))
+      sym (ap (λ (u : Opened). u.count) (opened-as disc (index_offset disc) First opens.table opens.opens))
       ∙ ap (λ (u : Opened). u.count) (ap (opened disc) offset-is ∙ made-opened count application major minor mediaType creationTime lastWrittenTime k.sized k.most)
 
-  entries-are : entries disc (indexOffset disc) ≡ createdEntries
+  entries-are : entries disc (index_offset disc) ≡ created_entries
   entries-are = ap (entries disc) offset-is ∙ made-entries count application major minor mediaType creationTime lastWrittenTime k.sized k.most
 
-  kept-one : (table : ℕ) → Reindexed table (entries disc (indexOffset disc)) (userDataEntry DDT* table ∷ [])
-  kept-one table = rw entries-are (replaced (record { type = tag-bytes DDT* tt; userData = refl }) end)
+  kept-one : (table : ℕ) → Reindexed table (entries disc (index_offset disc)) (user_data_entry DDT* table ∷ [])
+  kept-one table = rw entries-are (replaced (record { type = tag-bytes DDT* tt; user_data = refl }) end)
 
-  two-entries : (a : Additions disc used₀ size (pieces (length addresses₀) size sectors)) → 0 < length a.stored → length (newEntries a) ≡ 2
+  two-entries : (a : Additions disc used₀ size (pieces (length addresses₀) size sectors)) → 0 < length a.stored → length (new_entries a) ≡ 2
   two-entries a h =
-      let t : ℕ = used₀ + blockLengthFor (length a.stored) size in
-      let one : a.kept ≡ userDataEntry DDT* t ∷ [] = sym (reindexed-back t _ a.kept a.keeps) ∙ reindexed-back t _ _ (kept-one t) in
+      let t : ℕ = used₀ + block_length_for (length a.stored) size in
+      let one : a.kept ≡ user_data_entry DDT* t ∷ [] = sym (reindexed-back t _ a.kept a.keeps) ∙ reindexed-back t _ _ (kept-one t) in
       length-append a.kept _ ∙ (λ j. length (one j) + length (entry-some used₀ (length a.stored) (λ e. omega arith) j))
 
-  added_is : appended disc (indexOffset disc) (entryNumbers (opened disc (indexOffset disc)) addresses₀) size sectors ≡ added buffer count numbers size sectors application major minor mediaType creationTime lastWrittenTime
+  added_is : appended disc (index_offset disc) (entry_numbers (opened disc (index_offset disc)) addresses₀) size sectors ≡ added buffer count numbers size sectors application major minor mediaType creationTime lastWrittenTime
   added_is = rw (offset-is, made-numbers count application major minor mediaType creationTime lastWrittenTime k.sized k.most k.inside) refl
 
   -- the sectors that are stored
@@ -124,8 +124,8 @@ module _ (buffer : List ℕ) (count : ℕ) (numbers : List ℕ) (size : ℕ) (se
 
   -- where it ends, by these
   pub composed-ends : (stored : List (List ℕ)) → Storing stored
-      → placed (composedUsed buffer count numbers size sectors application major minor mediaType creationTime lastWrittenTime) (composedIndex buffer count numbers size sectors application major minor mediaType creationTime lastWrittenTime)
-      ≡ newImage count size stored
+      → placed (composed_used buffer count numbers size sectors application major minor mediaType creationTime lastWrittenTime) (composed_index buffer count numbers size sectors application major minor mediaType creationTime lastWrittenTime)
+      ≡ new_image count size stored
   composed-ends stored r =
       let h = some_stored stored r in
       let a : Additions disc used₀ size (pieces (length addresses₀) size sectors) =
@@ -136,7 +136,7 @@ module _ (buffer : List ℕ) (count : ℕ) (numbers : List ℕ) (size : ℕ) (se
         keeps = kept-one _;
       } in
       let at : ℕ = 189 + 8 * count + (36 + length stored * size) + (49 + 8 * count) in
-      ap (λ (x : Appended). placed (usedAfter used₀ x) (indexStart used₀ x)) (sym added_is)
+      ap (λ (x : Appended). placed (used_after used₀ x) (index_start used₀ x)) (sym added_is)
       ∙ ends_at disc s used₀ long addresses₀ size sectors whole opens.table opens.opens a (placed (at + (20 + 16 * 2)) at)
       (rw (table-count, length_some (length stored) size (λ z. omega arith), created-used count) refl) (ap (λ n. at + (20 + 16 * n)) (sym (two-entries a h)))
       ∙ sym (image-some count size stored h)

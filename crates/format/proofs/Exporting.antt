@@ -15,40 +15,40 @@ use Rattle.format.specs.declared.Flat.{Flat}
 use Rattle.format.specs.declared.Verdict.{Verdict}
 use Rattle.format.specs.declared.Verdict.TheVariants.{Passes, Refuses}
 use Rattle.format.specs.Tests.{below}
-use Rattle.format.specs.Lists.{All, ofEach, Counts}
-use Rattle.format.specs.Refusals.{refusal, ◌then◌, firstRefusal, Answer, refused, accepted}
-use Rattle.format.specs.Layouts.{indexOffset, entries}
-use Rattle.format.specs.Opening.{Opened, opened, openVerdict, range_of, sectorCount}
-use Rattle.format.specs.Reading.{displaced, notWritten, pointerAt, place_of, itemBytes, sectorVerdict, readAt, read}
+use Rattle.format.specs.Lists.{All, of_each, Counts}
+use Rattle.format.specs.Refusals.{refusal, ◌then◌, first_refusal, Answer, refused, accepted}
+use Rattle.format.specs.Layouts.{index_offset, entries}
+use Rattle.format.specs.Opening.{Opened, opened, open_verdict, range_of, sector_count}
+use Rattle.format.specs.Reading.{displaced, not_written, pointer_at, place_of, item_bytes, sector_verdict, read_at, read}
 use Rattle.format.specs.Writing.{outcome}
-use Rattle.format.specs.Committing.{pieces, sectorsVerdict}
-use Rattle.format.specs.Exporting.{size_at, sizeFrom, flatSize, piece_at, flatFile, gapCount, sizeVerdict, fileVerdict, exactVerdict, exportVerdict, exportExact, flat, export}
-use Rattle.format.specs.Demands.{FlatBy, FlatFile, FlatExporting, Missing, SectorOrZeros, FilledFile, FilledExporting, noneFilled, RulesAgree}
+use Rattle.format.specs.Committing.{pieces, sectors_verdict}
+use Rattle.format.specs.Exporting.{size_at, size_from, flat_size, piece_at, flat_file, gap_count, size_verdict, file_verdict, exact_verdict, export_verdict, export_exact, flat, export}
+use Rattle.format.specs.Demands.{FlatBy, FlatFile, FlatExporting, Missing, SectorOrZeros, FilledFile, FilledExporting, none_filled, RulesAgree}
 use Rattle.format.proofs.Tests.{on-or-off, never, off_rest, not_iff, below_on, below-iff, same-iff, differs-iff, and-iff, choose-true, choose-false, choose-cases}
-use Rattle.format.proofs.Refusals.{row-iff, then-iff, then-rest, then-stays, passes-or, firstRefusal-iff, firstRefusal-same, gives, answer-passes, answer-accepted, answer-refused}
-use Rattle.format.proofs.Lists.{Sized, length-flatten, length-ofEach, getD-ofEach, all-ofEach, ofEach-is, howMany-counts, howMany-none}
+use Rattle.format.proofs.Refusals.{row-iff, then-iff, then-rest, then-stays, passes-or, first_refusal-iff, first_refusal-same, gives, answer-passes, answer-accepted, answer-refused}
+use Rattle.format.proofs.Lists.{Sized, length-flatten, length-of_each, get_or-of_each, all-of_each, of_each-is, how_many-counts, how_many-none}
 use Rattle.format.proofs.Numbers.{Numbered, address-displaced, past-outside, below-outside}
-use Rattle.format.proofs.Checks.{facts, OpenOk, open-ok, SectorOk, sector-ok, AddressOk, address-ok, gives-21, keeps-others, item-inside, entryRead, entry-21, entry-bytes, read-20, read-numbered}
-use Rattle.format.proofs.Storing.{getD-pieces, length-pieces, flatten-pieces, pieces-flatten}
+use Rattle.format.proofs.Checks.{facts, OpenOk, open-ok, SectorOk, sector-ok, AddressOk, address-ok, gives-21, keeps-others, item-inside, entry_read, entry-21, entry-bytes, read-20, read-numbered}
+use Rattle.format.proofs.Storing.{get_or-pieces, length-pieces, flatten-pieces, pieces-flatten}
 use Rattle.format.proofs.Buffers.{outcome-accepted, outcome-passes}
 
 -- ---- the checks
 -- table entry n is not written, or its sector has the size of the lowest written one
 abbrev pub SizeOk : List ℕ → Opened → ℕ → Type 0
-SizeOk img t n = (notWritten img t n ≡ true) ⊎ (size_at img t n ≡ flatSize img t)
+SizeOk img t n = (not_written img t n ≡ true) ⊎ (size_at img t n ≡ flat_size img t)
 
-pub size_ok : (img : List ℕ) (t : Opened) (n : ℕ) → (sizeVerdict img t n ≡ Passes) ↔ SizeOk img t n
-unfolding sizeVerdict
+pub size_ok : (img : List ℕ) (t : Opened) (n : ℕ) → (size_verdict img t n ≡ Passes) ↔ SizeOk img t n
+unfolding size_verdict
 size_ok img t n = row-iff _ (and-iff not_iff differs-iff)
 
 pub record FileOk (img : List ℕ) (t : Opened) (out : List ℕ) : Type 0 where
   pub sizes : (n : ℕ) → n < t.count → SizeOk img t n
-  pub room : length (flatFile img t) ≤ length out
+  pub room : length (flat_file img t) ≤ length out
 
-file-ok : (img : List ℕ) (t : Opened) (out : List ℕ) → (fileVerdict img t out ≡ Passes) ↔ FileOk img t out
-unfolding fileVerdict
+file-ok : (img : List ℕ) (t : Opened) (out : List ℕ) → (file_verdict img t out ≡ Passes) ↔ FileOk img t out
+unfolding file_verdict
 file-ok img t out =
-    facts (then-iff (firstRefusal-iff t.count _ 0 (omega arith) (λ n h. size_ok img t n)) (row-iff _ below-iff))
+    facts (then-iff (first_refusal-iff t.count _ 0 (omega arith) (λ n h. size_ok img t n)) (row-iff _ below-iff))
     (λ (a, b). record { sizes = λ n h. a n (omega arith) h; room = b }) (λ k. (λ n l h. k.sizes n h, k.room))
 
 pub record ExactSound (img : List ℕ) (o : ℕ) (out : List ℕ) : Type 0 where
@@ -56,44 +56,44 @@ pub record ExactSound (img : List ℕ) (o : ℕ) (out : List ℕ) : Type 0 where
   pub sectors : (n : ℕ) → n < (opened img o).count → SectorOk img (entries img o) (opened img o) n
   pub file : FileOk img (opened img o) out
 
-pub exact-ok : (img : List ℕ) (o : ℕ) (out : List ℕ) → (exactVerdict img o out ≡ Passes) ↔ ExactSound img o out
-unfolding exactVerdict
+pub exact-ok : (img : List ℕ) (o : ℕ) (out : List ℕ) → (exact_verdict img o out ≡ Passes) ↔ ExactSound img o out
+unfolding exact_verdict
 exact-ok img o out =
     let t : Opened = opened img o in
     facts
-    (then-iff (open-ok img o) (then-iff (firstRefusal-iff t.count _ 0 (omega arith) (λ n h. sector-ok img (entries img o) t n)) (file-ok img t out)))
+    (then-iff (open-ok img o) (then-iff (first_refusal-iff t.count _ 0 (omega arith) (λ n h. sector-ok img (entries img o) t n)) (file-ok img t out)))
     (λ (a, (b, c)). record { opens = a; sectors = λ n h. b n (omega arith) h; file = c }) (λ k. (k.opens, (λ n l h. k.sectors n h, k.file)))
 
 pub record ExportSound (img : List ℕ) (o : ℕ) (out : List ℕ) : Type 0 where
   pub opens : OpenOk img o
   pub sectors : (n : ℕ) → n < (opened img o).count → AddressOk img o n
-  pub some : ((opened img o).count ≡ 0) ⊎ (gapCount img (opened img o) ≢ (opened img o).count)
+  pub some : ((opened img o).count ≡ 0) ⊎ (gap_count img (opened img o) ≢ (opened img o).count)
   pub file : FileOk img (opened img o) out
 
-pub export_ok : (img : List ℕ) (o : ℕ) (out : List ℕ) → (exportVerdict img o out ≡ Passes) ↔ ExportSound img o out
-unfolding exportVerdict sectorsVerdict
+pub export_ok : (img : List ℕ) (o : ℕ) (out : List ℕ) → (export_verdict img o out ≡ Passes) ↔ ExportSound img o out
+unfolding export_verdict sectors_verdict
 export_ok img o out =
     let t : Opened = opened img o in
     facts
     (then-iff (open-ok img o)
-    (then-iff (firstRefusal-iff t.count _ 0 (omega arith) (λ n h. address-ok img (entries img o) t n))
+    (then-iff (first_refusal-iff t.count _ 0 (omega arith) (λ n h. address-ok img (entries img o) t n))
     (then-iff (row-iff _ (and-iff differs-iff same-iff)) (file-ok img t out))))
     (λ (a, (b, (c, d))). record { opens = a; sectors = λ n h. b n (omega arith) h; some = c; file = d })
     (λ k. (k.opens, (λ n l h. k.sectors n h, (k.some, k.file))))
 
 -- of the buffer they look at the length alone
-pub verdict-alike : (img : List ℕ) (o : ℕ) (one other : List ℕ) → length one ≡ length other → exactVerdict img o one ≡ exactVerdict img o other
-unfolding exactVerdict fileVerdict
+pub verdict-alike : (img : List ℕ) (o : ℕ) (one other : List ℕ) → length one ≡ length other → exact_verdict img o one ≡ exact_verdict img o other
+unfolding exact_verdict file_verdict
 verdict-alike img o one other e = rw e refl
 
 -- ---- one sector
 module _ (img : List ℕ) (o n : ℕ) where
-  sector-length : SectorOk img (entries img o) (opened img o) n → length (itemBytes img (pointerAt img (opened img o) n)) ≡ size_at img (opened img o) n
-  unfolding itemBytes place_of size_at
+  sector-length : SectorOk img (entries img o) (opened img o) n → length (item_bytes img (pointer_at img (opened img o) n)) ≡ size_at img (opened img o) n
+  unfolding item_bytes place_of size_at
   sector-length k = length_part img _ _ (omega (arith, item-inside _ _ _ k.item, k.item.block.fits))
 
   -- where it is good, its piece is what a read gives
-  piece-read : SectorOk img (entries img o) (opened img o) n → entryRead img o n ≡ accepted (piece_at img (opened img o) n)
+  piece-read : SectorOk img (entries img o) (opened img o) n → entry_read img o n ≡ accepted (piece_at img (opened img o) n)
   unfolding piece_at
   piece-read k = entry-bytes img o n k ∙ ap accepted (sym (choose-false _ _ _ k.written))
 
@@ -104,21 +104,21 @@ module _ (img : List ℕ) (o n : ℕ) where
 
 -- ---- where every written sector of the k from n on has this size, it is that of the first written one, unless none is written
 pub size-or-none : (img : List ℕ) (t : Opened) (size k n : ℕ)
-    → ((m : ℕ) → n ≤ m → m < n + k → notWritten img t m ≡ false → size_at img t m ≡ size)
-    → (sizeFrom img t k n ≡ size) ⊎ ((m : ℕ) → n ≤ m → m < n + k → notWritten img t m ≡ true)
-unfolding sizeFrom
+    → ((m : ℕ) → n ≤ m → m < n + k → not_written img t m ≡ false → size_at img t m ≡ size)
+    → (size_from img t k n ≡ size) ⊎ ((m : ℕ) → n ≤ m → m < n + k → not_written img t m ≡ true)
+unfolding size_from
 size-or-none img t size zero n h = inr (λ m l b. absurd (omega arith))
 size-or-none img t size (suc k) n h =
-    choose-cases (λ s. (s ≡ size) ⊎ ((m : ℕ) → n ≤ m → m < n + suc k → notWritten img t m ≡ true)) (notWritten img t n) _ _
+    choose-cases (λ s. (s ≡ size) ⊎ ((m : ℕ) → n ≤ m → m < n + suc k → not_written img t m ≡ true)) (not_written img t n) _ _
     (λ e.
     ⊎_elim inl
-    (λ none. inr (λ m l b. ⊎_elim (λ q. subst (λ j. notWritten img t j ≡ true) q e) (λ q. none m q (omega arith)) (eq-or-lt_of_le l)))
+    (λ none. inr (λ m l b. ⊎_elim (λ q. subst (λ j. not_written img t j ≡ true) q e) (λ q. none m q (omega arith)) (eq-or-lt_of_le l)))
     (size-or-none img t size k (suc n) (λ m l b. h m (omega arith) (omega arith))))
     (λ e. inl (h n (omega arith) (omega arith) e))
 
-pub flat-size : (img : List ℕ) (t : Opened) (size : ℕ) → ((m : ℕ) → m < t.count → notWritten img t m ≡ false → size_at img t m ≡ size)
-    → (n : ℕ) → n < t.count → notWritten img t n ≡ false → flatSize img t ≡ size
-unfolding flatSize
+pub flat-size : (img : List ℕ) (t : Opened) (size : ℕ) → ((m : ℕ) → m < t.count → not_written img t m ≡ false → size_at img t m ≡ size)
+    → (n : ℕ) → n < t.count → not_written img t n ≡ false → flat_size img t ≡ size
+unfolding flat_size
 flat-size img t size h n b w =
     ⊎_elim (λ q. q) (λ none. absurd (never (none n (omega arith) (omega arith)) w)) (size-or-none img t size t.count 0 (λ m l c. h m (omega arith)))
 
@@ -129,37 +129,37 @@ module _ (img : List ℕ) (o : ℕ) (sectors : (n : ℕ) → n < (opened img o).
   t = opened img o
 
   abbrev all : List (List ℕ)
-  all = ofEach (piece_at img t) t.count 0
+  all = of_each (piece_at img t) t.count 0
 
-  pub piece-length : (n : ℕ) → n < t.count → length (piece_at img t n) ≡ flatSize img t
+  pub piece-length : (n : ℕ) → n < t.count → length (piece_at img t n) ≡ flat_size img t
   unfolding piece_at
   piece-length n h =
-      choose-cases (λ (l : List ℕ). length l ≡ flatSize img t) (notWritten img t n) _ _ (λ e. length-replicate {A = ℕ} (flatSize img t) 0)
+      choose-cases (λ (l : List ℕ). length l ≡ flat_size img t) (not_written img t n) _ _ (λ e. length-replicate {A = ℕ} (flat_size img t) 0)
       (λ e. sector-length img o n (off_rest e (sectors n h)) ∙ off_rest e (sizes n h))
 
-  all-sized : All (Sized (flatSize img t)) all
-  all-sized = all-ofEach (piece_at img t) t.count 0 (λ n l h. piece-length n (omega arith))
+  all-sized : All (Sized (flat_size img t)) all
+  all-sized = all-of_each (piece_at img t) t.count 0 (λ n l h. piece-length n (omega arith))
 
-  pub file-length : length (flatFile img t) ≡ t.count * flatSize img t
-  unfolding flatFile
-  file-length = length-flatten (flatSize img t) all all-sized ∙ ap (λ n. n * flatSize img t) (length-ofEach (piece_at img t) t.count 0)
+  pub file-length : length (flat_file img t) ≡ t.count * flat_size img t
+  unfolding flat_file
+  file-length = length-flatten (flat_size img t) all all-sized ∙ ap (λ n. n * flat_size img t) (length-of_each (piece_at img t) t.count 0)
 
-  file-part : (n : ℕ) → n < t.count → part (flatFile img t) (n * flatSize img t) (flatSize img t) ≡ piece_at img t n
-  unfolding flatFile
+  file-part : (n : ℕ) → n < t.count → part (flat_file img t) (n * flat_size img t) (flat_size img t) ≡ piece_at img t n
+  unfolding flat_file
   file-part n h =
-      let l : length all ≡ t.count = length-ofEach (piece_at img t) t.count 0 in
-      sym (getD-pieces (length all) (flatSize img t) (flatten all) n (omega arith))
+      let l : length all ≡ t.count = length-of_each (piece_at img t) t.count 0 in
+      sym (get_or-pieces (length all) (flat_size img t) (flatten all) n (omega arith))
       ∙ ap (λ (ls : List (List ℕ)). get_or ls n [])
-      (ap (pieces (length all) (flatSize img t)) (sym (append-nil (flatten all))) ∙ pieces-flatten (flatSize img t) all [] all-sized)
-      ∙ getD-ofEach (piece_at img t) [] t.count 0 n h ∙ ap (piece_at img t) (zero-add n)
+      (ap (pieces (length all) (flat_size img t)) (sym (append-nil (flatten all))) ∙ pieces-flatten (flat_size img t) all [] all-sized)
+      ∙ get_or-of_each (piece_at img t) [] t.count 0 n h ∙ ap (piece_at img t) (zero-add n)
 
 -- by what a read answers
-flat-by : (Stands : Answer (List ℕ) → List ℕ → Type 0) (img : List ℕ) → let o = indexOffset img in let t = opened img o in
+flat-by : (Stands : Answer (List ℕ) → List ℕ → Type 0) (img : List ℕ) → let o = index_offset img in let t = opened img o in
     OpenOk img o → ((n : ℕ) → n < t.count → AddressOk img o n) → ((n : ℕ) → n < t.count → SizeOk img t n)
-    → ((n : ℕ) → n < t.count → Stands (entryRead img o n) (piece_at img t n)) → FlatBy Stands img (flatFile img t) (flatSize img t)
-unfolding sectorCount read range_of
+    → ((n : ℕ) → n < t.count → Stands (entry_read img o n) (piece_at img t n)) → FlatBy Stands img (flat_file img t) (flat_size img t)
+unfolding sector_count read range_of
 flat-by Stands img opens sectors sizes stands =
-    let o : ℕ = indexOffset img in
+    let o : ℕ = index_offset img in
     record {
       range = range_of (opened img o);
       sectors = answer-passes _ _ ((open-ok img o).1 opens);
@@ -173,42 +173,42 @@ unfolding part
 front file out h = part_same out 0 (length file) file refl (omega arith)
 
 -- ---- 4/13's rule: an image whose every sector passes, all of one size, has this flat file
-flat-forth : (img out : List ℕ) → ExactSound img (indexOffset img) out
-    → FlatFile img (flatFile img (opened img (indexOffset img))) (flatSize img (opened img (indexOffset img)))
+flat-forth : (img out : List ℕ) → ExactSound img (index_offset img) out
+    → FlatFile img (flat_file img (opened img (index_offset img))) (flat_size img (opened img (index_offset img)))
 flat-forth img out k =
     flat-by (λ answer piece. answer ≡ accepted piece) img k.opens (λ n h. inr (k.sectors n h)) k.file.sizes (λ n h. piece-read img _ n (k.sectors n h))
 
 pub flat-exporting : FlatExporting
-unfolding exportExact
+unfolding export_exact
 flat-exporting img out n e =
     let r = outcome-accepted _ _ _ _ n e in
-    let k = (exact-ok img (indexOffset img) out).0 r.passes in
-    let is = front (flatFile img (opened img (indexOffset img))) out k.file.room in
-    rw (r.buffer, ← r.answer) (record { size = flatSize img (opened img (indexOffset img)); file = rw is (flat-forth img out k) })
+    let k = (exact-ok img (index_offset img) out).0 r.passes in
+    let is = front (flat_file img (opened img (index_offset img))) out k.file.room in
+    rw (r.buffer, ← r.answer) (record { size = flat_size img (opened img (index_offset img)); file = rw is (flat-forth img out k) })
 
 -- ---- an image that opens, by its count and its lowest address
-module _ (img : List ℕ) (range : AddressRange) (e : sectorCount img ≡ accepted range) where
-  pub range-opens : OpenOk img (indexOffset img)
-  unfolding sectorCount
+module _ (img : List ℕ) (range : AddressRange) (e : sector_count img ≡ accepted range) where
+  pub range-opens : OpenOk img (index_offset img)
+  unfolding sector_count
   range-opens = (open-ok img _).0 (answer-accepted _ _ range e).0
 
-  range-is : range_of (opened img (indexOffset img)) ≡ range
-  unfolding sectorCount
+  range-is : range_of (opened img (index_offset img)) ≡ range
+  unfolding sector_count
   range-is = (answer-accepted _ _ range e).1
 
-  pub range-count : (opened img (indexOffset img)).count ≡ range.count
+  pub range-count : (opened img (index_offset img)).count ≡ range.count
   unfolding range_of
   range-count = ap (λ (r : AddressRange). r.count) range-is
 
-  pub range-read : (n : ℕ) → n < (opened img (indexOffset img)).count → entryRead img (indexOffset img) n ≡ read img (range.lowest.0 +ℤ pos n)
+  pub range-read : (n : ℕ) → n < (opened img (index_offset img)).count → entry_read img (index_offset img) n ≡ read img (range.lowest.0 +ℤ pos n)
   unfolding read
   range-read n h =
-      sym (read-numbered img _ range-opens _ n (address-numbered img _ n h)) ∙ ap (λ (r : AddressRange). readAt img (indexOffset img) (r.lowest.0 +ℤ pos n)) range-is
+      sym (read-numbered img _ range-opens _ n (address-numbered img _ n h)) ∙ ap (λ (r : AddressRange). read_at img (index_offset img) (r.lowest.0 +ℤ pos n)) range-is
 
 -- ---- and the other way round: where it has a flat file, this is what is exported
 module _ (img file : List ℕ) (size : ℕ) (f : FlatFile img file size) where
   abbrev o : ℕ
-  o = indexOffset img
+  o = index_offset img
 
   abbrev u : Opened
   u = opened img o
@@ -222,11 +222,11 @@ module _ (img file : List ℕ) (size : ℕ) (f : FlatFile img file size) where
   inside : (n : ℕ) → n < u.count → n * size + size ≤ length file
   inside n h = rw f.whole (rw (← suc-mul n size) (mul-le-mul_right size (omega (arith, count-is))))
 
-  entry-is : (n : ℕ) → n < u.count → entryRead img o n ≡ accepted (part file (n * size) size)
+  entry-is : (n : ℕ) → n < u.count → entry_read img o n ≡ accepted (part file (n * size) size)
   entry-is n h = range-read img f.range f.sectors n h ∙ f.each n (omega (arith, count-is))
 
-  sector-is : (n : ℕ) → n < u.count → SectorOk img (entries img o) u n × (itemBytes img (pointerAt img u n) ≡ part file (n * size) size)
-  unfolding entryRead
+  sector-is : (n : ℕ) → n < u.count → SectorOk img (entries img o) u n × (item_bytes img (pointer_at img u n) ≡ part file (n * size) size)
+  unfolding entry_read
   sector-is n h = let r = answer-accepted _ _ _ (entry-is n h) in ((sector-ok img (entries img o) u n).0 r.0, r.1)
 
   piece_is : (n : ℕ) → n < u.count → piece_at img u n ≡ part file (n * size) size
@@ -239,19 +239,19 @@ module _ (img file : List ℕ) (size : ℕ) (f : FlatFile img file size) where
   sized : (n : ℕ) → n < u.count → SizeOk img u n
   sized n h = inr (size_is n h ∙ sym (flat-size img u size (λ m b w. size_is m b) n h (sector-is n h).0.written))
 
-  file-is : flatFile img u ≡ file
-  unfolding flatFile part
+  file-is : flat_file img u ≡ file
+  unfolding flat_file part
   file-is =
       let ps : List (List ℕ) = pieces u.count size file in
       let l : length ps ≡ u.count = length-pieces u.count size file in
-      ap (λ k. flatten (ofEach (piece_at img u) k 0)) (sym l)
+      ap (λ k. flatten (of_each (piece_at img u) k 0)) (sym l)
       ∙ ap flatten
-      (ofEach-is (piece_at img u) [] ps 0
-      (λ n h. ap (piece_at img u) (zero-add n) ∙ piece_is n (omega arith) ∙ sym (getD-pieces u.count size file n (omega arith))))
+      (of_each-is (piece_at img u) [] ps 0
+      (λ n h. ap (piece_at img u) (zero-add n) ∙ piece_is n (omega arith) ∙ sym (get_or-pieces u.count size file n (omega arith))))
       ∙ flatten-pieces u.count size file ∙ ap (λ k. take k file) (ap (λ k. k * size) count-is ∙ sym f.whole) ∙ part-whole file
 
-  pub flat_back : (out : List ℕ) → length file ≤ length out → exportExact img out ≡ record { result = accepted (length file); buffer = overwrite out 0 file }
-  unfolding exportExact
+  pub flat_back : (out : List ℕ) → length file ≤ length out → export_exact img out ≡ record { result = accepted (length file); buffer = overwrite out 0 file }
+  unfolding export_exact
   flat_back out room =
       outcome-passes out _ _ _
       ((exact-ok img o out).1 (record { opens = opens; sectors = λ n h. (sector-is n h).0; file = record { sizes = sized; room = rw file-is room } }))
@@ -286,11 +286,11 @@ flat-alike one other file size f g e (negsuc n) = flat-below one file size f n �
 
 -- ---- 9/13's rule: a table entry is not written exactly if it reads as 21, and then zeros stand for it
 module _ (img : List ℕ) (o n : ℕ) where
-  pub missing-iff : (notWritten img (opened img o) n ≡ true) ↔ Missing (entryRead img o n)
-  unfolding entryRead
+  pub missing-iff : (not_written img (opened img o) n ≡ true) ↔ Missing (entry_read img o n)
+  unfolding entry_read
   missing-iff = (entry-21 img o n, λ m. (gives-21 img (entries img o) (opened img o) n).0 (gives _ (answer-refused _ _ (refusal 21 0) m)))
 
-  piece-stands : AddressOk img o n → SectorOrZeros (flatSize img (opened img o)) (entryRead img o n) (piece_at img (opened img o) n)
+  piece-stands : AddressOk img o n → SectorOrZeros (flat_size img (opened img o)) (entry_read img o n) (piece_at img (opened img o) n)
   unfolding piece_at
   piece-stands = ⊎_elim (λ e. inr (entry-21 img o n e, choose-true _ _ _ e)) (λ q. inl (piece-read img o n q))
 
@@ -302,61 +302,61 @@ filled_of img n after file size e =
     (λ f c. record { size = size; file = f; filled = c })
 
 pub filled-exporting : FilledExporting
-unfolding export read range_of gapCount flat-by
+unfolding export read range_of gap_count flat-by
 filled-exporting img out n e =
-    let o : ℕ = indexOffset img in
+    let o : ℕ = index_offset img in
     let t : Opened = opened img o in
     let r = outcome-accepted _ _ _ _ n e in
     let k = (export_ok img o out).0 r.passes in
     rw (r.buffer, ← r.answer)
-    (filled_of img _ _ (flatFile img t) (flatSize img t) (sym (front (flatFile img t) out k.file.room))
-    (flat-by (SectorOrZeros (flatSize img t)) img k.opens k.sectors k.file.sizes (λ i h. piece-stands img o i (k.sectors i h)))
-    (howMany-counts (notWritten img t) t.count 0
+    (filled_of img _ _ (flat_file img t) (flat_size img t) (sym (front (flat_file img t) out k.file.room))
+    (flat-by (SectorOrZeros (flat_size img t)) img k.opens k.sectors k.file.sizes (λ i h. piece-stands img o i (k.sectors i h)))
+    (how_many-counts (not_written img t) t.count 0
     (λ i l h. rw (read-numbered img o k.opens _ i (address-numbered img o i (omega arith))) (missing-iff img o i))))
 
 -- ---- where nothing is missing, it is 4/13's
 module _ (img out : List ℕ) (no : (a : ℤ) → ¬ Missing (read img a)) where
   abbrev i : ℕ
-  i = indexOffset img
+  i = index_offset img
 
   abbrev v : Opened
   v = opened img i
 
-  all-written : openVerdict img i ≡ Passes → (n : ℕ) → n < v.count → notWritten img v n ≡ false
+  all-written : open_verdict img i ≡ Passes → (n : ℕ) → n < v.count → not_written img v n ≡ false
   unfolding read
   all-written p n h =
       ⊎_elim (λ e. absurd (no _ (read-numbered img i ((open-ok img i).0 p) _ n (address-numbered img i n h) ∙ entry-21 img i n e))) (λ e. e)
-      (on-or-off (notWritten img v n))
+      (on-or-off (not_written img v n))
 
-  no_gaps : openVerdict img i ≡ Passes → gapCount img v ≡ 0
-  unfolding gapCount
-  no_gaps p = howMany-none _ _ 0 (λ n l h. all-written p n (omega arith))
+  no_gaps : open_verdict img i ≡ Passes → gap_count img v ≡ 0
+  unfolding gap_count
+  no_gaps p = how_many-none _ _ 0 (λ n l h. all-written p n (omega arith))
 
-  same-verdict : exportVerdict img i out ≡ exactVerdict img i out
-  unfolding exportVerdict exactVerdict sectorsVerdict
-  same-verdict = ⊎_elim opens (λ p. then-stays _ _ p ∙ sym (then-stays _ _ p)) (passes-or (openVerdict img i))
+  same-verdict : export_verdict img i out ≡ exact_verdict img i out
+  unfolding export_verdict exact_verdict sectors_verdict
+  same-verdict = ⊎_elim opens (λ p. then-stays _ _ p ∙ sym (then-stays _ _ p)) (passes-or (open_verdict img i))
     where
-      opens : openVerdict img i ≡ Passes → exportVerdict img i out ≡ exactVerdict img i out
+      opens : open_verdict img i ≡ Passes → export_verdict img i out ≡ exact_verdict img i out
       opens p =
-          let all : Verdict = firstRefusal (sectorVerdict img (entries img i) v) v.count 0 in
-          let sectors : sectorsVerdict img (entries img i) v ≡ all =
-          firstRefusal-same _ _ v.count 0 (λ n l h. keeps-others _ (λ g. never ((gives-21 img (entries img i) v n).0 g) (all-written p n (omega arith)))) in
+          let all : Verdict = first_refusal (sector_verdict img (entries img i) v) v.count 0 in
+          let sectors : sectors_verdict img (entries img i) v ≡ all =
+          first_refusal-same _ _ v.count 0 (λ n l h. keeps-others _ (λ g. never ((gives-21 img (entries img i) v n).0 g) (all-written p n (omega arith)))) in
           rw sectors
-          (ap (λ (w : Verdict). openVerdict img i then (all then w))
+          (ap (λ (w : Verdict). open_verdict img i then (all then w))
           (then-rest _ _
           ((row-iff (refusal 21 0) (and-iff differs-iff same-iff)).1
           (⊎_elim (λ z. inl (sym z)) (λ z. inr (λ q. omega (arith, no_gaps p))) (eq-or-lt_of_le (omega arith))))))
 
-none_filled : (out : List ℕ) (v : Verdict) (n filled : ℕ) (new : List ℕ) → (v ≡ Passes → filled ≡ 0)
-    → outcome out v (flat n filled) new ≡ record { result = noneFilled (outcome out v n new).result; buffer = (outcome out v n new).buffer }
-unfolding outcome noneFilled
-none_filled out Passes n filled new h = rw (h refl) refl
-none_filled out (Refuses r) n filled new h = refl
+none_filled_lem : (out : List ℕ) (v : Verdict) (n filled : ℕ) (new : List ℕ) → (v ≡ Passes → filled ≡ 0)
+    → outcome out v (flat n filled) new ≡ record { result = none_filled (outcome out v n new).result; buffer = (outcome out v n new).buffer }
+unfolding outcome none_filled
+none_filled_lem out Passes n filled new h = rw (h refl) refl
+none_filled_lem out (Refuses r) n filled new h = refl
 
 pub rules-agree : RulesAgree
-unfolding export exportExact
+unfolding export export_exact
 rules-agree img out none =
-    let o : ℕ = indexOffset img in
-    let file : List ℕ = flatFile img (opened img o) in
-    ap (λ (w : Verdict). outcome out w (flat (length file) (gapCount img (opened img o))) (overwrite out 0 file)) (same-verdict img out none)
-    ∙ none_filled out _ _ _ _ (λ p. no_gaps img out none ((open-ok img o).1 ((exact-ok img o out).0 p).opens))
+    let o : ℕ = index_offset img in
+    let file : List ℕ = flat_file img (opened img o) in
+    ap (λ (w : Verdict). outcome out w (flat (length file) (gap_count img (opened img o))) (overwrite out 0 file)) (same-verdict img out none)
+    ∙ none_filled_lem out _ _ _ _ (λ p. no_gaps img out none ((open-ok img o).1 ((exact-ok img o out).0 p).opens))

@@ -4,9 +4,9 @@ use mathlib.Core.Path.{◌≡◌, sym, ◌∙◌}
 use Prim.Native.Nat.{ℕ, ◌+◌, ◌≤◌}
 use native.Mathlib.Omega.{arith}
 use lib.ListN.{length}
-use Rattle.fields.specs.Bytes.{part, toLe}
+use Rattle.fields.specs.Bytes.{part, to_le}
 use Rattle.format.specs.Lists.{IsBytes}
-use Rattle.format.specs.Layouts.{entryLength, entry_at}
+use Rattle.format.specs.Layouts.{entry_length, entry_at}
 use Rattle.format.specs.Facts.{Identified}
 use Rattle.format.specs.Demands.{LettersTested}
 use Rattle.format.proofs.Checks.{lacks-iff}
@@ -14,7 +14,7 @@ use Rattle.format.proofs.Named.{type-on, type-true}
 use Rattle.format.proofs.Bytes.{field-bytes}
 
 -- an entry's four bytes are those that stand in the image
-entry-bytes : (img : List ℕ) → IsBytes img → (p : ℕ) → p + entryLength ≤ length img → toLe 4 (entry_at img p).blockType ≡ part img p 4
+entry-bytes : (img : List ℕ) → IsBytes img → (p : ℕ) → p + entry_length ≤ length img → to_le 4 (entry_at img p).blockType ≡ part img p 4
 unfolding entry_at
 entry-bytes img h p l = field-bytes h p 4 (omega arith)
 
@@ -23,7 +23,7 @@ unfolding Identified
 letters-tested img h letters =
     record {
       at_place = λ at. lacks-iff img at letters;
-      inEntry = λ p l.
+      in_entry = λ p l.
           let e = entry-bytes img h p l in
           (λ k. sym e ∙ type-on letters (entry_at img p) k, λ k. type-true letters (entry_at img p) (e ∙ k));
     }

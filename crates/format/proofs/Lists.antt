@@ -7,7 +7,7 @@ use Prim.Native.Nat.{ℕ, zero, suc, ◌+◌, ◌*◌, ◌≤◌, ◌<◌}
 use native.Mathlib.Nat.{add-zero, zero-mul, suc-mul, not-suc-le-zero, le_of_suc-le-suc, eq-or-lt_of_le}
 use native.Mathlib.Omega.{arith}
 use lib.ListN.{length, take, drop, get_or, replicate, length-append}
-use Rattle.format.specs.Lists.{All, done, more, ofEach, howMany, Counts, none, one, skipped}
+use Rattle.format.specs.Lists.{All, done, more, of_each, how_many, Counts, none, one, skipped}
 use Rattle.format.proofs.Tests.{on-or-off, never, choose-true, choose-false, choose-cases}
 
 -- ---- no member
@@ -89,69 +89,69 @@ all-flatten (more h hs) = all_append h (all-flatten hs)
 
 -- ---- made of each number
 module _ {A : Type 0} (f : ℕ → A) where
-  pub length-ofEach : (k i : ℕ) → length (ofEach f k i) ≡ k
-  unfolding ofEach
-  length-ofEach zero i = refl
-  length-ofEach (suc k) i = ap suc (length-ofEach k (suc i))
+  pub length-of_each : (k i : ℕ) → length (of_each f k i) ≡ k
+  unfolding of_each
+  length-of_each zero i = refl
+  length-of_each (suc k) i = ap suc (length-of_each k (suc i))
 
-  pub getD-ofEach : (d : A) (k i j : ℕ) → j < k → get_or (ofEach f k i) j d ≡ f (i + j)
-  unfolding ofEach
-  getD-ofEach d zero i j h = absurd (not-suc-le-zero h)
-  getD-ofEach d (suc k) i zero h = ap f (sym (add-zero i))
-  getD-ofEach d (suc k) i (suc j) h =
+  pub get_or-of_each : (d : A) (k i j : ℕ) → j < k → get_or (of_each f k i) j d ≡ f (i + j)
+  unfolding of_each
+  get_or-of_each d zero i j h = absurd (not-suc-le-zero h)
+  get_or-of_each d (suc k) i zero h = ap f (sym (add-zero i))
+  get_or-of_each d (suc k) i (suc j) h =
       let e : suc i + j ≡ i + suc j = omega arith in
-      getD-ofEach d k (suc i) j (le_of_suc-le-suc h) ∙ ap f e
+      get_or-of_each d k (suc i) j (le_of_suc-le-suc h) ∙ ap f e
 
-  pub all-ofEach : {P : A → Type 0} (k i : ℕ) → ((a : ℕ) → i ≤ a → a < i + k → P (f a)) → All P (ofEach f k i)
-  unfolding ofEach
-  all-ofEach zero i h = done
-  all-ofEach (suc k) i h = more (h i (omega arith) (omega arith)) (all-ofEach k (suc i) (λ a l b. h a (omega arith) (omega arith)))
+  pub all-of_each : {P : A → Type 0} (k i : ℕ) → ((a : ℕ) → i ≤ a → a < i + k → P (f a)) → All P (of_each f k i)
+  unfolding of_each
+  all-of_each zero i h = done
+  all-of_each (suc k) i h = more (h i (omega arith) (omega arith)) (all-of_each k (suc i) (λ a l b. h a (omega arith) (omega arith)))
 
   -- a list by its members
-  pub ofEach-is : (d : A) (l : List A) (i : ℕ) → ((j : ℕ) → j < length l → f (i + j) ≡ get_or l j d) → ofEach f (length l) i ≡ l
-  unfolding ofEach
-  ofEach-is d [] i h = refl
-  ofEach-is d (x ∷ l) i h =
+  pub of_each-is : (d : A) (l : List A) (i : ℕ) → ((j : ℕ) → j < length l → f (i + j) ≡ get_or l j d) → of_each f (length l) i ≡ l
+  unfolding of_each
+  of_each-is d [] i h = refl
+  of_each-is d (x ∷ l) i h =
       let e : f i ≡ x = ap f (sym (add-zero i)) ∙ h 0 (omega arith) in
-      let es : ofEach f (length l) (suc i) ≡ l =
-      ofEach-is d l (suc i) (λ j k. let q : suc i + j ≡ i + suc j = omega arith in ap f q ∙ h (suc j) (omega arith)) in
+      let es : of_each f (length l) (suc i) ≡ l =
+      of_each-is d l (suc i) (λ j k. let q : suc i + j ≡ i + suc j = omega arith in ap f q ∙ h (suc j) (omega arith)) in
       λ j. e j ∷ es j
 
 -- ---- how many a test says yes to
 module _ (f : ℕ → Bool) where
-  pub howMany-most : (k i : ℕ) → howMany f k i ≤ k
-  unfolding howMany
-  howMany-most zero i = omega arith
-  howMany-most (suc k) i =
-      choose-cases (λ n. n ≤ suc k) (f i) _ _ (λ e. omega (arith, howMany-most k (suc i))) (λ e. omega (arith, howMany-most k (suc i)))
+  pub how_many-most : (k i : ℕ) → how_many f k i ≤ k
+  unfolding how_many
+  how_many-most zero i = omega arith
+  how_many-most (suc k) i =
+      choose-cases (λ n. n ≤ suc k) (f i) _ _ (λ e. omega (arith, how_many-most k (suc i))) (λ e. omega (arith, how_many-most k (suc i)))
 
   -- to all of them
-  pub howMany-all : (k i : ℕ) → ((a : ℕ) → i ≤ a → a < i + k → f a ≡ true) → howMany f k i ≡ k
-  unfolding howMany
-  howMany-all zero i h = refl
-  howMany-all (suc k) i h = choose-true _ _ _ (h i (omega arith) (omega arith)) ∙ ap suc (howMany-all k (suc i) (λ a l b. h a (omega arith) (omega arith)))
+  pub how_many-all : (k i : ℕ) → ((a : ℕ) → i ≤ a → a < i + k → f a ≡ true) → how_many f k i ≡ k
+  unfolding how_many
+  how_many-all zero i h = refl
+  how_many-all (suc k) i h = choose-true _ _ _ (h i (omega arith) (omega arith)) ∙ ap suc (how_many-all k (suc i) (λ a l b. h a (omega arith) (omega arith)))
 
-  pub howMany-every : (k i : ℕ) → howMany f k i ≡ k → (a : ℕ) → i ≤ a → a < i + k → f a ≡ true
-  unfolding howMany
-  howMany-every zero i e a l b = absurd (omega arith)
-  howMany-every (suc k) i e a l b =
+  pub how_many-every : (k i : ℕ) → how_many f k i ≡ k → (a : ℕ) → i ≤ a → a < i + k → f a ≡ true
+  unfolding how_many
+  how_many-every zero i e a l b = absurd (omega arith)
+  how_many-every (suc k) i e a l b =
       ⊎_elim
       (λ q.
-      ⊎_elim (λ m. ap f (sym m) ∙ q) (λ m. howMany-every k (suc i) (omega (arith, sym (choose-true _ _ _ q) ∙ e)) a m (omega arith)) (eq-or-lt_of_le l))
-      (λ q. absurd (omega (arith, howMany-most k (suc i), sym (choose-false _ _ _ q) ∙ e))) (on-or-off (f i))
+      ⊎_elim (λ m. ap f (sym m) ∙ q) (λ m. how_many-every k (suc i) (omega (arith, sym (choose-true _ _ _ q) ∙ e)) a m (omega arith)) (eq-or-lt_of_le l))
+      (λ q. absurd (omega (arith, how_many-most k (suc i), sym (choose-false _ _ _ q) ∙ e))) (on-or-off (f i))
 
   -- the same of what is so exactly if the test says yes
   module _ {P : ℕ → Type 0} where
-    pub howMany-counts : (k i : ℕ) → ((a : ℕ) → i ≤ a → a < i + k → (f a ≡ true) ↔ P a) → Counts P k i (howMany f k i)
-    unfolding howMany
-    howMany-counts zero i h = none
-    howMany-counts (suc k) i h =
-        let rest = howMany-counts k (suc i) (λ a l b. h a (omega arith) (omega arith)) in
+    pub how_many-counts : (k i : ℕ) → ((a : ℕ) → i ≤ a → a < i + k → (f a ≡ true) ↔ P a) → Counts P k i (how_many f k i)
+    unfolding how_many
+    how_many-counts zero i h = none
+    how_many-counts (suc k) i h =
+        let rest = how_many-counts k (suc i) (λ a l b. h a (omega arith) (omega arith)) in
         let here = h i (omega arith) (omega arith) in
         choose-cases (Counts P (suc k) i) (f i) _ _ (λ e. one (here.0 e) rest) (λ e. skipped (λ p. never (here.1 p) e) rest)
 
-    pub counts-is : (k i n : ℕ) → ((a : ℕ) → i ≤ a → a < i + k → (f a ≡ true) ↔ P a) → Counts P k i n → howMany f k i ≡ n
-    unfolding howMany
+    pub counts-is : (k i n : ℕ) → ((a : ℕ) → i ≤ a → a < i + k → (f a ≡ true) ↔ P a) → Counts P k i n → how_many f k i ≡ n
+    unfolding how_many
     counts-is _ i _ h none = refl
     counts-is _ i _ h (one {k = k} {n = n} p c) =
         choose-true _ _ _ ((h i (omega arith) (omega arith)).1 p) ∙ ap suc (counts-is k (suc i) n (λ a l b. h a (omega arith) (omega arith)) c)
@@ -160,7 +160,7 @@ module _ (f : ℕ → Bool) where
         ∙ counts-is k (suc i) n (λ a l b. h a (omega arith) (omega arith)) c
 
 -- to none of them
-pub howMany-none : (f : ℕ → Bool) (k i : ℕ) → ((a : ℕ) → i ≤ a → a < i + k → f a ≡ false) → howMany f k i ≡ 0
-unfolding howMany
-howMany-none f zero i h = refl
-howMany-none f (suc k) i h = choose-false _ _ _ (h i (omega arith) (omega arith)) ∙ howMany-none f k (suc i) (λ a l b. h a (omega arith) (omega arith))
+pub how_many-none : (f : ℕ → Bool) (k i : ℕ) → ((a : ℕ) → i ≤ a → a < i + k → f a ≡ false) → how_many f k i ≡ 0
+unfolding how_many
+how_many-none f zero i h = refl
+how_many-none f (suc k) i h = choose-false _ _ _ (h i (omega arith) (omega arith)) ∙ how_many-none f k (suc i) (λ a l b. h a (omega arith) (omega arith))

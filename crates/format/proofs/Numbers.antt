@@ -7,9 +7,9 @@ use lib.Dec.{ltb}
 use lib.IntN.{ℤ, pos, negsuc, neg_ℤ, nat_abs, ◌+ℤ◌, ◌-ℤ◌, +ℤ_idr, +ℤ_comm, +ℤ-neg_ℤ_cancel, -ℤ-+ℤ_cancel}
 use lib.Signed.{lt_z}
 use borrow.Author.Tests.{ltb-true, lt-ltb, le-ltb}
-use Rattle.format.specs.Tests.{lessThan, ◌or◌}
+use Rattle.format.specs.Tests.{less_than, ◌or◌}
 use Rattle.format.specs.Opening.{Opened}
-use Rattle.format.specs.Reading.{displaced, outside, entryNumber}
+use Rattle.format.specs.Reading.{displaced, outside, entry_number}
 use Rattle.format.proofs.Tests.{never, not_iff}
 
 -- an address of this entry
@@ -17,8 +17,8 @@ pub record Numbered (t : Opened) (a : ℤ) (n : ℕ) : Type 0 where
   pub is : displaced t a ≡ pos n
   pub inside : n < t.count
 
-low : (z : ℤ) (count : ℕ) → (lessThan z (pos 0) or not (lessThan z (pos count))) ≡ false → (z ≡ pos (nat_abs z)) × (nat_abs z < count)
-unfolding lessThan ◌or◌
+low : (z : ℤ) (count : ℕ) → (less_than z (pos 0) or not (less_than z (pos count))) ≡ false → (z ≡ pos (nat_abs z)) × (nat_abs z < count)
+unfolding less_than ◌or◌
 low (pos n) count h = go (ltb n 0) refl h
   where
     go : (b : Bool) → ltb n 0 ≡ b → (b or not (ltb n count)) ≡ false → (pos n ≡ pos n) × (n < count)
@@ -26,32 +26,32 @@ low (pos n) count h = go (ltb n 0) refl h
     go false e q = (refl, ltb-true n count (not_iff.0 q))
 low (negsuc n) count h = absurd (never refl h)
 
-high : (n count : ℕ) → n < count → (lessThan (pos n) (pos 0) or not (lessThan (pos n) (pos count))) ≡ false
-unfolding lessThan ◌or◌
+high : (n count : ℕ) → n < count → (less_than (pos n) (pos 0) or not (less_than (pos n) (pos count))) ≡ false
+unfolding less_than ◌or◌
 high n count h = rw (le-ltb n 0 (omega arith), lt-ltb n count h)
 
 module _ (t : Opened) (a : ℤ) where
-  pub inside-number : outside t a ≡ false → Numbered t a (entryNumber t a)
-  unfolding outside entryNumber
+  pub inside-number : outside t a ≡ false → Numbered t a (entry_number t a)
+  unfolding outside entry_number
   inside-number h = let k = low (displaced t a) t.count h in record { is = k.0; inside = k.1 }
 
   pub number-inside : (n : ℕ) → Numbered t a n → outside t a ≡ false
   unfolding outside
   number-inside n k = rw k.is (high n t.count k.inside)
 
-  pub number_is : (n : ℕ) → Numbered t a n → entryNumber t a ≡ n
-  unfolding entryNumber
+  pub number_is : (n : ℕ) → Numbered t a n → entry_number t a ≡ n
+  unfolding entry_number
   number_is n k = ap nat_abs k.is
 
-  pub numbered-at : (n : ℕ) → displaced t a ≡ pos n → n < t.count → (outside t a ≡ false) × (entryNumber t a ≡ n) × (n < t.count)
+  pub numbered-at : (n : ℕ) → displaced t a ≡ pos n → n < t.count → (outside t a ≡ false) × (entry_number t a ≡ n) × (n < t.count)
   numbered-at n e h = let k : Numbered t a n = record { is = e; inside = h } in (number-inside n k, number_is n k, h)
 
   pub past-outside : (n : ℕ) → displaced t a ≡ pos n → t.count ≤ n → outside t a ≡ true
-  unfolding outside lessThan ◌or◌
+  unfolding outside less_than ◌or◌
   past-outside n e h = rw (e, le-ltb n 0 (omega arith), le-ltb n t.count h)
 
   pub below-outside : (n : ℕ) → displaced t a ≡ negsuc n → outside t a ≡ true
-  unfolding outside lessThan ◌or◌
+  unfolding outside less_than ◌or◌
   below-outside n e = rw e
 
 -- ---- the sum by the sign of the address, which is so far from 0
@@ -78,7 +78,7 @@ module _ (t : Opened) (a : ℤ) {n : ℕ} (far : n ≡ nat_abs a) where
   displaced-down s h = rw far (sum-down t.negative a s (omega arith))
 
   pub displaced-below : lt_z a (pos 0) ≡ true → t.negative < n → outside t a ≡ true
-  unfolding outside displaced lessThan ◌or◌
+  unfolding outside displaced less_than ◌or◌
   displaced-below s h = rw (sum_below t.negative a s (omega arith))
 
 -- ---- an address that is d from the lowest, and no other: that of table entry n is n above it
@@ -100,7 +100,7 @@ module _ (t : Opened) (flat : t.negative ≡ 0) where
   displaced-flat a = rw flat (+ℤ_idr a)
 
   -- an address inside is its entry's number
-  pub inside-flat : (a : ℤ) → outside t a ≡ false → a ≡ pos (entryNumber t a)
+  pub inside-flat : (a : ℤ) → outside t a ≡ false → a ≡ pos (entry_number t a)
   inside-flat a h = sym (displaced-flat a) ∙ (inside-number t a h).is
 
 -- two tables with the same lowest address and count
@@ -109,6 +109,6 @@ module _ (t u : Opened) (low_same : t.negative ≡ u.negative) (count_same : t.c
   unfolding outside displaced
   outside-alike = rw (low_same, count_same)
 
-  pub number-alike : entryNumber t a ≡ entryNumber u a
-  unfolding entryNumber displaced
+  pub number-alike : entry_number t a ≡ entry_number u a
+  unfolding entry_number displaced
   number-alike = rw low_same

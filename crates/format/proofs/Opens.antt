@@ -8,9 +8,9 @@ use Rattle.format.specs.declared.TableKind.{TableKind}
 use Rattle.format.specs.declared.TableKind.TheVariants.{First}
 use Rattle.format.specs.declared.Verdict.TheVariants.{Passes}
 use Rattle.format.specs.Layouts.{entries}
-use Rattle.format.specs.Opening.{offsetsWith, isTable, table_at, kind_at, openVerdict, Opened, openedAs, openedAt, opened}
+use Rattle.format.specs.Opening.{offsets_with, is_table, table_at, kind_at, open_verdict, Opened, opened_as, opened_at, opened}
 use Rattle.format.specs.Facts.{Opens, OpensWith}
-use Rattle.format.proofs.Checks.{kind-iff, tableAt-only, OpenOk, open-ok, WritableOk}
+use Rattle.format.proofs.Checks.{kind-iff, table_at-only, OpenOk, open-ok, WritableOk}
 use Rattle.format.proofs.Named.{table-named}
 
 module _ (img : List ℕ) (o : ℕ) where
@@ -20,41 +20,41 @@ module _ (img : List ℕ) (o : ℕ) where
       record {
         header = k.header;
         index = k.index;
-        entriesOk = k.entriesOk;
+        entries_ok = k.entries_ok;
         named_by = n.entry;
         only = n.only;
         place = n.place;
-        ofKind = (kind-iff img (table_at img o) _).0 refl;
-        tableOk = k.table;
+        of_kind = (kind-iff img (table_at img o) _).0 refl;
+        table_ok = k.table;
       }
 
   module _ (k : TableKind) (t : ℕ) (n : Opens img o k t) where
-    table-only : offsetsWith isTable (entries img o) ≡ t ∷ []
+    table-only : offsets_with is_table (entries img o) ≡ t ∷ []
     table-only = (table-named (entries img o) t).1 (record { entry = n.named_by; only = n.only; place = n.place })
 
     table-at : table_at img o ≡ t
-    table-at = tableAt-only img o t table-only
+    table-at = table_at-only img o t table-only
 
     kind-at : kind_at img t ≡ k
-    kind-at = (kind-iff img t k).1 n.ofKind
+    kind-at = (kind-iff img t k).1 n.of_kind
 
     pub opens_back : OpenOk img o
     opens_back =
         record {
           header = n.header;
           index = n.index;
-          entriesOk = n.entriesOk;
+          entries_ok = n.entries_ok;
           only = rw table-at table-only;
-          table = rw (table-at, kind-at) n.tableOk;
+          table = rw (table-at, kind-at) n.table_ok;
         }
 
-    pub opened-as : opened img o ≡ openedAs img k t
+    pub opened-as : opened img o ≡ opened_as img k t
     unfolding opened
-    opened-as = ap (openedAt img) table-at ∙ ap (λ (j : TableKind). openedAs img j t) kind-at
+    opened-as = ap (opened_at img) table-at ∙ ap (λ (j : TableKind). opened_as img j t) kind-at
 
   -- with a table of this kind
-  pub opens-with : (k : TableKind) → ((openVerdict img o ≡ Passes) × ((opened img o).kind ≡ k)) ↔ OpensWith img o k
-  unfolding opened openedAs
+  pub opens-with : (k : TableKind) → ((open_verdict img o ≡ Passes) × ((opened img o).kind ≡ k)) ↔ OpensWith img o k
+  unfolding opened opened_as
   opens-with k = (
     (λ (h, e). record { table = table_at img o; opens = subst (λ (j : TableKind). Opens img o j (table_at img o)) e (opens-forth ((open-ok img o).0 h)) }),
     λ n. ((open-ok img o).1 (opens_back k n.table n.opens), ap (λ (t : Opened). t.kind) (opened-as k n.table n.opens)),

@@ -14,24 +14,24 @@ use Rattle.format.specs.declared.Verdict.{Verdict}
 use Rattle.format.specs.declared.Verdict.TheVariants.{Passes, Refuses}
 use Rattle.format.specs.Tests.{same, ◌or◌, choose}
 use Rattle.format.specs.Refusals.{refusal, Answer, refused, accepted, answer}
-use Rattle.format.specs.Layouts.{indexOffset}
+use Rattle.format.specs.Layouts.{index_offset}
 use Rattle.format.specs.Opening.{opened}
-use Rattle.format.specs.Reading.{pointerOf, place_of, itemBytes, readVerdict, readAt, read, locate}
-use Rattle.format.specs.Overlaying.{parentRefusal, fromParent, over, discOver, readOver, inImage, locateOver}
+use Rattle.format.specs.Reading.{pointer_of, place_of, item_bytes, read_verdict, read_at, read, locate}
+use Rattle.format.specs.Overlaying.{parent_refusal, from_parent, over, disc_over, read_over, in_image, locate_over}
 use Rattle.format.proofs.Tests.{on-or-off, same-iff, same_true, same-on, or-iff, or-true-left, or_true_right, choose-true, choose-false, choose-cases}
 use Rattle.format.proofs.Refusals.{not-passes, Says}
 
 -- ---- the parent's refusals
-pub parent-20 : (r : Refusal) → r.number ≡ 20 → parentRefusal r ≡ refusal 21 0
-unfolding parentRefusal
+pub parent-20 : (r : Refusal) → r.number ≡ 20 → parent_refusal r ≡ refusal 21 0
+unfolding parent_refusal
 parent-20 r e = choose-true _ _ _ (or-true-left _ _ (same_true _ _ e))
 
-pub parent-21 : (r : Refusal) → r.number ≡ 21 → parentRefusal r ≡ refusal 21 0
-unfolding parentRefusal
+pub parent-21 : (r : Refusal) → r.number ≡ 21 → parent_refusal r ≡ refusal 21 0
+unfolding parent_refusal
 parent-21 r e = choose-true _ _ _ (or_true_right _ _ (same_true _ _ e))
 
-pub parent-other : (r : Refusal) → r.number ≢ 20 → r.number ≢ 21 → parentRefusal r ≡ refusal (100 + r.number) r.place.0
-unfolding parentRefusal
+pub parent-other : (r : Refusal) → r.number ≢ 20 → r.number ≢ 21 → parent_refusal r ≡ refusal (100 + r.number) r.place.0
+unfolding parent_refusal
 parent-other r d e = choose-false _ _ _ ((or-iff same-iff same-iff).1 (d, e))
 
 -- ---- what the pair answers, by what the two answer
@@ -44,12 +44,12 @@ module _ {A : Type 0} where
   unfolding over
   over-other r parent n = choose-false _ _ _ (same-iff.1 n)
 
-  pub over-parent : (r : Refusal) (parent : Answer A) → r.number ≡ 21 → over (refused r) parent ≡ fromParent parent
+  pub over-parent : (r : Refusal) (parent : Answer A) → r.number ≡ 21 → over (refused r) parent ≡ from_parent parent
   unfolding over
   over-parent r parent e = choose-true _ _ _ (same_true _ _ e)
 
-  parent-accepted : (parent : Answer A) (a : A) → fromParent parent ≡ accepted a → parent ≡ accepted a
-  unfolding fromParent
+  parent-accepted : (parent : Answer A) (a : A) → from_parent parent ≡ accepted a → parent ≡ accepted a
+  unfolding from_parent
   parent-accepted (accepted b) a e = e
   parent-accepted (refused r) a e = let z : ◌≡◌ {A = ℕ} 0 1 = cc in absurd (omega arith)
 
@@ -63,43 +63,43 @@ module _ {A : Type 0} where
       (on-or-off (same r.number 21))
 
 -- ---- as a verdict
-unfoldable pub parentVerdict : Verdict → Verdict
-parentVerdict Passes = Passes
-parentVerdict (Refuses r) = Refuses (parentRefusal r)
+unfoldable pub parent_verdict : Verdict → Verdict
+parent_verdict Passes = Passes
+parent_verdict (Refuses r) = Refuses (parent_refusal r)
 
-unfoldable pub overVerdict : Verdict → Verdict → Verdict
-overVerdict Passes parent = Passes
-overVerdict (Refuses r) parent = choose (same r.number 21) (parentVerdict parent) (Refuses r)
+unfoldable pub over_verdict : Verdict → Verdict → Verdict
+over_verdict Passes parent = Passes
+over_verdict (Refuses r) parent = choose (same r.number 21) (parent_verdict parent) (Refuses r)
 
-pub over-verdict-other : (r : Refusal) (parent : Verdict) → r.number ≢ 21 → overVerdict (Refuses r) parent ≡ Refuses r
-unfolding overVerdict
+pub over-verdict-other : (r : Refusal) (parent : Verdict) → r.number ≢ 21 → over_verdict (Refuses r) parent ≡ Refuses r
+unfolding over_verdict
 over-verdict-other r parent n = choose-false _ _ _ (same-iff.1 n)
 
-pub over-verdict-21 : (r : Refusal) (parent : Verdict) → r.number ≡ 21 → overVerdict (Refuses r) parent ≡ parentVerdict parent
-unfolding overVerdict
+pub over-verdict-21 : (r : Refusal) (parent : Verdict) → r.number ≡ 21 → over_verdict (Refuses r) parent ≡ parent_verdict parent
+unfolding over_verdict
 over-verdict-21 r parent e = choose-true _ _ _ (same_true _ _ e)
 
-parent-passes : (parent : Verdict) → parentVerdict parent ≡ Passes → parent ≡ Passes
-unfolding parentVerdict
+parent-passes : (parent : Verdict) → parent_verdict parent ≡ Passes → parent ≡ Passes
+unfolding parent_verdict
 parent-passes Passes h = refl
 parent-passes (Refuses r) h = absurd (not-passes h)
 
-pub over-passes : (r : Refusal) (parent : Verdict) → overVerdict (Refuses r) parent ≡ Passes → (r.number ≡ 21) × (parent ≡ Passes)
+pub over-passes : (r : Refusal) (parent : Verdict) → over_verdict (Refuses r) parent ≡ Passes → (r.number ≡ 21) × (parent ≡ Passes)
 over-passes r parent e =
     ⊎_elim (λ h. let n : r.number ≡ 21 = same-on _ _ h in (n, parent-passes parent (sym (over-verdict-21 r parent n) ∙ e)))
     (λ h. absurd (not-passes (sym (over-verdict-other r parent (same-iff.0 h)) ∙ e))) (on-or-off (same r.number 21))
 
 -- what it says: the child's number, but for 21; the parent's with 100 added, but for 20 and 21; or 21
 module _ (P : ℕ → ℕ → Type 0) (neither : P 21 0) where
-  parent-says : (parent : Verdict) → Says (λ n p. n ≢ 20 → n ≢ 21 → P (100 + n) p) parent → Says P (parentVerdict parent)
-  unfolding parentVerdict parentRefusal Says
+  parent-says : (parent : Verdict) → Says (λ n p. n ≢ 20 → n ≢ 21 → P (100 + n) p) parent → Says P (parent_verdict parent)
+  unfolding parent_verdict parent_refusal Says
   parent-says Passes k = tt
   parent-says (Refuses r) k =
       choose-cases (λ (q : Refusal). P q.number q.place.0) _ _ _ (λ h. neither) (λ h. let d = (or-iff same-iff same-iff).0 h in k d.0 d.1)
 
   pub over-says : (child parent : Verdict) → Says (λ n p. n ≢ 21 → P n p) child → Says (λ n p. n ≢ 20 → n ≢ 21 → P (100 + n) p) parent
-      → Says P (overVerdict child parent)
-  unfolding overVerdict Says
+      → Says P (over_verdict child parent)
+  unfolding over_verdict Says
   over-says Passes parent c k = tt
   over-says (Refuses r) parent c k = choose-cases (Says P) _ _ _ (λ h. parent-says parent k) (λ h. c (same-iff.0 h))
 
@@ -108,8 +108,8 @@ unfoldable pub chosen : {A : Type 0} → Verdict → A → A → A
 chosen Passes child parent = child
 chosen (Refuses r) child parent = parent
 
-parent-answer : {A : Type 0} (w : Verdict) (b : A) → fromParent (answer w b) ≡ answer (parentVerdict w) b
-unfolding fromParent answer parentVerdict
+parent-answer : {A : Type 0} (w : Verdict) (b : A) → from_parent (answer w b) ≡ answer (parent_verdict w) b
+unfolding from_parent answer parent_verdict
 parent-answer Passes b = refl
 parent-answer (Refuses r) b = refl
 
@@ -118,38 +118,38 @@ unfolding choose
 choose-answer true v w b = refl
 choose-answer false v w b = refl
 
-over-answer : {A : Type 0} (v w : Verdict) (a b : A) → over (answer v a) (answer w b) ≡ answer (overVerdict v w) (chosen v a b)
-unfolding over answer overVerdict chosen
+over-answer : {A : Type 0} (v w : Verdict) (a b : A) → over (answer v a) (answer w b) ≡ answer (over_verdict v w) (chosen v a b)
+unfolding over answer over_verdict chosen
 over-answer Passes w a b = refl
 over-answer (Refuses r) w a b =
-    ap (λ (z : Answer _). choose (same r.number 21) z (refused r)) (parent-answer w b) ∙ choose-answer (same r.number 21) (parentVerdict w) (Refuses r) b
+    ap (λ (z : Answer _). choose (same r.number 21) z (refused r)) (parent-answer w b) ∙ choose-answer (same r.number 21) (parent_verdict w) (Refuses r) b
 
-in_image : (n : ℕ) (v : Verdict) (p : Place) → inImage n (answer v p) ≡ answer v (record { image = n; place = p })
-unfolding inImage answer
-in_image n Passes p = refl
-in_image n (Refuses r) p = refl
+in_image_lem : (n : ℕ) (v : Verdict) (p : Place) → in_image n (answer v p) ≡ answer v (record { image = n; place = p })
+unfolding in_image answer
+in_image_lem n Passes p = refl
+in_image_lem n (Refuses r) p = refl
 
 -- ---- the calls go by it
 abbrev pub read_by : List ℕ → ℤ → Verdict
-read_by img a = readVerdict img (indexOffset img) a
+read_by img a = read_verdict img (index_offset img) a
 
 abbrev pub place_in : List ℕ → ℤ → Place
-place_in img a = place_of img (pointerOf img (opened img (indexOffset img)) a)
+place_in img a = place_of img (pointer_of img (opened img (index_offset img)) a)
 
-abbrev pub bytesIn : List ℕ → ℤ → List ℕ
-bytesIn img a = itemBytes img (pointerOf img (opened img (indexOffset img)) a)
+abbrev pub bytes_in : List ℕ → ℤ → List ℕ
+bytes_in img a = item_bytes img (pointer_of img (opened img (index_offset img)) a)
 
 module _ (child parent : List ℕ) (a : ℤ) where
-  abbrev pub bothBy : Verdict
-  bothBy = overVerdict (read_by child a) (read_by parent a)
+  abbrev pub both_by : Verdict
+  both_by = over_verdict (read_by child a) (read_by parent a)
 
-  abbrev pub sourceBy : Sourced
-  sourceBy = chosen (read_by child a) (record { image = 0; place = place_in child a }) (record { image = 1; place = place_in parent a })
+  abbrev pub source_by : Sourced
+  source_by = chosen (read_by child a) (record { image = 0; place = place_in child a }) (record { image = 1; place = place_in parent a })
 
-  pub read-over : readOver child parent a ≡ answer bothBy (chosen (read_by child a) (bytesIn child a) (bytesIn parent a))
-  unfolding readOver discOver read readAt
+  pub read-over : read_over child parent a ≡ answer both_by (chosen (read_by child a) (bytes_in child a) (bytes_in parent a))
+  unfolding read_over disc_over read read_at
   read-over = over-answer (read_by child a) (read_by parent a) _ _
 
-  pub locate-over : locateOver child parent a ≡ answer bothBy sourceBy
-  unfolding locateOver locate
-  locate-over = (λ i. over (in_image 0 (read_by child a) (place_in child a) i) (in_image 1 (read_by parent a) (place_in parent a) i)) ∙ over-answer (read_by child a) (read_by parent a) _ _
+  pub locate-over : locate_over child parent a ≡ answer both_by source_by
+  unfolding locate_over locate
+  locate-over = (λ i. over (in_image_lem 0 (read_by child a) (place_in child a) i) (in_image_lem 1 (read_by parent a) (place_in parent a) i)) ∙ over-answer (read_by child a) (read_by parent a) _ _

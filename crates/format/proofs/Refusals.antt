@@ -10,7 +10,7 @@ use native.Mathlib.Omega.{arith}
 use Rattle.format.specs.declared.Refusal.{Refusal}
 use Rattle.format.specs.declared.Verdict.{Verdict}
 use Rattle.format.specs.declared.Verdict.TheVariants.{Passes, Refuses}
-use Rattle.format.specs.Refusals.{row, ◌then◌, firstRefusal, refused, accepted, answer}
+use Rattle.format.specs.Refusals.{row, ◌then◌, first_refusal, refused, accepted, answer}
 
 -- ---- passing
 pub not-passes : {r : Refusal} → Refuses r ≢ Passes
@@ -33,20 +33,20 @@ unfolding ◌then◌
 then-iff {v = Passes} p q = (λ h. (p.0 refl, q.0 h), λ k. q.1 k.1)
 then-iff {v = Refuses r} p q = (λ h. absurd (not-passes h), λ k. p.1 k.0)
 
-pub firstRefusal-iff : {P : ℕ → Type 0} {f : ℕ → Verdict} (n k i : ℕ) → i + k ≡ n → ((a : ℕ) → a < n → (f a ≡ Passes) ↔ P a)
-    → (firstRefusal f k i ≡ Passes) ↔ ((a : ℕ) → i ≤ a → a < n → P a)
-unfolding firstRefusal
-firstRefusal-iff n zero i e p = (λ h a l b. absurd (omega arith), λ h. refl)
-firstRefusal-iff {P} n (suc k) i e p =
-    let both = then-iff (p i (omega arith)) (firstRefusal-iff n k (suc i) (omega arith) p) in (
+pub first_refusal-iff : {P : ℕ → Type 0} {f : ℕ → Verdict} (n k i : ℕ) → i + k ≡ n → ((a : ℕ) → a < n → (f a ≡ Passes) ↔ P a)
+    → (first_refusal f k i ≡ Passes) ↔ ((a : ℕ) → i ≤ a → a < n → P a)
+unfolding first_refusal
+first_refusal-iff n zero i e p = (λ h a l b. absurd (omega arith), λ h. refl)
+first_refusal-iff {P} n (suc k) i e p =
+    let both = then-iff (p i (omega arith)) (first_refusal-iff n k (suc i) (omega arith) p) in (
       (λ h a l b. ⊎_elim (λ q. subst P q (both.0 h).0) (λ m. (both.0 h).1 a m b) (eq-or-lt_of_le l)),
       λ s. both.1 (s i (omega arith) (omega arith), λ a l b. s a (omega arith) b),
     )
 
-pub firstRefusal-same : (f g : ℕ → Verdict) (k i : ℕ) → ((a : ℕ) → i ≤ a → a < i + k → f a ≡ g a) → firstRefusal f k i ≡ firstRefusal g k i
-unfolding firstRefusal
-firstRefusal-same f g zero i h = refl
-firstRefusal-same f g (suc k) i h = rw (h i (omega arith) (omega arith), firstRefusal-same f g k (suc i) (λ a l b. h a (omega arith) (omega arith))) refl
+pub first_refusal-same : (f g : ℕ → Verdict) (k i : ℕ) → ((a : ℕ) → i ≤ a → a < i + k → f a ≡ g a) → first_refusal f k i ≡ first_refusal g k i
+unfolding first_refusal
+first_refusal-same f g zero i h = refl
+first_refusal-same f g (suc k) i h = rw (h i (omega arith) (omega arith), first_refusal-same f g k (suc i) (λ a l b. h a (omega arith) (omega arith))) refl
 
 -- ---- the rest of a chain, and none of it
 pub then-rest : (v w : Verdict) → v ≡ Passes → (v then w) ≡ w
@@ -77,13 +77,13 @@ unfolding ◌then◌
 then-refuses v w r p = rw p
 
 -- by the first number whose verdict is a refusal
-pub firstRefusal-at : (f : ℕ → Verdict) (k i n : ℕ) (r : Refusal) → i ≤ n → n < i + k → ((a : ℕ) → i ≤ a → a < n → f a ≡ Passes) → f n ≡ Refuses r
-    → firstRefusal f k i ≡ Refuses r
-unfolding firstRefusal
-firstRefusal-at f zero i n r l h b e = absurd (omega arith)
-firstRefusal-at f (suc k) i n r l h b e =
+pub first_refusal-at : (f : ℕ → Verdict) (k i n : ℕ) (r : Refusal) → i ≤ n → n < i + k → ((a : ℕ) → i ≤ a → a < n → f a ≡ Passes) → f n ≡ Refuses r
+    → first_refusal f k i ≡ Refuses r
+unfolding first_refusal
+first_refusal-at f zero i n r l h b e = absurd (omega arith)
+first_refusal-at f (suc k) i n r l h b e =
     ⊎_elim (λ q. then-refuses (f i) _ r (ap f q ∙ e))
-    (λ m. then-rest _ _ (b i (omega arith) m) ∙ firstRefusal-at f k (suc i) n r m (omega arith) (λ a p q. b a (omega arith) q) e) (eq-or-lt_of_le l)
+    (λ m. then-rest _ _ (b i (omega arith) m) ∙ first_refusal-at f k (suc i) n r m (omega arith) (λ a p q. b a (omega arith) q) e) (eq-or-lt_of_le l)
 
 -- ---- what a refusal says
 -- what holds of the number and the place that a verdict refuses with, if it does
@@ -114,8 +114,8 @@ module _ (P : ℕ → ℕ → Type 0) where
   after-says Passes w p q = q refl
   after-says (Refuses r) w p q = p
 
-  pub first_says : (f : ℕ → Verdict) (n k i : ℕ) → i + k ≡ n → ((a : ℕ) → a < n → Says P (f a)) → Says P (firstRefusal f k i)
-  unfolding firstRefusal Says
+  pub first_says : (f : ℕ → Verdict) (n k i : ℕ) → i + k ≡ n → ((a : ℕ) → a < n → Says P (f a)) → Says P (first_refusal f k i)
+  unfolding first_refusal Says
   first_says f n zero i e p = tt
   first_says f n (suc k) i e p = then-says (f i) _ (p i (omega arith)) (first_says f n k (suc i) (omega arith) p)
 

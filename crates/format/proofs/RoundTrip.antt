@@ -8,11 +8,11 @@ use native.Mathlib.Omega.{arith}
 use lib.ListN.{take}
 use lib.IntN.{ℤ, ◌+ℤ◌, +ℤ_idl}
 use Rattle.format.specs.Reading.{read}
-use Rattle.format.specs.Exporting.{exportExact}
+use Rattle.format.specs.Exporting.{export_exact}
 use Rattle.format.specs.Importing.{import}
 use Rattle.format.specs.Demands.{ImportedExported, ExportedImported}
 use Rattle.format.proofs.Exporting.{flat_back, flat-alike, flat-sized}
-use Rattle.format.proofs.Importing.{Importable, file-count, importedUsed, import-or-full, flat-importing}
+use Rattle.format.proofs.Importing.{Importable, file-count, imported_used, import-or-full, flat-importing}
 
 -- ---- imported, then exported
 pub imported-exported : ImportedExported
@@ -22,7 +22,7 @@ imported-exported buffer bb file size application ba major minor mediaType creat
 -- ---- exported, then imported
 pub exported-imported : ExportedImported
 exported-imported img out n e size f count small buffer bb long application ba sized major minor mediaType creationTime lastWrittenTime room =
-    let file : List ℕ = take n (exportExact img out).buffer in
+    let file : List ℕ = take n (export_exact img out).buffer in
     let k : Importable buffer file size application =
     record {
       long = long;
@@ -40,7 +40,7 @@ exported-imported img out n e size f count small buffer bb long application ba s
       answer = _;
       accepts = q;
       same = λ a.
-          let y : List ℕ = take (importedUsed buffer file size application major minor mediaType creationTime lastWrittenTime) (import buffer file size application major minor mediaType creationTime lastWrittenTime).buffer in
+          let y : List ℕ = take (imported_used buffer file size application major minor mediaType creationTime lastWrittenTime) (import buffer file size application major minor mediaType creationTime lastWrittenTime).buffer in
           ap (read y) (sym (+ℤ_idl a) ∙ ap (λ (z : ℤ). z +ℤ a) (sym d.lowest))
           ∙ flat-alike y img file size d.flat f (file-count file size _ k.some d.flat.whole ∙ sym (file-count file size _ k.some f.whole)) a;
     })

@@ -39,9 +39,9 @@ module _ (a b : ℕ) where
   unfolding below
   below_true h = lt-ltb a b h
 
-  pub atLeast-true : b ≤ a → at_least a b ≡ true
+  pub at_least-true : b ≤ a → at_least a b ≡ true
   unfolding at_least
-  atLeast-true h = le-leb b a h
+  at_least-true h = le-leb b a h
 
   pub same-on : same a b ≡ true → a ≡ b
   unfolding same
@@ -60,9 +60,9 @@ module _ {a b : ℕ} where
   unfolding below
   below-iff = (ltb-false a b, le-ltb a b)
 
-  pub atLeast-iff : (at_least a b ≡ false) ↔ (a < b)
+  pub at_least-iff : (at_least a b ≡ false) ↔ (a < b)
   unfolding at_least
-  atLeast-iff = (leb-false b a, lt-leb b a)
+  at_least-iff = (leb-false b a, lt-leb b a)
 
   pub same-iff : (same a b ≡ false) ↔ (a ≢ b)
   unfolding same

@@ -33,18 +33,18 @@ located (locate.Refused r) = refused r
 
 -- A read hands out a part of the lent image, and no answer holds a part and a number both. So a refused read hands out the empty part, which
 -- is no sector (a sector size of 0 is 25), and its number is that of `locate`.
-unfoldable pub bytesRead : Answer (List ℕ) → List ℕ
-bytesRead (accepted sector) = sector
-bytesRead (refused r) = []
+unfoldable pub bytes_read : Answer (List ℕ) → List ℕ
+bytes_read (accepted sector) = sector
+bytes_read (refused r) = []
 
 -- of a disc over its parent (8/13); what a read hands out is as above, a part of one of the two images
-unfoldable pub locatedOver : LocatedOver → Answer Sourced
-locatedOver (locate-over.In s) = accepted s
-locatedOver (locate-over.Refused r) = refused r
+unfoldable pub located_over : LocatedOver → Answer Sourced
+located_over (locate-over.In s) = accepted s
+located_over (locate-over.Refused r) = refused r
 
-unfoldable pub sourcedOver : SourceOver → Answer ℕ
-sourcedOver (source-over.Image n) = accepted n
-sourcedOver (source-over.Refused r) = refused r
+unfoldable pub sourced_over : SourceOver → Answer ℕ
+sourced_over (source-over.Image n) = accepted n
+sourced_over (source-over.Refused r) = refused r
 
 unfoldable pub updated : Updated → Answer Placed
 updated (update.To p) = accepted p
@@ -54,9 +54,9 @@ unfoldable pub exported : Exported → Answer Flat
 exported (export.To n) = accepted n
 exported (export.Refused r) = refused r
 
-unfoldable pub exportedExact : ExportedExact → Answer ℕ
-exportedExact (export-exact.Length n) = accepted n
-exportedExact (export-exact.Refused r) = refused r
+unfoldable pub exported_exact : ExportedExact → Answer ℕ
+exported_exact (export-exact.Length n) = accepted n
+exported_exact (export-exact.Refused r) = refused r
 
 -- a call that writes: its answer, and every byte of the buffer afterwards
 unfoldable pub answered : {A : Type 0} → Answer A → List ℕ → Outcome A

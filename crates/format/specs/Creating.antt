@@ -7,34 +7,34 @@ use Rattle.format.specs.declared.Placed.{Placed}
 use Rattle.format.specs.declared.Verdict.{Verdict}
 use Rattle.format.specs.Tests.{same, differs, below, ◌or◌}
 use Rattle.format.specs.Refusals.{refusal, row, ◌then◌}
-use Rattle.format.specs.Layouts.{DDT*, headerLength, applicationLength, headerBytes, indexHeaderLength, entryLength, userDataEntry, indexBytes, tableHeaderLength, tableEntryLength, tableBytes}
-use Rattle.format.specs.Writing.{mostSectors, longestBuffer, Outcome, outcome, placed}
+use Rattle.format.specs.Layouts.{DDT*, header_length, application_length, header_bytes, index_header_length, entry_length, user_data_entry, index_bytes, table_header_length, table_entry_length, table_bytes}
+use Rattle.format.specs.Writing.{most_sectors, longest_buffer, Outcome, outcome, placed}
 
 -- "a table of E zero entries with shift 0 at 104 .., then an index with that one entry (dataType 1): 189 + 8E bytes"
-unfoldable pub createdIndexAt : ℕ → ℕ
-createdIndexAt count = headerLength + tableHeaderLength + tableEntryLength * count
+unfoldable pub created_index_at : ℕ → ℕ
+created_index_at count = header_length + table_header_length + table_entry_length * count
 
-unfoldable pub createdUsed : ℕ → ℕ
-createdUsed count = createdIndexAt count + indexHeaderLength + entryLength
+unfoldable pub created_used : ℕ → ℕ
+created_used count = created_index_at count + index_header_length + entry_length
 
-abbrev pub createdEntries : List Entry
-createdEntries = userDataEntry DDT* headerLength ∷ []
+abbrev pub created_entries : List Entry
+created_entries = user_data_entry DDT* header_length ∷ []
 
-unfoldable pub createdBytes : ℕ → List ℕ → ℕ → ℕ → ℕ → ℕ → ℕ → List ℕ
-createdBytes count application major minor mediaType creationTime lastWrittenTime =
-    headerBytes application major minor mediaType (createdIndexAt count) creationTime lastWrittenTime
-    ++ (tableBytes 0 count (replicate (tableEntryLength * count) 0) ++ indexBytes createdEntries)
+unfoldable pub created_bytes : ℕ → List ℕ → ℕ → ℕ → ℕ → ℕ → ℕ → List ℕ
+created_bytes count application major minor mediaType creationTime lastWrittenTime =
+    header_bytes application major minor mediaType (created_index_at count) creationTime lastWrittenTime
+    ++ (table_bytes 0 count (replicate (table_entry_length * count) 0) ++ index_bytes created_entries)
 
 -- "Order: 31, 30 (E), 33 (application), 35."
-unfoldable pub createVerdict : List ℕ → ℕ → List ℕ → Verdict
-createVerdict buffer count application =
-    row (below longestBuffer (length buffer)) (refusal 31 0)
-    then row (same count 0 or below mostSectors count) (refusal 30 0)
-    then row (differs (length application) applicationLength) (refusal 33 0)
-    then row (below (length buffer) (createdUsed count)) (refusal 35 0)
+unfoldable pub create_verdict : List ℕ → ℕ → List ℕ → Verdict
+create_verdict buffer count application =
+    row (below longest_buffer (length buffer)) (refusal 31 0)
+    then row (same count 0 or below most_sectors count) (refusal 30 0)
+    then row (differs (length application) application_length) (refusal 33 0)
+    then row (below (length buffer) (created_used count)) (refusal 35 0)
 
 -- "Later bytes of the buffer don't change."
 unfoldable pub create : List ℕ → ℕ → List ℕ → ℕ → ℕ → ℕ → ℕ → ℕ → Outcome Placed
 create buffer count application major minor mediaType creationTime lastWrittenTime =
-    outcome buffer (createVerdict buffer count application) (placed (createdUsed count) (createdIndexAt count))
-    (overwrite buffer 0 (createdBytes count application major minor mediaType creationTime lastWrittenTime))
+    outcome buffer (create_verdict buffer count application) (placed (created_used count) (created_index_at count))
+    (overwrite buffer 0 (created_bytes count application major minor mediaType creationTime lastWrittenTime))

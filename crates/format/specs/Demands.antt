@@ -1,6 +1,6 @@
 -- The demands, as the claims that proofs/ proves of these definitions.
 use Rattle.std.specs.Prelude.{true, false, List, [], ◌∷◌, ◌++◌, ◌≢◌, ◌⊎◌, ◌↔◌, ◌≡◌, ℕ, zero, suc, ◌+◌, ◌*◌, ◌≤◌, ◌<◌, length, take, get_or, replicate, ℤ, pos, ◌+ℤ◌}
-use Rattle.fields.specs.Bytes.{part, toLe, overwrite}
+use Rattle.fields.specs.Bytes.{part, to_le, overwrite}
 use Rattle.format.specs.declared.AddressRange.{AddressRange}
 use Rattle.format.specs.declared.Entry.{Entry}
 use Rattle.format.specs.declared.Flat.{Flat}
@@ -12,87 +12,87 @@ use Rattle.format.specs.declared.TableKind.{TableKind}
 use Rattle.format.specs.declared.TableKind.TheVariants.{First, Second}
 use Rattle.format.specs.Lists.{All, Counts, IsBytes}
 use Rattle.format.specs.Refusals.{refusal, Answer, refused, accepted}
-use Rattle.format.specs.Layouts.{indexOffset, indexHeaderLength, entryCount, entryLength, entry_at, entries, blockHeaderLength, sectorSize, tableCount, tableNegative}
-use Rattle.format.specs.Opening.{lacks, is_type, table_at, opened, sectorCount}
-use Rattle.format.specs.Reading.{entryNumber, tableEntryAt, pointerAt, read, locate}
-use Rattle.format.specs.Answers.{bytesRead}
+use Rattle.format.specs.Layouts.{index_offset, index_header_length, entry_count, entry_length, entry_at, entries, block_header_length, sector_size, table_count, table_negative}
+use Rattle.format.specs.Opening.{lacks, is_type, table_at, opened, sector_count}
+use Rattle.format.specs.Reading.{entry_number, table_entry_at, pointer_at, read, locate}
+use Rattle.format.specs.Answers.{bytes_read}
 use Rattle.format.specs.Writing.{Outcome, placed}
 use Rattle.format.specs.Creating.{create}
 use Rattle.format.specs.Committing.{pieces, commit}
 use Rattle.format.specs.RollingBack.{rollback}
-use Rattle.format.specs.Exporting.{exportExact, flat, export}
+use Rattle.format.specs.Exporting.{export_exact, flat, export}
 use Rattle.format.specs.Importing.{import}
-use Rattle.format.specs.Overlaying.{discOver, readOver, locateOver, sourceOver}
+use Rattle.format.specs.Overlaying.{disc_over, read_over, locate_over, source_over}
 use Rattle.format.specs.Flattening.{flatten}
-use Rattle.format.specs.Histories.{Start, startOn, OfBytes, Call, commits, rollsBack, Point, Moment, reads, ReadTheSame, started, outcomeOf, after, atEnd, Throughout, Permitted}
-use Rattle.format.specs.Facts.{Opens, OpensWith, NotWritten, HasEntry, EntryNames, CreateOk, FlattenArguments, BufferOk, ArgumentsOk, DiscOk, Stores, Reindexed, blockLengthFor, blockEntry}
+use Rattle.format.specs.Histories.{Start, start_on, OfBytes, Call, commits, rolls_back, Point, Moment, reads, ReadTheSame, started, outcome_of, after, at_end, Throughout, Permitted}
+use Rattle.format.specs.Facts.{Opens, OpensWith, NotWritten, HasEntry, EntryNames, CreateOk, FlattenArguments, BufferOk, ArgumentsOk, DiscOk, Stores, Reindexed, block_length_for, block_entry}
 
 -- ---- Demand 1: every call refuses by 01's numbers, and says where: "number and place". (That they are given in 01's order, and exactly when their
 -- check applies, is how the calls are defined.) These are the numbers that each call gives; none is 0, so that an interface can answer 0 for "accepted".
 abbrev pub FromTo : ℕ → ℕ → ℕ → Type 0
 FromTo least most n = (least ≤ n) × (n ≤ most)
 
-abbrev pub openingNumber : ℕ → Type 0
-openingNumber n = FromTo 1 14 n ⊎ FromTo 70 72 n
+abbrev pub OpeningNumber : ℕ → Type 0
+OpeningNumber n = FromTo 1 14 n ⊎ FromTo 70 72 n
 
-abbrev pub readingNumber : ℕ → Type 0
-readingNumber n = openingNumber n ⊎ FromTo 20 27 n ⊎ (n ≡ 73)
+abbrev pub ReadingNumber : ℕ → Type 0
+ReadingNumber n = OpeningNumber n ⊎ FromTo 20 27 n ⊎ (n ≡ 73)
 
-abbrev pub creatingNumber : ℕ → Type 0
-creatingNumber n = FromTo 30 31 n ⊎ (n ≡ 33) ⊎ (n ≡ 35)
+abbrev pub CreatingNumber : ℕ → Type 0
+CreatingNumber n = FromTo 30 31 n ⊎ (n ≡ 33) ⊎ (n ≡ 35)
 
-abbrev pub committingNumber : ℕ → Type 0
-committingNumber n = openingNumber n ⊎ (n ≡ 74) ⊎ (n ≡ 20) ⊎ FromTo 22 27 n ⊎ FromTo 30 35 n
+abbrev pub CommittingNumber : ℕ → Type 0
+CommittingNumber n = OpeningNumber n ⊎ (n ≡ 74) ⊎ (n ≡ 20) ⊎ FromTo 22 27 n ⊎ FromTo 30 35 n
 
-abbrev pub rollingBackNumber : ℕ → Type 0
-rollingBackNumber n = openingNumber n ⊎ (n ≡ 74) ⊎ FromTo 31 32 n
+abbrev pub RollingBackNumber : ℕ → Type 0
+RollingBackNumber n = OpeningNumber n ⊎ (n ≡ 74) ⊎ FromTo 31 32 n
 
-abbrev pub exportingNumber : ℕ → Type 0
-exportingNumber n = openingNumber n ⊎ FromTo 21 27 n ⊎ (n ≡ 73) ⊎ FromTo 40 41 n
+abbrev pub ExportingNumber : ℕ → Type 0
+ExportingNumber n = OpeningNumber n ⊎ FromTo 21 27 n ⊎ (n ≡ 73) ⊎ FromTo 40 41 n
 
-abbrev pub importingNumber : ℕ → Type 0
-importingNumber n = FromTo 30 31 n ⊎ (n ≡ 42) ⊎ (n ≡ 33) ⊎ (n ≡ 35)
+abbrev pub ImportingNumber : ℕ → Type 0
+ImportingNumber n = FromTo 30 31 n ⊎ (n ≡ 42) ⊎ (n ≡ 33) ⊎ (n ≡ 35)
 
 -- 8/13: the child's numbers, and "other parent numbers .. with 100 added"
-abbrev pub parentNumber : ℕ → Type 0
-parentNumber n = FromTo 101 114 n ⊎ FromTo 122 127 n ⊎ FromTo 170 173 n
+abbrev pub ParentNumber : ℕ → Type 0
+ParentNumber n = FromTo 101 114 n ⊎ FromTo 122 127 n ⊎ FromTo 170 173 n
 
-abbrev pub overNumber : ℕ → Type 0
-overNumber n = readingNumber n ⊎ parentNumber n
+abbrev pub OverNumber : ℕ → Type 0
+OverNumber n = ReadingNumber n ⊎ ParentNumber n
 
 -- not 20, since every address of the child's is its own, and not 21, since a sector that is not written is no fault
-abbrev pub flatteningNumber : ℕ → Type 0
-flatteningNumber n = openingNumber n ⊎ (n ≡ 74) ⊎ FromTo 22 27 n ⊎ parentNumber n ⊎ FromTo 30 31 n ⊎ (n ≡ 33) ⊎ (n ≡ 35) ⊎ (n ≡ 40)
+abbrev pub FlatteningNumber : ℕ → Type 0
+FlatteningNumber n = OpeningNumber n ⊎ (n ≡ 74) ⊎ FromTo 22 27 n ⊎ ParentNumber n ⊎ FromTo 30 31 n ⊎ (n ≡ 33) ⊎ (n ≡ 35) ⊎ (n ≡ 40)
 
 -- 1/13's list: the place of each number, of a call that opens the image at o and looks at such table entries
 pub data PlaceFor (img : List ℕ) (o : ℕ) (LookedAt : ℕ → Type 0) : ℕ → ℕ → Type 0 where
   -- "0 for 1, 2 and 3"
-  atHeader : {n : ℕ} → FromTo 1 3 n → PlaceFor img o LookedAt n 0
+  at_header : {n : ℕ} → FromTo 1 3 n → PlaceFor img o LookedAt n 0
   -- "the index's offset, as read or handed in, even past the end, for 4, 5, 6, 9 and 10"
-  atIndex : {n : ℕ} → FromTo 4 6 n ⊎ FromTo 9 10 n → PlaceFor img o LookedAt n o
+  at_index : {n : ℕ} → FromTo 4 6 n ⊎ FromTo 9 10 n → PlaceFor img o LookedAt n o
   -- "the place of the index entry for 7 and 8"
-  at_entry : {n : ℕ} (i : ℕ) → FromTo 7 8 n → i < entryCount img o → PlaceFor img o LookedAt n (o + indexHeaderLength + entryLength * i)
+  at_entry : {n : ℕ} (i : ℕ) → FromTo 7 8 n → i < entry_count img o → PlaceFor img o LookedAt n (o + index_header_length + entry_length * i)
   -- "the table's offset for 11 to 14"
-  atTable : {n : ℕ} → FromTo 11 14 n → PlaceFor img o LookedAt n (table_at img o)
+  at_table : {n : ℕ} → FromTo 11 14 n → PlaceFor img o LookedAt n (table_at img o)
   -- "the place of the table entry for 22"
-  atTableEntry : (n : ℕ) → LookedAt n → PlaceFor img o LookedAt 22 (tableEntryAt (opened img o) n)
+  at_table_entry : (n : ℕ) → LookedAt n → PlaceFor img o LookedAt 22 (table_entry_at (opened img o) n)
   -- "the block's offset for 23 to 27"
-  at_block : {n : ℕ} (i : ℕ) → FromTo 23 27 n → LookedAt i → PlaceFor img o LookedAt n (pointerAt img (opened img o) i).block.0
+  at_block : {n : ℕ} (i : ℕ) → FromTo 23 27 n → LookedAt i → PlaceFor img o LookedAt n (pointer_at img (opened img o) i).block.0
   -- "0 for all others"
-  atNone : {n : ℕ} → FromTo 20 21 n ⊎ FromTo 30 35 n ⊎ FromTo 40 42 n ⊎ FromTo 70 74 n → PlaceFor img o LookedAt n 0
+  at_none : {n : ℕ} → FromTo 20 21 n ⊎ FromTo 30 35 n ⊎ FromTo 40 42 n ⊎ FromTo 70 74 n → PlaceFor img o LookedAt n 0
 
 -- 8/13, a disc over its parent: "places in the parent" are those of its own numbers, to which 100 is added
 pub data PlaceOver (child parent : List ℕ) (OfChild OfParent : ℕ → Type 0) : ℕ → ℕ → Type 0 where
-  inChild : {n p : ℕ} → PlaceFor child (indexOffset child) OfChild n p → PlaceOver child parent OfChild OfParent n p
-  inParent : {n p : ℕ} → PlaceFor parent (indexOffset parent) OfParent n p → PlaceOver child parent OfChild OfParent (100 + n) p
+  in_child : {n p : ℕ} → PlaceFor child (index_offset child) OfChild n p → PlaceOver child parent OfChild OfParent n p
+  in_parent : {n p : ℕ} → PlaceFor parent (index_offset parent) OfParent n p → PlaceOver child parent OfChild OfParent (100 + n) p
 
 -- the table entry that a read of this address looks at
 abbrev pub EntryOf : List ℕ → ℤ → ℕ → Type 0
-EntryOf img a n = n ≡ entryNumber (opened img (indexOffset img)) a
+EntryOf img a n = n ≡ entry_number (opened img (index_offset img)) a
 
 -- an entry of the table
 abbrev pub AnyEntry : List ℕ → ℕ → Type 0
-AnyEntry img n = n < (opened img (indexOffset img)).count
+AnyEntry img n = n < (opened img (index_offset img)).count
 
 -- where the answer is a refusal, its number and its place are such
 abbrev pub RefusesBy : {A : Type 0} → (ℕ → Type 0) → (ℕ → ℕ → Type 0) → Answer A → Type 0
@@ -103,26 +103,26 @@ abbrev pub NoSector : ℕ → Type 0
 NoSector a = ⊥
 
 pub record Demand1Refusals : Type 0 where
-  pub counting : (img : List ℕ) → RefusesBy openingNumber (PlaceFor img (indexOffset img) NoSector) (sectorCount img)
+  pub counting : (img : List ℕ) → RefusesBy OpeningNumber (PlaceFor img (index_offset img) NoSector) (sector_count img)
   pub locating : (img : List ℕ) (a : ℤ)
-      → RefusesBy readingNumber (PlaceFor img (indexOffset img) (EntryOf img a)) (locate img a)
+      → RefusesBy ReadingNumber (PlaceFor img (index_offset img) (EntryOf img a)) (locate img a)
   pub creating : (buffer : List ℕ) (count : ℕ) (application : List ℕ) (major minor mediaType creationTime lastWrittenTime : ℕ)
-      → RefusesBy creatingNumber (λ n p. p ≡ 0) (create buffer count application major minor mediaType creationTime lastWrittenTime).result
+      → RefusesBy CreatingNumber (λ n p. p ≡ 0) (create buffer count application major minor mediaType creationTime lastWrittenTime).result
   pub committing : (buffer : List ℕ) (used : ℕ) (addresses : List ℤ) (size : ℕ) (sectors : List ℕ) (time : ℕ)
       → let img = take used buffer in
-      RefusesBy committingNumber (PlaceFor img (indexOffset img) (AnyEntry img)) (commit buffer used addresses size sectors time).result
-  pub rollingBack : (buffer : List ℕ) (used offset time : ℕ)
-      → RefusesBy rollingBackNumber (PlaceFor (take used buffer) offset NoSector) (rollback buffer used offset time).result
-  pub exportingExactly : (img out : List ℕ)
-      → RefusesBy exportingNumber (PlaceFor img (indexOffset img) (AnyEntry img)) (exportExact img out).result
+      RefusesBy CommittingNumber (PlaceFor img (index_offset img) (AnyEntry img)) (commit buffer used addresses size sectors time).result
+  pub rolling_back : (buffer : List ℕ) (used offset time : ℕ)
+      → RefusesBy RollingBackNumber (PlaceFor (take used buffer) offset NoSector) (rollback buffer used offset time).result
+  pub exporting_exactly : (img out : List ℕ)
+      → RefusesBy ExportingNumber (PlaceFor img (index_offset img) (AnyEntry img)) (export_exact img out).result
   pub exporting : (img out : List ℕ)
-      → RefusesBy exportingNumber (PlaceFor img (indexOffset img) (AnyEntry img)) (export img out).result
+      → RefusesBy ExportingNumber (PlaceFor img (index_offset img) (AnyEntry img)) (export img out).result
   pub importing : (buffer file : List ℕ) (size : ℕ) (application : List ℕ) (major minor mediaType creationTime lastWrittenTime : ℕ)
-      → RefusesBy importingNumber (λ n p. p ≡ 0) (import buffer file size application major minor mediaType creationTime lastWrittenTime).result
-  pub locatingOver : (child parent : List ℕ) (a : ℤ)
-      → RefusesBy overNumber (PlaceOver child parent (EntryOf child a) (EntryOf parent a)) (locateOver child parent a)
+      → RefusesBy ImportingNumber (λ n p. p ≡ 0) (import buffer file size application major minor mediaType creationTime lastWrittenTime).result
+  pub locating_over : (child parent : List ℕ) (a : ℤ)
+      → RefusesBy OverNumber (PlaceOver child parent (EntryOf child a) (EntryOf parent a)) (locate_over child parent a)
   pub flattening : (buffer child parent application : List ℕ) (major minor mediaType creationTime lastWrittenTime : ℕ)
-      → RefusesBy flatteningNumber (PlaceOver child parent (AnyEntry child) (AnyEntry parent))
+      → RefusesBy FlatteningNumber (PlaceOver child parent (AnyEntry child) (AnyEntry parent))
       (flatten buffer child parent application major minor mediaType creationTime lastWrittenTime).result
 
 -- "Each refusal .. writes nothing": every byte of the buffer is as it was
@@ -132,9 +132,9 @@ pub record Demand1Unchanged : Type 0 where
       → (create buffer count application major minor mediaType creationTime lastWrittenTime).buffer ≡ buffer
   pub committing : (buffer : List ℕ) (used : ℕ) (addresses : List ℤ) (size : ℕ) (sectors : List ℕ) (time : ℕ) (r : Refusal)
       → (commit buffer used addresses size sectors time).result ≡ refused r → (commit buffer used addresses size sectors time).buffer ≡ buffer
-  pub rollingBack : (buffer : List ℕ) (used offset time : ℕ) (r : Refusal)
+  pub rolling_back : (buffer : List ℕ) (used offset time : ℕ) (r : Refusal)
       → (rollback buffer used offset time).result ≡ refused r → (rollback buffer used offset time).buffer ≡ buffer
-  pub exportingExactly : (img out : List ℕ) (r : Refusal) → (exportExact img out).result ≡ refused r → (exportExact img out).buffer ≡ out
+  pub exporting_exactly : (img out : List ℕ) (r : Refusal) → (export_exact img out).result ≡ refused r → (export_exact img out).buffer ≡ out
   pub exporting : (img out : List ℕ) (r : Refusal) → (export img out).result ≡ refused r → (export img out).buffer ≡ out
   pub importing : (buffer file : List ℕ) (size : ℕ) (application : List ℕ) (major minor mediaType creationTime lastWrittenTime : ℕ) (r : Refusal)
       → (import buffer file size application major minor mediaType creationTime lastWrittenTime).result ≡ refused r
@@ -153,32 +153,32 @@ Missing answer = answer ≡ refused (refusal 21 0)
 pub record HasSectors (img : List ℕ) (range : AddressRange) : Type 0 where
   pub kind : TableKind
   pub table : ℕ
-  pub opens : Opens img (indexOffset img) kind table
-  pub count : range.count ≡ tableCount img kind table
-  pub lowest : range.lowest.0 +ℤ pos (tableNegative img kind table) ≡ pos 0
+  pub opens : Opens img (index_offset img) kind table
+  pub count : range.count ≡ table_count img kind table
+  pub lowest : range.lowest.0 +ℤ pos (table_negative img kind table) ≡ pos 0
 
 -- address a of the image names an item, which lies at this place
 pub record NamesItem (img : List ℕ) (a : ℤ) (place : Place) : Type 0 where
   pub kind : TableKind
   pub table : ℕ
-  pub opens : Opens img (indexOffset img) kind table
-  pub hasEntry : HasEntry img kind table a
-  pub names : EntryNames img (indexOffset img) kind table hasEntry.number
-  pub start : place.start.0 ≡ names.block + blockHeaderLength + names.item * sectorSize img names.block
-  pub size : place.size ≡ sectorSize img names.block
+  pub opens : Opens img (index_offset img) kind table
+  pub has_entry : HasEntry img kind table a
+  pub names : EntryNames img (index_offset img) kind table has_entry.number
+  pub start : place.start.0 ≡ names.block + block_header_length + names.item * sector_size img names.block
+  pub size : place.size ≡ sector_size img names.block
 
 -- address a of the image is one of its own, and not written
 pub record NamesNothing (img : List ℕ) (a : ℤ) : Type 0 where
   pub kind : TableKind
   pub table : ℕ
-  pub opens : Opens img (indexOffset img) kind table
-  pub hasEntry : HasEntry img kind table a
-  pub unwritten : NotWritten img kind table hasEntry.number
+  pub opens : Opens img (index_offset img) kind table
+  pub has_entry : HasEntry img kind table a
+  pub unwritten : NotWritten img kind table has_entry.number
 
 -- address a of a child over its parent names an item: the child's, or, where it is not written there, the parent's
 pub data NamesOver (child parent : List ℕ) (a : ℤ) : Sourced → Type 0 where
-  theChild : {place : Place} → NamesItem child a place → NamesOver child parent a (record { image = 0; place = place })
-  theParent : {place : Place} → NamesNothing child a → NamesItem parent a place → NamesOver child parent a (record { image = 1; place = place })
+  the_child : {place : Place} → NamesItem child a place → NamesOver child parent a (record { image = 0; place = place })
+  the_parent : {place : Place} → NamesNothing child a → NamesItem parent a place → NamesOver child parent a (record { image = 1; place = place })
 
 -- a disc holds a sector: some address reads as it
 pub record Held (img : List ℕ) (sector : List ℕ) : Type 0 where
@@ -191,55 +191,55 @@ pub record Additions (img : List ℕ) (used size : ℕ) (handed : List (List ℕ
   pub stored : List (List ℕ)
   pub stores : Stores (Held img) [] handed stored
   pub kept : List Entry
-  pub keeps : Reindexed (used + blockLengthFor (length stored) size) (entries img (indexOffset img)) kept
+  pub keeps : Reindexed (used + block_length_for (length stored) size) (entries img (index_offset img)) kept
 
-abbrev pub newEntries : {img : List ℕ} {used size : ℕ} {handed : List (List ℕ)} → Additions img used size handed → List Entry
-newEntries {used = used} a = a.kept ++ blockEntry used (length a.stored)
+abbrev pub new_entries : {img : List ℕ} {used size : ℕ} {handed : List (List ℕ)} → Additions img used size handed → List Entry
+new_entries {used = used} a = a.kept ++ block_entry used (length a.stored)
 
 -- committing: the facts of its arguments and of the disc, and what is appended fits
 pub record CommitOk (buffer : List ℕ) (used : ℕ) (addresses : List ℤ) (size : ℕ) (sectors : List ℕ) (p : Placed) : Type 0 where
   pub arguments : ArgumentsOk buffer used addresses size sectors
   pub table : ℕ
-  pub disc : DiscOk (take used buffer) (indexOffset (take used buffer)) addresses table
+  pub disc : DiscOk (take used buffer) (index_offset (take used buffer)) addresses table
   pub additions : Additions (take used buffer) used size (pieces (length addresses) size sectors)
-  pub index : p.index.0 ≡ used + blockLengthFor (length additions.stored) size + (49 + 8 * tableCount (take used buffer) First table)
-  pub end : p.used ≡ p.index.0 + (20 + 16 * length (newEntries additions))
+  pub index : p.index.0 ≡ used + block_length_for (length additions.stored) size + (49 + 8 * table_count (take used buffer) First table)
+  pub end : p.used ≡ p.index.0 + (20 + 16 * length (new_entries additions))
   pub room : p.used ≤ length buffer
 
 -- rolling back: the image opens with this offset in place of the header's
 pub record RollbackOk (buffer : List ℕ) (used offset : ℕ) : Type 0 where
-  pub bufferOk : BufferOk buffer used
+  pub buffer_ok : BufferOk buffer used
   pub opens : OpensWith (take used buffer) offset First
 
 -- exporting by 4/13's rule: each table entry names an item, all are of one size, and n is the length of all
 pub record ExportExactOk (img out : List ℕ) (n : ℕ) : Type 0 where
   pub kind : TableKind
   pub table : ℕ
-  pub opens : Opens img (indexOffset img) kind table
-  pub names : (i : ℕ) → i < tableCount img kind table → EntryNames img (indexOffset img) kind table i
+  pub opens : Opens img (index_offset img) kind table
+  pub names : (i : ℕ) → i < table_count img kind table → EntryNames img (index_offset img) kind table i
   pub size : ℕ
-  pub sized : (i : ℕ) (h : i < tableCount img kind table) → sectorSize img (names i h).block ≡ size
-  pub whole : n ≡ tableCount img kind table * size
+  pub sized : (i : ℕ) (h : i < table_count img kind table) → sector_size img (names i h).block ≡ size
+  pub whole : n ≡ table_count img kind table * size
   pub room : n ≤ length out
 
 -- exporting: each table entry names an item or is not written, not all of them the latter unless there is none, and the items are of one size
 pub record ExportOk (img out : List ℕ) (n : Flat) : Type 0 where
   pub kind : TableKind
   pub table : ℕ
-  pub opens : Opens img (indexOffset img) kind table
-  pub each : (i : ℕ) → i < tableCount img kind table → NotWritten img kind table i ⊎ EntryNames img (indexOffset img) kind table i
-  pub filled : Counts (NotWritten img kind table) (tableCount img kind table) 0 n.filled
-  pub some : (tableCount img kind table ≡ 0) ⊎ (n.filled < tableCount img kind table)
+  pub opens : Opens img (index_offset img) kind table
+  pub each : (i : ℕ) → i < table_count img kind table → NotWritten img kind table i ⊎ EntryNames img (index_offset img) kind table i
+  pub filled : Counts (NotWritten img kind table) (table_count img kind table) 0 n.filled
+  pub some : (table_count img kind table ≡ 0) ⊎ (n.filled < table_count img kind table)
   pub size : ℕ
-  pub sized : (i : ℕ) → i < tableCount img kind table → (e : EntryNames img (indexOffset img) kind table i) → sectorSize img e.block ≡ size
-  pub whole : n.length ≡ tableCount img kind table * size
+  pub sized : (i : ℕ) → i < table_count img kind table → (e : EntryNames img (index_offset img) kind table i) → sector_size img e.block ≡ size
+  pub whole : n.length ≡ table_count img kind table * size
   pub room : n.length ≤ length out
 
 -- where a new image of so many sectors ends and where its index stands, if one commit stores these in it: behind it a block, a table, and an index of two
 -- entries; if there are none, no commit is made
-unfoldable pub newImage : ℕ → ℕ → List (List ℕ) → Placed
-newImage count size [] = placed (189 + 8 * count) (153 + 8 * count)
-newImage count size (d ∷ stored) =
+unfoldable pub new_image : ℕ → ℕ → List (List ℕ) → Placed
+new_image count size [] = placed (189 + 8 * count) (153 + 8 * count)
+new_image count size (d ∷ stored) =
     let index = 189 + 8 * count + (36 + length (d ∷ stored) * size) + (49 + 8 * count) in
     placed (index + (20 + 16 * 2)) index
 
@@ -254,15 +254,15 @@ pub record ImportOk (buffer file : List ℕ) (size : ℕ) (application : List �
   pub sized : length application ≡ 64
   pub stored : List (List ℕ)
   pub stores : Stores (λ (d : List ℕ). ⊥) [] (pieces count size file) stored
-  pub end : p ≡ newImage count size stored
+  pub end : p ≡ new_image count size stored
   pub room : p.used ≤ length buffer
 
 -- the sectors, each of this size, that a child over its parent has at the k addresses from n on; every other of these addresses is not written
 pub data PairHas (child parent : List ℕ) (size : ℕ) : ℕ → ℕ → List (List ℕ) → Type 0 where
   finished : {n : ℕ} → PairHas child parent size zero n []
-  gap : {k n : ℕ} {ds : List (List ℕ)} → Missing (readOver child parent (pos n)) → PairHas child parent size k (suc n) ds
+  gap : {k n : ℕ} {ds : List (List ℕ)} → Missing (read_over child parent (pos n)) → PairHas child parent size k (suc n) ds
       → PairHas child parent size (suc k) n ds
-  sector : {k n : ℕ} {d : List ℕ} {ds : List (List ℕ)} → readOver child parent (pos n) ≡ accepted d → length d ≡ size
+  sector : {k n : ℕ} {d : List ℕ} {ds : List (List ℕ)} → read_over child parent (pos n) ≡ accepted d → length d ≡ size
       → PairHas child parent size k (suc n) ds → PairHas child parent size (suc k) n (d ∷ ds)
 
 -- flattening: the child opens with a table of the first kind, each of its addresses has a sector or is not written, the sectors are of one size, and the image
@@ -270,39 +270,39 @@ pub data PairHas (child parent : List ℕ) (size : ℕ) : ℕ → ℕ → List (
 pub record FlattenOk (buffer child parent application : List ℕ) (p : Placed) : Type 0 where
   pub arguments : FlattenArguments buffer application
   pub table : ℕ
-  pub opens : Opens child (indexOffset child) First table
-  pub counted : FromTo 1 1048576 (tableCount child First table)
+  pub opens : Opens child (index_offset child) First table
+  pub counted : FromTo 1 1048576 (table_count child First table)
   pub size : ℕ
   pub small : size ≤ 65536
   pub sectors : List (List ℕ)
-  pub has : PairHas child parent size (tableCount child First table) 0 sectors
+  pub has : PairHas child parent size (table_count child First table) 0 sectors
   pub few : length sectors ≤ 65536
   pub stored : List (List ℕ)
   pub stores : Stores (λ (d : List ℕ). ⊥) [] sectors stored
-  pub end : p ≡ newImage (tableCount child First table) size stored
+  pub end : p ≡ new_image (table_count child First table) size stored
   pub room : p.used ≤ length buffer
 
 pub record Demand1Accepted : Type 0 where
-  pub counting : (img : List ℕ) (range : AddressRange) → (sectorCount img ≡ accepted range) ↔ HasSectors img range
+  pub counting : (img : List ℕ) (range : AddressRange) → (sector_count img ≡ accepted range) ↔ HasSectors img range
   pub locating : (img : List ℕ) (a : ℤ) (p : Place) → (locate img a ≡ accepted p) ↔ NamesItem img a p
   pub creating : (buffer : List ℕ) (count : ℕ) (application : List ℕ) (major minor mediaType creationTime lastWrittenTime : ℕ) (p : Placed)
       → ((create buffer count application major minor mediaType creationTime lastWrittenTime).result ≡ accepted p)
       ↔ (CreateOk buffer count application × (p ≡ placed (189 + 8 * count) (153 + 8 * count)))
   pub committing : (buffer : List ℕ) (used : ℕ) (addresses : List ℤ) (size : ℕ) (sectors : List ℕ) (time : ℕ) (p : Placed)
       → ((commit buffer used addresses size sectors time).result ≡ accepted p) ↔ CommitOk buffer used addresses size sectors p
-  pub rollingBack : (buffer : List ℕ) (used offset time : ℕ) (p : Placed)
+  pub rolling_back : (buffer : List ℕ) (used offset time : ℕ) (p : Placed)
       → ((rollback buffer used offset time).result ≡ accepted p) ↔ (RollbackOk buffer used offset × (p ≡ placed used offset))
-  pub exportingExactly : (img out : List ℕ) (n : ℕ) → ((exportExact img out).result ≡ accepted n) ↔ ExportExactOk img out n
+  pub exporting_exactly : (img out : List ℕ) (n : ℕ) → ((export_exact img out).result ≡ accepted n) ↔ ExportExactOk img out n
   pub exporting : (img out : List ℕ) (n : Flat) → ((export img out).result ≡ accepted n) ↔ ExportOk img out n
   pub importing : (buffer file : List ℕ) (size : ℕ) (application : List ℕ) (major minor mediaType creationTime lastWrittenTime : ℕ) (p : Placed)
       → ((import buffer file size application major minor mediaType creationTime lastWrittenTime).result ≡ accepted p) ↔ ImportOk buffer file size application p
-  pub locatingOver : (child parent : List ℕ) (a : ℤ) (s : Sourced) → (locateOver child parent a ≡ accepted s) ↔ NamesOver child parent a s
+  pub locating_over : (child parent : List ℕ) (a : ℤ) (s : Sourced) → (locate_over child parent a ≡ accepted s) ↔ NamesOver child parent a s
   pub flattening : (buffer child parent application : List ℕ) (major minor mediaType creationTime lastWrittenTime : ℕ) (p : Placed)
       → ((flatten buffer child parent application major minor mediaType creationTime lastWrittenTime).result ≡ accepted p) ↔ FlattenOk buffer child parent application p
 
 -- ---- what an accepted call leaves as it was: all of these bytes
 pub record Leaves (before after : List ℕ) (Untouched : ℕ → Type 0) : Type 0 where
-  pub sameLength : length after ≡ length before
+  pub same_length : length after ≡ length before
   pub bytes : (i : ℕ) → Untouched i → get_or after i 0 ≡ get_or before i 0
 
 -- no byte of the header's indexOffset or lastWrittenTime, by 2/13's numbers
@@ -311,8 +311,8 @@ Elsewhere i = (i < 80) ⊎ FromTo 88 95 i ⊎ (104 ≤ i)
 
 -- which are set to these
 pub record HeaderSet (after : List ℕ) (index time : ℕ) : Type 0 where
-  pub indexOffset : part after 80 8 ≡ toLe 8 index
-  pub lastWrittenTime : part after 96 8 ≡ toLe 8 time
+  pub index_offset : part after 80 8 ≡ to_le 8 index
+  pub lastWrittenTime : part after 96 8 ≡ to_le 8 time
 
 -- "Later bytes of the buffer don't change."; "No other byte changes below the old `used` or from the new one on."; "It sets indexOffset and
 -- lastWrittenTime only"
@@ -325,11 +325,11 @@ pub record WritesOnly : Type 0 where
       → (commit buffer used addresses size sectors time).result ≡ accepted p
       → let after = (commit buffer used addresses size sectors time).buffer in
       Leaves buffer after (λ i. Elsewhere i × ((i < used) ⊎ (p.used ≤ i))) × HeaderSet after p.index.0 time
-  pub rollingBack : (buffer : List ℕ) (used offset time : ℕ) (p : Placed)
+  pub rolling_back : (buffer : List ℕ) (used offset time : ℕ) (p : Placed)
       → (rollback buffer used offset time).result ≡ accepted p
       → let after = (rollback buffer used offset time).buffer in
       Leaves buffer after Elsewhere × HeaderSet after offset time
-  pub exportingExactly : (img out : List ℕ) (n : ℕ) → (exportExact img out).result ≡ accepted n → Leaves out (exportExact img out).buffer (λ i. n ≤ i)
+  pub exporting_exactly : (img out : List ℕ) (n : ℕ) → (export_exact img out).result ≡ accepted n → Leaves out (export_exact img out).buffer (λ i. n ≤ i)
   pub exporting : (img out : List ℕ) (n : Flat) → (export img out).result ≡ accepted n → Leaves out (export img out).buffer (λ i. n.length ≤ i)
   pub importing : (buffer file : List ℕ) (size : ℕ) (application : List ℕ) (major minor mediaType creationTime lastWrittenTime : ℕ) (p : Placed)
       → (import buffer file size application major minor mediaType creationTime lastWrittenTime).result ≡ accepted p
@@ -345,17 +345,17 @@ pub record WritesOnly : Type 0 where
 pub record SecondRefused : Type 0 where
   pub committing : (buffer : List ℕ) (used : ℕ) (addresses : List ℤ) (size : ℕ) (sectors : List ℕ) (time : ℕ)
       → ((commit buffer used addresses size sectors time).result ≡ refused (refusal 74 0))
-      ↔ (ArgumentsOk buffer used addresses size sectors × OpensWith (take used buffer) (indexOffset (take used buffer)) Second)
-  pub rollingBack : (buffer : List ℕ) (used offset time : ℕ)
+      ↔ (ArgumentsOk buffer used addresses size sectors × OpensWith (take used buffer) (index_offset (take used buffer)) Second)
+  pub rolling_back : (buffer : List ℕ) (used offset time : ℕ)
       → ((rollback buffer used offset time).result ≡ refused (refusal 74 0)) ↔ (BufferOk buffer used × OpensWith (take used buffer) offset Second)
   pub flattening : (buffer child parent application : List ℕ) (major minor mediaType creationTime lastWrittenTime : ℕ)
       → ((flatten buffer child parent application major minor mediaType creationTime lastWrittenTime).result ≡ refused (refusal 74 0))
-      ↔ (FlattenArguments buffer application × OpensWith child (indexOffset child) Second)
+      ↔ (FlattenArguments buffer application × OpensWith child (index_offset child) Second)
 
 -- ---- 6/13: the test of an identifier "says yes exactly if the bytes are those letters in that order", at a place and in an index entry
 pub record TestsLetters (img : List ℕ) (letters : List ℕ) : Type 0 where
   pub at_place : (at : ℕ) → (lacks img at letters ≡ false) ↔ (part img at (length letters) ≡ letters)
-  pub inEntry : (p : ℕ) → p + entryLength ≤ length img → (is_type letters (entry_at img p) ≡ true) ↔ (part img p 4 ≡ letters)
+  pub in_entry : (p : ℕ) → p + entry_length ≤ length img → (is_type letters (entry_at img p) ≡ true) ↔ (part img p 4 ≡ letters)
 
 abbrev pub LettersTested : Type 0
 LettersTested = (img : List ℕ) → IsBytes img → (letters : List ℕ) → TestsLetters img letters
@@ -372,7 +372,7 @@ Demand2Reading = (img : List ℕ) (a : ℤ) (sector : List ℕ) → (read img a 
 
 -- the same of what the call hands out: some bytes exactly if the address names an item, and then that item's; else none
 abbrev pub Demand2Returned : Type 0
-Demand2Returned = (img : List ℕ) (a : ℤ) (sector : List ℕ) → ((bytesRead (read img a) ≡ sector) × (sector ≢ [])) ↔ ItemIs img a sector
+Demand2Returned = (img : List ℕ) (a : ℤ) (sector : List ℕ) → ((bytes_read (read img a) ≡ sector) × (sector ≢ [])) ↔ ItemIs img a sector
 
 -- and it is the part that `locate` names, none exactly where `locate` refuses
 unfoldable pub part_at : List ℕ → Answer Place → List ℕ
@@ -381,7 +381,7 @@ part_at img (refused r) = []
 
 abbrev pub ReadIsLocated : Type 0
 ReadIsLocated =
-    (img : List ℕ) (a : ℤ) → (bytesRead (read img a) ≡ part_at img (locate img a)) × ((p : Place) → locate img a ≡ accepted p → bytesRead (read img a) ≢ [])
+    (img : List ℕ) (a : ℤ) → (bytes_read (read img a) ≡ part_at img (locate img a)) × ((p : Place) → locate img a ≡ accepted p → bytes_read (read img a) ≢ [])
 
 -- and where one of the two is refused, so is the other, with the same number and place: what is said of a read's refusals holds of `locate`'s
 abbrev pub LocateRefusesAsRead : Type 0
@@ -394,12 +394,12 @@ LocatedInside = (img : List ℕ) (a : ℤ) (p : Place) → locate img a ≡ acce
 -- ---- the addresses of a disc: every other than those is refused with 20
 abbrev pub OutsideRefused : Type 0
 OutsideRefused =
-    (img : List ℕ) (range : AddressRange) → sectorCount img ≡ accepted range
+    (img : List ℕ) (range : AddressRange) → sector_count img ≡ accepted range
     → (a : ℤ) → ((n : ℕ) → n < range.count → a ≢ range.lowest.0 +ℤ pos n) → read img a ≡ refused (refusal 20 0)
 
 -- ---- a new disc: so many sectors, from address 0 on, none of them written
 pub record FreshDisc (img : List ℕ) (count : ℕ) : Type 0 where
-  pub sectors : sectorCount img ≡ accepted (record { count = count; lowest = record { 0 = pos 0 } })
+  pub sectors : sector_count img ≡ accepted (record { count = count; lowest = record { 0 = pos 0 } })
   pub inside : (n : ℕ) → n < count → read img (pos n) ≡ refused (refusal 21 0)
   pub outside : (a : ℤ) → ((n : ℕ) → n < count → a ≢ pos n) → read img a ≡ refused (refusal 20 0)
 
@@ -420,7 +420,7 @@ pub record ReadsCommitted (before later : ℤ → Answer (List ℕ)) (addresses 
 pub record CommitKept (buffer : List ℕ) (used : ℕ) (addresses : List ℤ) (size : ℕ) (sectors : List ℕ) (p : Placed) (after : List ℕ) : Type 0 where
   pub disc : ReadsCommitted (read (take used buffer)) (read (take p.used after)) addresses size sectors
   pub additions : Additions (take used buffer) used size (pieces (length addresses) size sectors)
-  pub index : entries (take p.used after) p.index.0 ≡ newEntries additions
+  pub index : entries (take p.used after) p.index.0 ≡ new_entries additions
 
 -- the buffer is one of bytes, as every lent buffer is
 abbrev pub Demand2Committing : Type 0
@@ -433,7 +433,7 @@ Demand2Committing =
 -- answers
 pub record FlatBy (Stands : Answer (List ℕ) → List ℕ → Type 0) (img file : List ℕ) (size : ℕ) : Type 0 where
   pub range : AddressRange
-  pub sectors : sectorCount img ≡ accepted range
+  pub sectors : sector_count img ≡ accepted range
   pub whole : length file ≡ range.count * size
   pub each : (i : ℕ) → i < range.count → Stands (read img (range.lowest.0 +ℤ pos i)) (part file (i * size) size)
 
@@ -447,7 +447,7 @@ pub record ExportedFile (img : List ℕ) (n : ℕ) (after : List ℕ) : Type 0 w
   pub file : FlatFile img (take n after) size
 
 abbrev pub FlatExporting : Type 0
-FlatExporting = (img out : List ℕ) (n : ℕ) → (exportExact img out).result ≡ accepted n → ExportedFile img n (exportExact img out).buffer
+FlatExporting = (img out : List ℕ) (n : ℕ) → (export_exact img out).result ≡ accepted n → ExportedFile img n (export_exact img out).buffer
 
 -- an accepted import of a flat file: the image is one whose flat file it is, from address 0 on
 pub record ImportedDisc (file : List ℕ) (size : ℕ) (img : List ℕ) : Type 0 where
@@ -468,7 +468,7 @@ ImportedExported =
     → (major minor mediaType creationTime lastWrittenTime : ℕ) (p : Placed)
     → let imported = import buffer file size application major minor mediaType creationTime lastWrittenTime in
     imported.result ≡ accepted p → (out : List ℕ) → length file ≤ length out
-    → exportExact (take p.used imported.buffer) out ≡ record { result = accepted (length file); buffer = overwrite out 0 file }
+    → export_exact (take p.used imported.buffer) out ≡ record { result = accepted (length file); buffer = overwrite out 0 file }
 
 -- an import is accepted, and every address reads as in img, the lowest as 0: 11/13, "such a disc comes back with its lowest address as 0 and the others
 -- following"
@@ -481,8 +481,8 @@ pub record ImportedBack (img : List ℕ) (lowest : ℤ) (imported : Outcome Plac
 -- that is, where the import is not refused with 35
 abbrev pub ExportedImported : Type 0
 ExportedImported =
-    (img out : List ℕ) (n : ℕ) → (exportExact img out).result ≡ accepted n
-    → let file = take n (exportExact img out).buffer in
+    (img out : List ℕ) (n : ℕ) → (export_exact img out).result ≡ accepted n
+    → let file = take n (export_exact img out).buffer in
     (size : ℕ) (f : FlatFile img file size) → FromTo 1 65536 f.range.count → size ≤ 65536
     → (buffer : List ℕ) → IsBytes buffer → length buffer ≤ 4294967296 → (application : List ℕ) → IsBytes application → length application ≡ 64
     → (major minor mediaType creationTime lastWrittenTime : ℕ)
@@ -507,7 +507,7 @@ FilledExporting = (img out : List ℕ) (n : Flat) → (export img out).result �
 -- "A disc with nothing written still refuses with 21": it has sectors, and each address is not written. No other disc is refused so
 pub record NothingWritten (img : List ℕ) : Type 0 where
   pub range : AddressRange
-  pub sectors : sectorCount img ≡ accepted range
+  pub sectors : sector_count img ≡ accepted range
   pub some : range.count ≢ 0
   pub each : (i : ℕ) → i < range.count → Missing (read img (range.lowest.0 +ℤ pos i))
 
@@ -515,56 +515,56 @@ abbrev pub UnwrittenRefused : Type 0
 UnwrittenRefused = (img out : List ℕ) → ((export img out).result ≡ refused (refusal 21 0)) ↔ NothingWritten img
 
 -- where nothing is missing both rules come to the same: the same bytes, none filled, or the same refusal, number and place
-unfoldable pub noneFilled : Answer ℕ → Answer Flat
-noneFilled (accepted n) = accepted (flat n 0)
-noneFilled (refused r) = refused r
+unfoldable pub none_filled : Answer ℕ → Answer Flat
+none_filled (accepted n) = accepted (flat n 0)
+none_filled (refused r) = refused r
 
 abbrev pub RulesAgree : Type 0
 RulesAgree =
     (img out : List ℕ) → ((a : ℤ) → ¬ Missing (read img a))
-    → export img out ≡ record { result = noneFilled (exportExact img out).result; buffer = (exportExact img out).buffer }
+    → export img out ≡ record { result = none_filled (export_exact img out).result; buffer = (export_exact img out).buffer }
 
 -- ---- 8/13, a disc over its parent. Demand 2: a sector is given exactly if the child's table entry names an item, or is not written and the parent's names one,
 -- and then it is that item's bytes.
 -- the image of this number
-unfoldable pub imageBy : List ℕ → List ℕ → ℕ → List ℕ
-imageBy child parent zero = child
-imageBy child parent (suc n) = parent
+unfoldable pub image_by : List ℕ → List ℕ → ℕ → List ℕ
+image_by child parent zero = child
+image_by child parent (suc n) = parent
 
 pub record ItemOver (child parent : List ℕ) (a : ℤ) (sector : List ℕ) : Type 0 where
   pub source : Sourced
   pub names : NamesOver child parent a source
-  pub bytes : part (imageBy child parent source.image) source.place.start.0 source.place.size ≡ sector
+  pub bytes : part (image_by child parent source.image) source.place.start.0 source.place.size ≡ sector
 
 abbrev pub OverReading : Type 0
-OverReading = (child parent : List ℕ) (a : ℤ) (sector : List ℕ) → (readOver child parent a ≡ accepted sector) ↔ ItemOver child parent a sector
+OverReading = (child parent : List ℕ) (a : ℤ) (sector : List ℕ) → (read_over child parent a ≡ accepted sector) ↔ ItemOver child parent a sector
 
 -- the same of what the call hands out
 abbrev pub OverReturned : Type 0
 OverReturned =
-    (child parent : List ℕ) (a : ℤ) (sector : List ℕ) → ((bytesRead (readOver child parent a) ≡ sector) × (sector ≢ [])) ↔ ItemOver child parent a sector
+    (child parent : List ℕ) (a : ℤ) (sector : List ℕ) → ((bytes_read (read_over child parent a) ≡ sector) × (sector ≢ [])) ↔ ItemOver child parent a sector
 
 -- "a second call says which, or gives the same refusal", and a third says where there: what is read is that part of that image
 pub record Agreeing (child parent : List ℕ) (a : ℤ) : Type 0 where
-  pub source : (s : Sourced) → locateOver child parent a ≡ accepted s → sourceOver child parent a ≡ accepted s.image
-  pub inside : (s : Sourced) → locateOver child parent a ≡ accepted s → s.place.start.0 + s.place.size ≤ length (imageBy child parent s.image)
-  pub bytes : (s : Sourced) → locateOver child parent a ≡ accepted s
-      → readOver child parent a ≡ accepted (part (imageBy child parent s.image) s.place.start.0 s.place.size)
-  pub refuses : (r : Refusal) → (locateOver child parent a ≡ refused r) ↔ (readOver child parent a ≡ refused r)
-  pub sourceRefuses : (r : Refusal) → (sourceOver child parent a ≡ refused r) ↔ (readOver child parent a ≡ refused r)
+  pub source : (s : Sourced) → locate_over child parent a ≡ accepted s → source_over child parent a ≡ accepted s.image
+  pub inside : (s : Sourced) → locate_over child parent a ≡ accepted s → s.place.start.0 + s.place.size ≤ length (image_by child parent s.image)
+  pub bytes : (s : Sourced) → locate_over child parent a ≡ accepted s
+      → read_over child parent a ≡ accepted (part (image_by child parent s.image) s.place.start.0 s.place.size)
+  pub refuses : (r : Refusal) → (locate_over child parent a ≡ refused r) ↔ (read_over child parent a ≡ refused r)
+  pub source_refuses : (r : Refusal) → (source_over child parent a ≡ refused r) ↔ (read_over child parent a ≡ refused r)
 
 abbrev pub OverAgrees : Type 0
 OverAgrees = (child parent : List ℕ) (a : ℤ) → Agreeing child parent a
 
 -- its refusals, by those of the two images: the parent's count only where the child's is 21
 pub data RefusedOver (child parent : List ℕ) (a : ℤ) : Refusal → Type 0 where
-  byChild : {r : Refusal} → read child a ≡ refused r → r.number ≢ 21 → RefusedOver child parent a r
-  byNeither : Missing (read child a) → Missing (read parent a) ⊎ (read parent a ≡ refused (refusal 20 0)) → RefusedOver child parent a (refusal 21 0)
-  byParent : {r : Refusal} → Missing (read child a) → read parent a ≡ refused r → r.number ≢ 20 → r.number ≢ 21
+  by_child : {r : Refusal} → read child a ≡ refused r → r.number ≢ 21 → RefusedOver child parent a r
+  by_neither : Missing (read child a) → Missing (read parent a) ⊎ (read parent a ≡ refused (refusal 20 0)) → RefusedOver child parent a (refusal 21 0)
+  by_parent : {r : Refusal} → Missing (read child a) → read parent a ≡ refused r → r.number ≢ 20 → r.number ≢ 21
       → RefusedOver child parent a (refusal (100 + r.number) r.place.0)
 
 abbrev pub OverRefused : Type 0
-OverRefused = (child parent : List ℕ) (a : ℤ) (r : Refusal) → (readOver child parent a ≡ refused r) ↔ RefusedOver child parent a r
+OverRefused = (child parent : List ℕ) (a : ℤ) (r : Refusal) → (read_over child parent a ≡ refused r) ↔ RefusedOver child parent a r
 
 -- flattening: the new image "reads afterwards as the pair did", at every address, the same bytes or the same refusal, number and place
 abbrev pub FlattenReads : Type 0
@@ -572,17 +572,17 @@ FlattenReads =
     (buffer : List ℕ) → IsBytes buffer → (child parent application : List ℕ) → IsBytes application
     → (major minor mediaType creationTime lastWrittenTime : ℕ) (p : Placed)
     → let flattened = flatten buffer child parent application major minor mediaType creationTime lastWrittenTime in
-    flattened.result ≡ accepted p → ReadTheSame (read (take p.used flattened.buffer)) (readOver child parent)
+    flattened.result ≡ accepted p → ReadTheSame (read (take p.used flattened.buffer)) (read_over child parent)
 
 -- and its refusals: behind the child's opening, the first "other than 21 by rising address" of a sector is its own, whatever else is wrong
 pub record FirstRefusedOver (child parent : List ℕ) (r : Refusal) : Type 0 where
   pub table : ℕ
-  pub opens : Opens child (indexOffset child) First table
+  pub opens : Opens child (index_offset child) First table
   pub address : ℕ
-  pub inside : address < tableCount child First table
-  pub here : readOver child parent (pos address) ≡ refused r
+  pub inside : address < table_count child First table
+  pub here : read_over child parent (pos address) ≡ refused r
   pub other : r.number ≢ 21
-  pub before : (n : ℕ) → n < address → (q : Refusal) → readOver child parent (pos n) ≡ refused q → q.number ≡ 21
+  pub before : (n : ℕ) → n < address → (q : Refusal) → read_over child parent (pos n) ≡ refused q → q.number ≡ 21
 
 abbrev pub FlattenRefused : Type 0
 FlattenRefused =
@@ -598,8 +598,8 @@ View = (ℤ → Answer (List ℕ)) → ℤ → Answer (List ℕ)
 -- (a) A rollback, made at m, to the offset of a point: it is accepted, it answers `used` and the offset, and right after it every address
 -- reads the same bytes, or the same refusal, number and place, as at the point
 pub record ReturnsTo (seen : View) (m : Moment) (offset time : ℕ) (p : Point) : Type 0 where
-  pub accepts : (outcomeOf m (rollsBack offset time)).result ≡ accepted (placed m.used offset)
-  pub same : ReadTheSame (seen (reads (after m (rollsBack offset time)))) (seen p.disc)
+  pub accepts : (outcome_of m (rolls_back offset time)).result ≡ accepted (placed m.used offset)
+  pub same : ReadTheSame (seen (reads (after m (rolls_back offset time)))) (seen p.disc)
 
 -- (d) "A refused call passes buffer and `used` on unchanged."
 pub record Unchanged (m n : Moment) : Type 0 where
@@ -608,15 +608,15 @@ pub record Unchanged (m n : Moment) : Type 0 where
 
 -- (a) for a rollback; (c) for a commit: if it is accepted, the named addresses read as handed in and every other as just before it
 unfoldable pub Effect : View → Moment → Call → Type 0
-Effect seen m (rollsBack offset time) = All (λ (p : Point). p.offset ≡ offset → ReturnsTo seen m offset time p) m.points
+Effect seen m (rolls_back offset time) = All (λ (p : Point). p.offset ≡ offset → ReturnsTo seen m offset time p) m.points
 Effect seen m (commits addresses size sectors time) =
-    (p : Placed) → (outcomeOf m (commits addresses size sectors time)).result ≡ accepted p
+    (p : Placed) → (outcome_of m (commits addresses size sectors time)).result ≡ accepted p
     → ReadsCommitted (seen (reads m)) (seen (reads (after m (commits addresses size sectors time)))) addresses size sectors
 
 -- what is promised of a call that is made at m
 pub record Promised (seen : View) (m : Moment) (c : Call) : Type 0 where
   pub effect : Effect seen m c
-  pub unchanged : (r : Refusal) → (outcomeOf m c).result ≡ refused r → Unchanged m (after m c)
+  pub unchanged : (r : Refusal) → (outcome_of m c).result ≡ refused r → Unchanged m (after m c)
 
 -- (b) "No two points have the same offset"
 pub data Distinct : List Point → Type 0 where
@@ -626,18 +626,18 @@ pub data Distinct : List Point → Type 0 where
 -- what is promised of the list
 pub record Kept (seen : View) (start : Moment) (calls : List Call) : Type 0 where
   pub promises : Throughout (Promised seen) start calls
-  pub distinct : Distinct (atEnd start calls).points
+  pub distinct : Distinct (at_end start calls).points
 
 -- what is lent is bytes
 abbrev pub KeptBy : View → Type 0
 KeptBy seen =
-    (buffer : List ℕ) → IsBytes buffer → (start : Start) → OfBytes start → (p : Placed) → (startOn buffer start).result ≡ accepted p
-    → (calls : List Call) → Throughout Permitted (started (startOn buffer start).buffer p) calls
-    → Kept seen (started (startOn buffer start).buffer p) calls
+    (buffer : List ℕ) → IsBytes buffer → (start : Start) → OfBytes start → (p : Placed) → (start_on buffer start).result ≡ accepted p
+    → (calls : List Call) → Throughout Permitted (started (start_on buffer start).buffer p) calls
+    → Kept seen (started (start_on buffer start).buffer p) calls
 
 abbrev pub Demand3 : Type 0
 Demand3 = KeptBy (λ disc. disc)
 
 -- the same lists, whatever the parent is
 abbrev pub Demand3Over : Type 0
-Demand3Over = (parent : List ℕ) → KeptBy (discOver parent)
+Demand3Over = (parent : List ℕ) → KeptBy (disc_over parent)

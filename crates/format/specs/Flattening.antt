@@ -7,93 +7,93 @@ use Rattle.format.specs.declared.Placed.{Placed}
 use Rattle.format.specs.declared.Verdict.{Verdict}
 use Rattle.format.specs.declared.Verdict.TheVariants.{Passes, Refuses}
 use Rattle.format.specs.Tests.{same, differs, below, ◌or◌}
-use Rattle.format.specs.Refusals.{refusal, row, ◌then◌, firstRefusal, Answer, refused, accepted, answer}
-use Rattle.format.specs.Layouts.{applicationLength, indexOffset}
+use Rattle.format.specs.Refusals.{refusal, row, ◌then◌, first_refusal, Answer, refused, accepted, answer}
+use Rattle.format.specs.Layouts.{application_length, index_offset}
 use Rattle.format.specs.Opening.{opened}
-use Rattle.format.specs.Writing.{mostSectors, largestSize, mostAddresses, longestBuffer, writableVerdict, Outcome}
+use Rattle.format.specs.Writing.{most_sectors, largest_size, most_addresses, longest_buffer, writable_verdict, Outcome}
 use Rattle.format.specs.Creating.{create}
-use Rattle.format.specs.Committing.{otherThan21, commit}
+use Rattle.format.specs.Committing.{other_than_21, commit}
 use Rattle.format.specs.Importing.{and_then}
-use Rattle.format.specs.Overlaying.{readOver}
+use Rattle.format.specs.Overlaying.{read_over}
 
 -- ---- the sectors of the pair
 -- "the child's count"
 abbrev pub count_of : List ℕ → ℕ
-count_of child = (opened child (indexOffset child)).count
+count_of child = (opened child (index_offset child)).count
 
 unfoldable pub pair_at : List ℕ → List ℕ → ℕ → Answer (List ℕ)
-pair_at child parent n = readOver child parent (pos n)
+pair_at child parent n = read_over child parent (pos n)
 
 -- an address that has a sector, and the sector
 pub record Written : Type 0 where
   pub address : ℕ
   pub sector : List ℕ
 
-unfoldable pub withSector : ℕ → Answer (List ℕ) → List Written → List Written
-withSector n (accepted sector) ws = record { address = n; sector = sector } ∷ ws
-withSector n (refused r) ws = ws
+unfoldable pub with_sector : ℕ → Answer (List ℕ) → List Written → List Written
+with_sector n (accepted sector) ws = record { address = n; sector = sector } ∷ ws
+with_sector n (refused r) ws = ws
 
 -- those of the k addresses from n on, where a disc reads so
-unfoldable pub writtenFrom : (ℕ → Answer (List ℕ)) → ℕ → ℕ → List Written
-writtenFrom disc zero n = []
-writtenFrom disc (suc k) n = withSector n (disc n) (writtenFrom disc k (suc n))
+unfoldable pub written_from : (ℕ → Answer (List ℕ)) → ℕ → ℕ → List Written
+written_from disc zero n = []
+written_from disc (suc k) n = with_sector n (disc n) (written_from disc k (suc n))
 
 -- "all sectors of the pair that aren't 21"
 unfoldable pub written_of : List ℕ → List ℕ → List Written
-written_of child parent = writtenFrom (pair_at child parent) (count_of child) 0
+written_of child parent = written_from (pair_at child parent) (count_of child) 0
 
 -- as a commit takes them: the addresses, the size, the sectors one after another
-unfoldable pub addressesOf : List Written → List ℤ
-addressesOf ws = map (λ (w : Written). pos w.address) ws
+unfoldable pub addresses_of : List Written → List ℤ
+addresses_of ws = map (λ (w : Written). pos w.address) ws
 
 unfoldable pub size_of : List Written → ℕ
 size_of [] = 0
 size_of (w ∷ ws) = length w.sector
 
-unfoldable pub sectorsOf : List Written → List ℕ
-sectorsOf ws = list.flatten (map (λ (w : Written). w.sector) ws)
+unfoldable pub sectors_of : List Written → List ℕ
+sectors_of ws = list.flatten (map (λ (w : Written). w.sector) ws)
 
 -- one of them has another size than this
-unfoldable pub anyOther : ℕ → List Written → Bool
-anyOther size [] = false
-anyOther size (w ∷ ws) = differs (length w.sector) size or anyOther size ws
+unfoldable pub any_other : ℕ → List Written → Bool
+any_other size [] = false
+any_other size (w ∷ ws) = differs (length w.sector) size or any_other size ws
 
 -- ---- "flattening's order is 31, 33, the child's opening numbers, the sectors' other than 21 by rising address, 40, mixed sizes, 30, 35"; 74 "after opening's"
-unfoldable pub verdictOf : {A : Type 0} → Answer A → Verdict
-verdictOf (accepted a) = Passes
-verdictOf (refused r) = Refuses r
+unfoldable pub verdict_of : {A : Type 0} → Answer A → Verdict
+verdict_of (accepted a) = Passes
+verdict_of (refused r) = Refuses r
 
-unfoldable pub pairVerdict : List ℕ → List ℕ → Verdict
-pairVerdict child parent = firstRefusal (λ n. otherThan21 (verdictOf (pair_at child parent n))) (count_of child) 0
+unfoldable pub pair_verdict : List ℕ → List ℕ → Verdict
+pair_verdict child parent = first_refusal (λ n. other_than_21 (verdict_of (pair_at child parent n))) (count_of child) 0
 
 -- 40 and 30, of so many sectors of a disc
-unfoldable pub sizesVerdict : ℕ → List Written → Verdict
-sizesVerdict count ws =
-    row (anyOther (size_of ws) ws) (refusal 40 0)
-    then row (same count 0 or below mostSectors count or below largestSize (size_of ws) or below mostAddresses (length ws)) (refusal 30 0)
+unfoldable pub sizes_verdict : ℕ → List Written → Verdict
+sizes_verdict count ws =
+    row (any_other (size_of ws) ws) (refusal 40 0)
+    then row (same count 0 or below most_sectors count or below largest_size (size_of ws) or below most_addresses (length ws)) (refusal 30 0)
 
 -- 31 and 33
-unfoldable pub lentVerdict : List ℕ → List ℕ → Verdict
-lentVerdict buffer application =
-    row (below longestBuffer (length buffer)) (refusal 31 0)
-    then row (differs (length application) applicationLength) (refusal 33 0)
+unfoldable pub lent_verdict : List ℕ → List ℕ → Verdict
+lent_verdict buffer application =
+    row (below longest_buffer (length buffer)) (refusal 31 0)
+    then row (differs (length application) application_length) (refusal 33 0)
 
 -- 35, behind them, is that of the two calls
-unfoldable pub flattenVerdict : List ℕ → List ℕ → List ℕ → List ℕ → Verdict
-flattenVerdict buffer child parent application =
-    lentVerdict buffer application
-    then writableVerdict child (indexOffset child)
-    then pairVerdict child parent
-    then sizesVerdict (count_of child) (written_of child parent)
+unfoldable pub flatten_verdict : List ℕ → List ℕ → List ℕ → List ℕ → Verdict
+flatten_verdict buffer child parent application =
+    lent_verdict buffer application
+    then writable_verdict child (index_offset child)
+    then pair_verdict child parent
+    then sizes_verdict (count_of child) (written_of child parent)
 
 -- ---- "as creating .. and one commit .. would (creating alone if there are none)": the commit to the image that a creation, which answered p, left
-unfoldable pub commitAll : List ℕ → Placed → List Written → ℕ → Outcome Placed
-commitAll buffer p [] time = record { result = accepted p; buffer = buffer }
-commitAll buffer p (w ∷ ws) time = commit buffer p.used (addressesOf (w ∷ ws)) (size_of (w ∷ ws)) (sectorsOf (w ∷ ws)) time
+unfoldable pub commit_all : List ℕ → Placed → List Written → ℕ → Outcome Placed
+commit_all buffer p [] time = record { result = accepted p; buffer = buffer }
+commit_all buffer p (w ∷ ws) time = commit buffer p.used (addresses_of (w ∷ ws)) (size_of (w ∷ ws)) (sectors_of (w ∷ ws)) time
 
 unfoldable pub flatten : List ℕ → List ℕ → List ℕ → List ℕ → ℕ → ℕ → ℕ → ℕ → ℕ → Outcome Placed
 flatten buffer child parent application major minor mediaType creationTime lastWrittenTime =
-    and_then buffer (answer (flattenVerdict buffer child parent application) (count_of child)) (λ count.
+    and_then buffer (answer (flatten_verdict buffer child parent application) (count_of child)) (λ count.
     let created = create buffer count application major minor mediaType creationTime lastWrittenTime in
     and_then buffer created.result (λ p.
-    commitAll created.buffer p (written_of child parent) lastWrittenTime))
+    commit_all created.buffer p (written_of child parent) lastWrittenTime))

@@ -17,10 +17,10 @@ pub data Start : Type 0 where
   creates : (count : ℕ) (application : List ℕ) (major minor mediaType creationTime lastWrittenTime : ℕ) → Start
   imports : (file : List ℕ) (size : ℕ) (application : List ℕ) (major minor mediaType creationTime lastWrittenTime : ℕ) → Start
 
-unfoldable pub startOn : List ℕ → Start → Outcome Placed
-startOn buffer (creates count application major minor mediaType creationTime lastWrittenTime) =
+unfoldable pub start_on : List ℕ → Start → Outcome Placed
+start_on buffer (creates count application major minor mediaType creationTime lastWrittenTime) =
     create buffer count application major minor mediaType creationTime lastWrittenTime
-startOn buffer (imports file size application major minor mediaType creationTime lastWrittenTime) =
+start_on buffer (imports file size application major minor mediaType creationTime lastWrittenTime) =
     import buffer file size application major minor mediaType creationTime lastWrittenTime
 
 -- it is handed bytes
@@ -30,7 +30,7 @@ OfBytes (imports file size application major minor mediaType creationTime lastWr
 
 pub data Call : Type 0 where
   commits : (addresses : List ℤ) (size : ℕ) (sectors : List ℕ) (time : ℕ) → Call
-  rollsBack : (offset time : ℕ) → Call
+  rolls_back : (offset time : ℕ) → Call
 
 -- a point (01's own term): "the disc as it reads right after the creation", or the import, "or an accepted commit", with the offset that was returned
 pub record Point : Type 0 where
@@ -53,35 +53,35 @@ unfoldable pub ReadTheSame : (ℤ → Answer (List ℕ)) → (ℤ → Answer (Li
 ReadTheSame one other = (a : ℤ) → one a ≡ other a
 
 -- the point that a creation, an import or a commit makes, which answered p and left this buffer
-unfoldable pub pointNow : List ℕ → Placed → Point
-pointNow buffer p = record { offset = p.index.0; disc = read (take p.used buffer) }
+unfoldable pub point_now : List ℕ → Placed → Point
+point_now buffer p = record { offset = p.index.0; disc = read (take p.used buffer) }
 
 -- the moment after an accepted start
 unfoldable pub started : List ℕ → Placed → Moment
-started buffer p = record { buffer = buffer; used = p.used; points = pointNow buffer p ∷ [] }
+started buffer p = record { buffer = buffer; used = p.used; points = point_now buffer p ∷ [] }
 
 -- a call at a moment
-unfoldable pub outcomeOf : Moment → Call → Outcome Placed
-outcomeOf m (commits addresses size sectors time) = commit m.buffer m.used addresses size sectors time
-outcomeOf m (rollsBack offset time) = rollback m.buffer m.used offset time
+unfoldable pub outcome_of : Moment → Call → Outcome Placed
+outcome_of m (commits addresses size sectors time) = commit m.buffer m.used addresses size sectors time
+outcome_of m (rolls_back offset time) = rollback m.buffer m.used offset time
 
 -- an accepted commit adds a point, a rollback none
-unfoldable pub pointsAfter : List Point → Call → List ℕ → Placed → List Point
-pointsAfter ps (commits addresses size sectors time) buffer p = pointNow buffer p ∷ ps
-pointsAfter ps (rollsBack offset time) buffer p = ps
+unfoldable pub points_after : List Point → Call → List ℕ → Placed → List Point
+points_after ps (commits addresses size sectors time) buffer p = point_now buffer p ∷ ps
+points_after ps (rolls_back offset time) buffer p = ps
 
 -- the moment after a call, by its answer and the buffer that it left
-unfoldable pub momentAfter : Moment → Call → Answer Placed → List ℕ → Moment
-momentAfter m c (refused r) buffer = record { buffer = buffer; used = m.used; points = m.points }
-momentAfter m c (accepted p) buffer = record { buffer = buffer; used = p.used; points = pointsAfter m.points c buffer p }
+unfoldable pub moment_after : Moment → Call → Answer Placed → List ℕ → Moment
+moment_after m c (refused r) buffer = record { buffer = buffer; used = m.used; points = m.points }
+moment_after m c (accepted p) buffer = record { buffer = buffer; used = p.used; points = points_after m.points c buffer p }
 
 unfoldable pub after : Moment → Call → Moment
-after m c = momentAfter m c (outcomeOf m c).result (outcomeOf m c).buffer
+after m c = moment_after m c (outcome_of m c).result (outcome_of m c).buffer
 
 -- the moment after a whole list of calls
-unfoldable pub atEnd : Moment → List Call → Moment
-atEnd m [] = m
-atEnd m (c ∷ cs) = atEnd (after m c) cs
+unfoldable pub at_end : Moment → List Call → Moment
+at_end m [] = m
+at_end m (c ∷ cs) = at_end (after m c) cs
 
 -- every call of a list is so, at the moment when it is made
 pub data Throughout (P : Moment → Call → Type 0) : Moment → List Call → Type 0 where
@@ -92,5 +92,5 @@ pub data Throughout (P : Moment → Call → Type 0) : Moment → List Call → 
 -- refused one may be handed any offset." A commit is handed bytes.
 unfoldable pub Permitted : Moment → Call → Type 0
 Permitted m (commits addresses size sectors time) = IsBytes sectors
-Permitted m (rollsBack offset time) =
+Permitted m (rolls_back offset time) =
     (p : Placed) → (rollback m.buffer m.used offset time).result ≡ accepted p → Any (λ (q : Point). q.offset ≡ offset) m.points

@@ -18,14 +18,14 @@ pub data Only {A : Type 0} (P : A → Type 0) (a : A) : List A → Type 0 where
   later : {b : A} {l : List A} → ¬ P b → Only P a l → Only P a (b ∷ l)
 
 -- what is made of each of the k numbers from i on, in order
-unfoldable pub ofEach : {A : Type 0} → (ℕ → A) → ℕ → ℕ → List A
-ofEach f zero i = []
-ofEach f (suc k) i = f i ∷ ofEach f k (suc i)
+unfoldable pub of_each : {A : Type 0} → (ℕ → A) → ℕ → ℕ → List A
+of_each f zero i = []
+of_each f (suc k) i = f i ∷ of_each f k (suc i)
 
 -- how many of the k numbers from i on a test says yes to
-unfoldable pub howMany : (ℕ → Bool) → ℕ → ℕ → ℕ
-howMany f zero i = 0
-howMany f (suc k) i = choose (f i) (suc (howMany f k (suc i))) (howMany f k (suc i))
+unfoldable pub how_many : (ℕ → Bool) → ℕ → ℕ → ℕ
+how_many f zero i = 0
+how_many f (suc k) i = choose (f i) (suc (how_many f k (suc i))) (how_many f k (suc i))
 
 -- n of the k numbers from i on are so
 pub data Counts (P : ℕ → Type 0) : ℕ → ℕ → ℕ → Type 0 where

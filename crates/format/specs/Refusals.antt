@@ -21,9 +21,9 @@ Passes then w = w
 Refuses r then w = Refuses r
 
 -- the first refusal among the k numbers from i on, each with a verdict of its own
-unfoldable pub firstRefusal : (ℕ → Verdict) → ℕ → ℕ → Verdict
-firstRefusal f zero i = Passes
-firstRefusal f (suc k) i = f i then firstRefusal f k (suc i)
+unfoldable pub first_refusal : (ℕ → Verdict) → ℕ → ℕ → Verdict
+first_refusal f zero i = Passes
+first_refusal f (suc k) i = f i then first_refusal f k (suc i)
 
 -- what a call answers: a refusal, or a value
 pub data Answer (A : Type 0) : Type 0 where

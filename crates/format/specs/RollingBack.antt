@@ -4,11 +4,11 @@ use Rattle.std.specs.Prelude.{List, ℕ, take}
 use Rattle.format.specs.declared.Placed.{Placed}
 use Rattle.format.specs.declared.Verdict.{Verdict}
 use Rattle.format.specs.Refusals.{◌then◌}
-use Rattle.format.specs.Writing.{bufferVerdict, writableVerdict, Outcome, outcome, placed, setHeader}
+use Rattle.format.specs.Writing.{buffer_verdict, writable_verdict, Outcome, outcome, placed, set_header}
 
-unfoldable pub rollbackVerdict : List ℕ → ℕ → ℕ → Verdict
-rollbackVerdict buffer used offset = bufferVerdict buffer used then writableVerdict (take used buffer) offset
+unfoldable pub rollback_verdict : List ℕ → ℕ → ℕ → Verdict
+rollback_verdict buffer used offset = buffer_verdict buffer used then writable_verdict (take used buffer) offset
 
 unfoldable pub rollback : List ℕ → ℕ → ℕ → ℕ → Outcome Placed
 rollback buffer used offset time =
-    outcome buffer (rollbackVerdict buffer used offset) (placed used offset) (setHeader buffer offset time)
+    outcome buffer (rollback_verdict buffer used offset) (placed used offset) (set_header buffer offset time)

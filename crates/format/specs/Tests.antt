@@ -15,8 +15,8 @@ unfoldable pub at_least : ℕ → ℕ → Bool
 at_least a b = leb b a
 
 -- of signed numbers
-unfoldable pub lessThan : ℤ → ℤ → Bool
-lessThan a b = lt_z a b
+unfoldable pub less_than : ℤ → ℤ → Bool
+less_than a b = lt_z a b
 
 infixr 25 ◌or◌
 unfoldable pub ◌or◌ : Bool → Bool → Bool
@@ -34,6 +34,6 @@ choose true a b = a
 choose false a b = b
 
 -- all tests of a table say yes
-unfoldable pub allHold : List Bool → Bool
-allHold [] = true
-allHold (b ∷ bs) = b and allHold bs
+unfoldable pub all_hold : List Bool → Bool
+all_hold [] = true
+all_hold (b ∷ bs) = b and all_hold bs

@@ -6,8 +6,8 @@
 ghost use Rattle.std.specs.Prelude.{◌≡◌, ℕ, length};
 ghost use Rattle.format.specs.Importing.{import};
 ghost use Rattle.format.specs.Answers.{updated, answered};
-ghost use Rattle.planning.specs.Plans.{sectorOf};
-ghost use Rattle.composing.specs.Composes.{storedOf, filled, Lays};
+ghost use Rattle.planning.specs.Plans.{sector_of};
+ghost use Rattle.composing.specs.Composes.{stored_of, filled, Lays};
 ghost use Rattle.importing.specs.Imports.{Files};
 
 use composing::Layout;
@@ -16,7 +16,7 @@ use format::{ByteOffset, Placed, Refusal, Updated, Verdict};
 // How many of the first `count` sectors of the file are stored, wherever the block will be.
 fn count_stored(file: &[u8], count: u64, size: u64) -> u64
     requires { Files file.now count size }
-    ensures { (block : ℕ) → result ≡ length (storedOf block (sectorOf size file.now) count).items }
+    ensures { (block : ℕ) → result ≡ length (stored_of block (sector_of size file.now) count).items }
 {
     let mut stored: u64 = 0;
     let mut k: u64 = 0;
@@ -33,8 +33,8 @@ fn count_stored(file: &[u8], count: u64, size: u64) -> u64
 
 // Writes the sectors that are stored, behind the place of the block's header, and the table's entries.
 fn put_entries(buf: &mut [u8], file: &[u8], count: u64, size: u64, at: Layout)
-    requires { Files file.now count size × Lays buf.old (sectorOf size file.now) count size at }
-    ensures { buf.new ≡ filled buf.old (sectorOf size file.now) count at }
+    requires { Files file.now count size × Lays buf.old (sector_of size file.now) count size at }
+    ensures { buf.new ≡ filled buf.old (sector_of size file.now) count at }
 {
     let mut stored: u64 = 0;
     let mut a: u64 = 0;

@@ -11,12 +11,12 @@ use Rattle.format.specs.declared.Verdict.{Verdict}
 use Rattle.format.specs.declared.Verdict.TheVariants.{Passes, Refuses}
 use Rattle.format.specs.Tests.{choose}
 use Rattle.format.specs.Refusals.{refusal, ◌then◌, refused, accepted, answer}
-use Rattle.format.specs.Layouts.{entryLength, entry_at, entriesFrom, entries}
-use Rattle.format.specs.Opening.{entryVerdict, entriesVerdict, offsetsWith, isTable, one_of, oneVerdict, table_at}
+use Rattle.format.specs.Layouts.{entry_length, entry_at, entries_from, entries}
+use Rattle.format.specs.Opening.{entry_verdict, entries_verdict, offsets_with, is_table, one_of, one_verdict, table_at}
 use Rattle.format.proofs.Chains.{stops, goes}
 use Rattle.index.specs.declared.Tables.{Tables}
 use Rattle.index.specs.declared.Tables.TheVariants as tables
-use Rattle.index.specs.Tables.{oneAnswer, before}
+use Rattle.index.specs.Tables.{one_answer, before}
 
 -- a turn of such a loop is a step of the definition
 step : (left : ℕ) → 0 < left → left ≡ suc (left - 1)
@@ -26,67 +26,67 @@ end : (left : ℕ) → left ≤ 0 → left ≡ 0
 end left h = omega arith
 
 -- ---- checks 7 and 8; v is what all entries give
-module _ (img : List ℕ) (left p : ℕ) {v : Verdict} (all : entriesVerdict img left p ≡ v) where
-  next : 0 < left → entriesVerdict img left p ≡ (entryVerdict img p then entriesVerdict img (left - 1) (p + entryLength))
-  unfolding entriesVerdict
-  next h = ap (λ (k : ℕ). entriesVerdict img k p) (step left h)
+module _ (img : List ℕ) (left p : ℕ) {v : Verdict} (all : entries_verdict img left p ≡ v) where
+  next : 0 < left → entries_verdict img left p ≡ (entry_verdict img p then entries_verdict img (left - 1) (p + entry_length))
+  unfolding entries_verdict
+  next h = ap (λ (k : ℕ). entries_verdict img k p) (step left h)
 
-  pub verdict-stops : {r : Refusal} → 0 < left → Refuses r ≡ entryVerdict img p → Refuses r ≡ v
+  pub verdict-stops : {r : Refusal} → 0 < left → Refuses r ≡ entry_verdict img p → Refuses r ≡ v
   verdict-stops h e = stops _ e ∙ sym (next h) ∙ all
 
-  pub verdict-goes : 0 < left → Passes ≡ entryVerdict img p → entriesVerdict img (left - 1) (p + entryLength) ≡ v
+  pub verdict-goes : 0 < left → Passes ≡ entry_verdict img p → entries_verdict img (left - 1) (p + entry_length) ≡ v
   verdict-goes h e = goes e refl ∙ sym (next h) ∙ all
 
   pub verdict-done : left ≤ 0 → Passes ≡ v
-  unfolding entriesVerdict
-  verdict-done h = sym (ap (λ (k : ℕ). entriesVerdict img k p) (end left h)) ∙ all
+  unfolding entries_verdict
+  verdict-done h = sym (ap (λ (k : ℕ). entries_verdict img k p) (end left h)) ∙ all
 
 -- ---- the entries
 module _ (img : List ℕ) (left p : ℕ) where
-  pub entries_next : 0 < left → entriesFrom img left p ≡ entry_at img p ∷ entriesFrom img (left - 1) (p + entryLength)
-  unfolding entriesFrom
-  entries_next h = ap (λ (k : ℕ). entriesFrom img k p) (step left h)
+  pub entries_next : 0 < left → entries_from img left p ≡ entry_at img p ∷ entries_from img (left - 1) (p + entry_length)
+  unfolding entries_from
+  entries_next h = ap (λ (k : ℕ). entries_from img k p) (step left h)
 
-  pub entries-done : left ≤ 0 → entriesFrom img left p ≡ []
-  unfolding entriesFrom
-  entries-done h = ap (λ (k : ℕ). entriesFrom img k p) (end left h)
+  pub entries-done : left ≤ 0 → entries_from img left p ≡ []
+  unfolding entries_from
+  entries-done h = ap (λ (k : ℕ). entries_from img k p) (end left h)
 
 -- ---- the offsets of the entries that a test says yes to
 module _ (f : Entry → Bool) (img : List ℕ) (left p : ℕ) where
-  pub offsets-next : 0 < left → offsetsWith f (entriesFrom img left p)
+  pub offsets-next : 0 < left → offsets_with f (entries_from img left p)
       ≡ choose (f (entry_at img p))
-      ((entry_at img p).offset.0 ∷ offsetsWith f (entriesFrom img (left - 1) (p + entryLength)))
-      (offsetsWith f (entriesFrom img (left - 1) (p + entryLength)))
-  unfolding offsetsWith
-  offsets-next h = ap (offsetsWith f) (entries_next img left p h)
+      ((entry_at img p).offset.0 ∷ offsets_with f (entries_from img (left - 1) (p + entry_length)))
+      (offsets_with f (entries_from img (left - 1) (p + entry_length)))
+  unfolding offsets_with
+  offsets-next h = ap (offsets_with f) (entries_next img left p h)
 
-  pub offsets-done : left ≤ 0 → offsetsWith f (entriesFrom img left p) ≡ []
-  unfolding offsetsWith
-  offsets-done h = ap (offsetsWith f) (entries-done img left p h)
+  pub offsets-done : left ≤ 0 → offsets_with f (entries_from img left p) ≡ []
+  unfolding offsets_with
+  offsets-done h = ap (offsets_with f) (entries-done img left p h)
 
 -- ---- checks 9 and 10; all entries are those of the index at o
 module _ (img : List ℕ) (o : ℕ) where
-  one-is : oneAnswer o (offsetsWith isTable (entries img o)) ≡ answer (oneVerdict img o) (table_at img o)
-  unfolding oneVerdict table_at
+  one-is : one_answer o (offsets_with is_table (entries img o)) ≡ answer (one_verdict img o) (table_at img o)
+  unfolding one_verdict table_at
   one-is = refl
 
-  module _ (left p : ℕ) (seen : Tables) (all : oneAnswer o (before seen (offsetsWith isTable (entriesFrom img left p))) ≡ oneAnswer o (offsetsWith isTable (entries img o))) where
+  module _ (left p : ℕ) (seen : Tables) (all : one_answer o (before seen (offsets_with is_table (entries_from img left p))) ≡ one_answer o (offsets_with is_table (entries img o))) where
     pub one-goes : (next : Tables) → 0 < left
-        → ((l : List ℕ) → oneAnswer o (before next l) ≡ oneAnswer o (before seen (choose (isTable (entry_at img p)) ((entry_at img p).offset.0 ∷ l) l)))
-        → oneAnswer o (before next (offsetsWith isTable (entriesFrom img (left - 1) (p + entryLength)))) ≡ oneAnswer o (offsetsWith isTable (entries img o))
-    one-goes next h e = e _ ∙ ap (λ (l : List ℕ). oneAnswer o (before seen l)) (sym (offsets-next isTable img left p h)) ∙ all
+        → ((l : List ℕ) → one_answer o (before next l) ≡ one_answer o (before seen (choose (is_table (entry_at img p)) ((entry_at img p).offset.0 ∷ l) l)))
+        → one_answer o (before next (offsets_with is_table (entries_from img (left - 1) (p + entry_length)))) ≡ one_answer o (offsets_with is_table (entries img o))
+    one-goes next h e = e _ ∙ ap (λ (l : List ℕ). one_answer o (before seen l)) (sym (offsets-next is_table img left p h)) ∙ all
 
-    done : left ≤ 0 → oneAnswer o (before seen []) ≡ answer (oneVerdict img o) (table_at img o)
-    done h = ap (λ (l : List ℕ). oneAnswer o (before seen l)) (sym (offsets-done isTable img left p h)) ∙ all ∙ one-is
+    done : left ≤ 0 → one_answer o (before seen []) ≡ answer (one_verdict img o) (table_at img o)
+    done h = ap (λ (l : List ℕ). one_answer o (before seen l)) (sym (offsets-done is_table img left p h)) ∙ all ∙ one-is
 
-    pub one_none : left ≤ 0 → seen ≡ tables.None → refused (refusal 9 o) ≡ answer (oneVerdict img o) (table_at img o)
+    pub one_none : left ≤ 0 → seen ≡ tables.None → refused (refusal 9 o) ≡ answer (one_verdict img o) (table_at img o)
     unfolding before one_of answer
     one_none h e = rw e at (done h)
 
-    pub one_single : (t : ByteOffset) → left ≤ 0 → seen ≡ tables.One t → accepted t.0 ≡ answer (oneVerdict img o) (table_at img o)
+    pub one_single : (t : ByteOffset) → left ≤ 0 → seen ≡ tables.One t → accepted t.0 ≡ answer (one_verdict img o) (table_at img o)
     unfolding before one_of answer
     one_single t h e = rw e at (done h)
 
-    pub one-many : left ≤ 0 → seen ≡ tables.More → refused (refusal 10 o) ≡ answer (oneVerdict img o) (table_at img o)
+    pub one-many : left ≤ 0 → seen ≡ tables.More → refused (refusal 10 o) ≡ answer (one_verdict img o) (table_at img o)
     unfolding before one_of answer
     one-many h e = rw e at (done h)

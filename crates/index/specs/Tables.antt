@@ -2,20 +2,20 @@
 use Rattle.std.specs.Prelude.{List, ◌∷◌, ℕ, ◌+◌, get_or}
 use Rattle.format.specs.declared.Verdict.{Verdict}
 use Rattle.format.specs.Refusals.{◌then◌, Answer, refused, accepted, answer}
-use Rattle.format.specs.Layouts.{indexHeaderLength, entryCount}
-use Rattle.format.specs.Opening.{entriesVerdict, one_of, oneVerdict}
+use Rattle.format.specs.Layouts.{index_header_length, entry_count}
+use Rattle.format.specs.Opening.{entries_verdict, one_of, one_verdict}
 use Rattle.index.specs.declared.Tables.{Tables}
 use Rattle.index.specs.declared.Tables.TheVariants as tables
 use Rattle.index.specs.declared.Named.{Named}
 use Rattle.index.specs.declared.Named.TheVariants as named
 
 -- checks 7 to 10 of the index at o
-abbrev pub namedVerdict : List ℕ → ℕ → Verdict
-namedVerdict img o = entriesVerdict img (entryCount img o) (o + indexHeaderLength) then oneVerdict img o
+abbrev pub named_verdict : List ℕ → ℕ → Verdict
+named_verdict img o = entries_verdict img (entry_count img o) (o + index_header_length) then one_verdict img o
 
 -- checks 9 and 10 of the index at o, with these tables
-abbrev pub oneAnswer : ℕ → List ℕ → Answer ℕ
-oneAnswer o l = answer (one_of o l) (get_or l 0 0)
+abbrev pub one_answer : ℕ → List ℕ → Answer ℕ
+one_answer o l = answer (one_of o l) (get_or l 0 0)
 
 -- the tables seen, before those that are left; of more than one it does not matter which
 unfoldable pub before : Tables → List ℕ → List ℕ
@@ -24,6 +24,6 @@ before (tables.One t) l = t.0 ∷ l
 before tables.More l = 0 ∷ 0 ∷ l
 
 -- the one table's place, or the refusal
-unfoldable pub onlyOne : Named → Answer ℕ
-onlyOne (named.One t) = accepted t.0
-onlyOne (named.Refused r) = refused r
+unfoldable pub only_one : Named → Answer ℕ
+only_one (named.One t) = accepted t.0
+only_one (named.Refused r) = refused r

@@ -4,9 +4,9 @@
 ghost use Rattle.std.specs.Prelude.{List, ◌∷◌, ◌≡◌, ℕ, ◌+◌, ◌*◌, ◌≤◌, length};
 ghost use Rattle.format.specs.Tests.{◌and◌, choose};
 ghost use Rattle.format.specs.Refusals.{answer};
-ghost use Rattle.format.specs.Layouts.{AARUFRMT, DICMFRMT, indexHeaderLength, entryCount, entryLength, entry_at};
-ghost use Rattle.format.specs.Opening.{lacks, headerVerdict, indexVerdict, entryVerdict, is_type, isUserData, isTable, table_at};
-ghost use Rattle.index.specs.Tables.{namedVerdict, oneAnswer, before, onlyOne};
+ghost use Rattle.format.specs.Layouts.{AARUFRMT, DICMFRMT, index_header_length, entry_count, entry_length, entry_at};
+ghost use Rattle.format.specs.Opening.{lacks, header_verdict, index_verdict, entry_verdict, is_type, is_user_data, is_table, table_at};
+ghost use Rattle.index.specs.Tables.{named_verdict, one_answer, before, only_one};
 
 use crc64::checksum;
 use fields::{get, part, put, room, spells};
@@ -43,7 +43,7 @@ fn unknown(s: &[u8]) -> bool
 
 // The header: checks 1 to 3.
 pub fn header_verdict(s: &[u8]) -> Verdict
-    ensures { result ≡ headerVerdict s.now }
+    ensures { result ≡ header_verdict s.now }
 {
     let place = ByteOffset(0);
     if (s.len() as u64) < HEADER_LENGTH {
@@ -60,7 +60,7 @@ pub fn header_verdict(s: &[u8]) -> Verdict
 
 // The index at o: checks 4 to 6. One pass over its entries for the checksum.
 pub fn index_verdict(s: &[u8], o: ByteOffset) -> Verdict
-    ensures { result ≡ indexVerdict s.now o.0 }
+    ensures { result ≡ index_verdict s.now o.0 }
 {
     let place = o;
     let index = o.0;
@@ -102,7 +102,7 @@ pub fn entry(s: &[u8], p: ByteOffset) -> Entry
 // The index entry e, which stands at p: checks 7 and 8.
 fn entry_verdict(s: &[u8], p: ByteOffset, e: Entry) -> Verdict
     requires { e ≡ entry_at s.now p.0 }
-    ensures { result ≡ entryVerdict s.now p.0 }
+    ensures { result ≡ entry_verdict s.now p.0 }
 {
     let place = p;
     let offset = e.offset;
@@ -130,7 +130,7 @@ pub fn is_type(e: Entry, letters: &[u8; 4]) -> bool
 
 // The entry is for this kind of block, of user data.
 pub fn is_user_data(e: Entry, letters: &[u8; 4]) -> bool
-    ensures { result ≡ isUserData letters.now e }
+    ensures { result ≡ is_user_data letters.now e }
 {
     if !is_type(e, letters) {
         return false;
@@ -143,7 +143,7 @@ pub fn is_user_data(e: Entry, letters: &[u8; 4]) -> bool
 
 // The entry is for a table of either kind, of user data.
 fn is_table(e: Entry) -> bool
-    ensures { result ≡ isTable e }
+    ensures { result ≡ is_table e }
 {
     if is_user_data(e, b"DDT*") {
         return true;
@@ -153,7 +153,7 @@ fn is_table(e: Entry) -> bool
 
 // The tables seen so far, and one more entry.
 fn with_entry(seen: Tables, e: Entry) -> Tables
-    ensures { (o : ℕ) (l : List ℕ) → oneAnswer o (before result l) ≡ oneAnswer o (before seen (choose (isTable e) (e.offset.0 ∷ l) l)) }
+    ensures { (o : ℕ) (l : List ℕ) → one_answer o (before result l) ≡ one_answer o (before seen (choose (is_table e) (e.offset.0 ∷ l) l)) }
 {
     if is_table(e) {
         let offset = e.offset;
@@ -169,8 +169,8 @@ fn with_entry(seen: Tables, e: Entry) -> Tables
 // The one table that the index at o names. Each entry is checked in turn, 7 and 8; then the tables among them, 9 and 10. One pass
 // over the entries.
 pub fn one_table(s: &[u8], o: ByteOffset) -> Named
-    requires { o.0 + indexHeaderLength + entryLength * entryCount s.now o.0 ≤ length s.now }
-    ensures { onlyOne result ≡ answer (namedVerdict s.now o.0) (table_at s.now o.0) }
+    requires { o.0 + index_header_length + entry_length * entry_count s.now o.0 ≤ length s.now }
+    ensures { only_one result ≡ answer (named_verdict s.now o.0) (table_at s.now o.0) }
 {
     let index = o.0;
     let mut left = get(s, index + 4, 8);

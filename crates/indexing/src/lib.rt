@@ -4,11 +4,11 @@
 // Cost: two passes over the old entries, one to count and one to write, and one over the new ones for their checksum.
 ghost use Rattle.std.specs.Prelude.{◌≡◌, ℕ, ◌+◌, ◌*◌, ◌≤◌, ◌<◌, length, take};
 ghost use Rattle.fields.specs.Bytes.{overwrite};
-ghost use Rattle.format.specs.Layouts.{CKSM, indexHeaderLength, entryLength, entryCount, entries, indexBytes};
+ghost use Rattle.format.specs.Layouts.{CKSM, index_header_length, entry_length, entry_count, entries, index_bytes};
 ghost use Rattle.format.specs.Opening.{is_type};
-ghost use Rattle.format.specs.Committing.{keptEntry, keptEntries};
-ghost use Rattle.format.specs.Facts.{blockEntry};
-ghost use Rattle.indexing.specs.Entries.{newEntries, Indexes, entriesBytes};
+ghost use Rattle.format.specs.Committing.{kept_entry, kept_entries};
+ghost use Rattle.format.specs.Facts.{block_entry};
+ghost use Rattle.indexing.specs.Entries.{new_entries, Indexes, entries_bytes};
 
 use fields::{get, part};
 use format::{ByteOffset, Entry};
@@ -16,7 +16,7 @@ use index::entry;
 
 // An old entry as the new index has it, with the new table at `table`.
 fn kept_entry(e: Entry, table: ByteOffset) -> Entry
-    ensures { result ≡ keptEntry table.0 e }
+    ensures { result ≡ kept_entry table.0 e }
 {
     if index::is_user_data(e, b"DDT*") {
         return Entry {
@@ -37,8 +37,8 @@ fn is_checksums(e: Entry) -> bool
 
 // How many entries of the index at o the new index keeps, wherever the new table is.
 pub fn count_kept(s: &[u8], o: ByteOffset) -> u64
-    requires { o.0 + indexHeaderLength + entryLength * entryCount s.now o.0 ≤ length s.now }
-    ensures { ((table : ℕ) → result ≡ length (keptEntries table (entries s.now o.0))) × (result ≤ entryCount s.now o.0) }
+    requires { o.0 + index_header_length + entry_length * entry_count s.now o.0 ≤ length s.now }
+    ensures { ((table : ℕ) → result ≡ length (kept_entries table (entries s.now o.0))) × (result ≤ entry_count s.now o.0) }
 {
     let index = o.0;
     let mut rest = get(s, index + 4, 8);
@@ -58,9 +58,9 @@ pub fn count_kept(s: &[u8], o: ByteOffset) -> u64
 
 // Writes the kept entries of the index at o, which lies in the first `used` bytes, at `at`.
 fn put_kept(buf: &mut [u8], used: u64, o: ByteOffset, at: ByteOffset, table: ByteOffset)
-    requires { (o.0 + indexHeaderLength + entryLength * entryCount (take used buf.old) o.0 ≤ used) × (used ≤ at.0)
-        × (at.0 + entryLength * length (keptEntries table.0 (entries (take used buf.old) o.0)) ≤ length buf.old) }
-    ensures { buf.new ≡ overwrite buf.old at.0 (entriesBytes (keptEntries table.0 (entries (take used buf.old) o.0))) }
+    requires { (o.0 + index_header_length + entry_length * entry_count (take used buf.old) o.0 ≤ used) × (used ≤ at.0)
+        × (at.0 + entry_length * length (kept_entries table.0 (entries (take used buf.old) o.0)) ≤ length buf.old) }
+    ensures { buf.new ≡ overwrite buf.old at.0 (entries_bytes (kept_entries table.0 (entries (take used buf.old) o.0))) }
 {
     let index = o.0;
     let mut left = get(part(buf, 0, used), index + 4, 8);
@@ -80,8 +80,8 @@ fn put_kept(buf: &mut [u8], used: u64, o: ByteOffset, at: ByteOffset, table: Byt
 
 // Writes the new data block's entry at `at`, if there is one; the block starts at `block`. Answers how many entries were written.
 fn put_block_entry(buf: &mut [u8], at: ByteOffset, block: ByteOffset, stored: u64) -> u64
-    requires { at.0 + entryLength * length (blockEntry block.0 stored) ≤ length buf.old }
-    ensures { (result ≡ length (blockEntry block.0 stored)) × (buf.new ≡ overwrite buf.old at.0 (entriesBytes (blockEntry block.0 stored))) }
+    requires { at.0 + entry_length * length (block_entry block.0 stored) ≤ length buf.old }
+    ensures { (result ≡ length (block_entry block.0 stored)) × (buf.new ≡ overwrite buf.old at.0 (entries_bytes (block_entry block.0 stored))) }
 {
     if stored == 0 {
         return 0;
@@ -102,7 +102,7 @@ pub fn put_index(
     stored: u64,
 )
     requires { Indexes buf.old used o.0 at.0 table.0 kept stored }
-    ensures { buf.new ≡ overwrite buf.old at.0 (indexBytes (newEntries (take used buf.old) o.0 table.0 stored)) }
+    ensures { buf.new ≡ overwrite buf.old at.0 (index_bytes (new_entries (take used buf.old) o.0 table.0 stored)) }
 {
     let start = at.0 + 20;
     put_kept(buf, used, o, ByteOffset(start), table);

@@ -12,17 +12,17 @@ use lib.ListN.{length, length-append}
 use Rattle.format.specs.declared.Place.{Place}
 use Rattle.format.specs.declared.Refusal.{Refusal}
 use Rattle.format.specs.Refusals.{Answer, refused, accepted}
-use Rattle.format.specs.Opening.{Opened, range_of, sectorCount}
+use Rattle.format.specs.Opening.{Opened, range_of, sector_count}
 use Rattle.format.specs.Reading.{locate}
 use Rattle.format.proofs.Reading.{located-inside}
-use Rattle.text.specs.Text.{decimal, longestInput}
+use Rattle.text.specs.Text.{decimal, longest_input}
 use Rattle.text.proofs.Decimal.{length-decimal, length-signed, length-refused}
-use Rattle.listing.specs.Listing.{head, line, lines_from, lines, imageText}
+use Rattle.listing.specs.Listing.{head, line, lines_from, lines, image_text}
 use Rattle.listing.proofs.Pieces.{address-next}
 use Rattle.listing.proofs.Short.{count-refusal, locate-refusal, count-short}
 
-abbrev pub longestText : ℕ
-longestText = 311296
+abbrev pub longest_text : ℕ
+longest_text = 311296
 
 -- the address that follows the lowest one by n
 low : (m n : ℕ) → m < 65536 → n < 16384 → nat_abs (neg_ℤ (pos m) +ℤ pos n) < 100000
@@ -33,7 +33,7 @@ low (suc m) n h k = go (ltb n (suc m)) refl
     go true e = rw e (omega arith)
     go false e = rw e (omega arith)
 
-module _ (img : List ℕ) (short : length img ≤ longestInput) where
+module _ (img : List ℕ) (short : length img ≤ longest_input) where
   line-fits : (a : ℤ) → nat_abs a < 100000 → (x : Answer Place) → locate img a ≡ x → length (line a x) ≤ 19
   unfolding line
   line-fits a b (accepted p) e =
@@ -56,8 +56,8 @@ module _ (img : List ℕ) (short : length img ≤ longestInput) where
       rw (address-next) (simp length-append (omega arith))
 
   -- an image that opens
-  pub opened-fits : (t : Opened) → accepted (range_of t) ≡ sectorCount img → t.negative < 65536 → length (imageText img) ≤ longestText
-  unfolding imageText head lines range_of
+  pub opened-fits : (t : Opened) → accepted (range_of t) ≡ sector_count img → t.negative < 65536 → length (image_text img) ≤ longest_text
+  unfolding image_text head lines range_of
   opened-fits t e h =
       let c = count-short img (range_of t) (sym e) in
       let u : length (decimal (range_of t).count) ≤ 5 = length-decimal 4 t.count (omega arith) in
@@ -65,8 +65,8 @@ module _ (img : List ℕ) (short : length img ≤ longestInput) where
       rw (← e) (simp length-append (omega arith))
 
   -- one that does not
-  pub refused-fits : (r : Refusal) → refused r ≡ sectorCount img → length (imageText img) ≤ longestText
-  unfolding imageText head lines
+  pub refused-fits : (r : Refusal) → refused r ≡ sector_count img → length (image_text img) ≤ longest_text
+  unfolding image_text head lines
   refused-fits r e =
       let u = length-refused 1 r.number (count-refusal img r (sym e)) in
       rw (← e) (simp length-append (omega arith))

@@ -17,12 +17,12 @@ use Rattle.format.specs.declared.Place.{Place}
 use Rattle.format.specs.declared.Refusal.{Refusal}
 use Rattle.format.specs.Refusals.{refused, accepted}
 use Rattle.format.specs.Answers.{counted, located}
-use Rattle.format.specs.Opening.{sectorCount}
+use Rattle.format.specs.Opening.{sector_count}
 use Rattle.format.specs.Reading.{locate}
-use Rattle.text.specs.Text.{TOO-LONG, NEWLINE, decimal, signed, refusedLine, longestInput}
+use Rattle.text.specs.Text.{TOO-LONG, NEWLINE, decimal, signed, refused_line, longest_input}
 use Rattle.text.specs.Buffer.{Writes}
 use Rattle.text.proofs.Writes.{writes_then, unless-long, unless-short}
-use Rattle.listing.specs.Listing.{SECTORS, SPACE, DASH, head, line, lines_from, lines, imageText, listing}
+use Rattle.listing.specs.Listing.{SECTORS, SPACE, DASH, head, line, lines_from, lines, image_text, listing}
 
 -- ---- the first line
 module _ {s t : List ℕ} {at p : ℕ} {c : Counted} where
@@ -30,7 +30,7 @@ module _ {s t : List ℕ} {at p : ℕ} {c : Counted} where
   unfolding head counted
   head-sectors e w = rw e w
 
-  pub head-refused : {r : Refusal} → c ≡ count.Refused r → Writes s at (refusedLine r.number) t p → Writes s at (head (counted c)) t p
+  pub head-refused : {r : Refusal} → c ≡ count.Refused r → Writes s at (refused_line r.number) t p → Writes s at (head (counted c)) t p
   unfolding head counted
   head-refused e w = rw e w
 
@@ -49,33 +49,33 @@ module _ {s t u : List ℕ} {at p q : ℕ} {l : Located} (a : ℤ) (w : Writes s
 pub address-next : (a : ℤ) (n : ℕ) → a +ℤ pos n +ℤ pos 1 ≡ a +ℤ pos (suc n)
 address-next a n = +ℤ_assoc a (pos n) (pos 1) ∙ ap (λ (k : ℕ). a +ℤ pos k) (omega arith)
 
-linesFrom-last : (img : List ℕ) (k : ℕ) (a : ℤ) → lines_from img (suc k) a ≡ lines_from img k a ++ line (a +ℤ pos k) (locate img (a +ℤ pos k))
+lines_from-last : (img : List ℕ) (k : ℕ) (a : ℤ) → lines_from img (suc k) a ≡ lines_from img k a ++ line (a +ℤ pos k) (locate img (a +ℤ pos k))
 unfolding lines_from
-linesFrom-last img zero a = rw (append-nil, +ℤ_idr)
-linesFrom-last img (suc k) a =
+lines_from-last img zero a = rw (append-nil, +ℤ_idr)
+lines_from-last img (suc k) a =
     let e : a +ℤ pos 1 +ℤ pos k ≡ a +ℤ pos (suc k) = +ℤ_assoc a (pos 1) (pos k) ∙ ap (λ (n : ℕ). a +ℤ pos n) (omega arith) in
-    rw (append_assoc, ← e) (ap (λ (l : List ℕ). line a (locate img a) ++ l) (linesFrom-last img k (a +ℤ pos 1)))
+    rw (append_assoc, ← e) (ap (λ (l : List ℕ). line a (locate img a) ++ l) (lines_from-last img k (a +ℤ pos 1)))
 
 -- an iteration of a loop over the addresses from `low` on: where the lines of n of them are written, and then the next one
 pub lines_next : {s t u : List ℕ} {at p q : ℕ} (img : List ℕ) (low : ℤ) (n : ℕ) → Writes s at (lines_from img n low) t p
     → Writes t p (line (low +ℤ pos n) (locate img (low +ℤ pos n))) u q → Writes s at (lines_from img (n + 1) low) u q
-lines_next img low n w v = rw (add-one, linesFrom-last) (writes_then w v)
+lines_next img low n w v = rw (add-one, lines_from-last) (writes_then w v)
 
 -- ---- the whole, after the first line
 module _ {s t : List ℕ} {at p : ℕ} (img : List ℕ) where
-  pub image-opens : {q : ℕ} {u : List ℕ} (r : AddressRange) → accepted r ≡ sectorCount img → Writes s at (head (accepted r)) t p
-      → Writes t p (lines_from img r.count r.lowest.0) u q → Writes s at (imageText img) u q
-  unfolding imageText lines
+  pub image-opens : {q : ℕ} {u : List ℕ} (r : AddressRange) → accepted r ≡ sector_count img → Writes s at (head (accepted r)) t p
+      → Writes t p (lines_from img r.count r.lowest.0) u q → Writes s at (image_text img) u q
+  unfolding image_text lines
   image-opens r e w v = rw (← e) (writes_then w v)
 
-  pub image-refused : (r : Refusal) → refused r ≡ sectorCount img → Writes s at (head (refused r)) t p → Writes s at (imageText img) t p
-  unfolding imageText lines
+  pub image-refused : (r : Refusal) → refused r ≡ sector_count img → Writes s at (head (refused r)) t p → Writes s at (image_text img) t p
+  unfolding image_text lines
   image-refused r e w = rw (← e, append-nil) w
 
-pub listing-long : (input : List ℕ) → longestInput < length input → listing input ≡ TOO-LONG ++ NEWLINE
+pub listing-long : (input : List ℕ) → longest_input < length input → listing input ≡ TOO-LONG ++ NEWLINE
 unfolding listing
-listing-long input h = unless-long input (imageText input) h
+listing-long input h = unless-long input (image_text input) h
 
-pub listing-image : (input : List ℕ) → length input ≤ longestInput → listing input ≡ imageText input
+pub listing-image : (input : List ℕ) → length input ≤ longest_input → listing input ≡ image_text input
 unfolding listing
-listing-image input h = unless-short input (imageText input) h
+listing-image input h = unless-short input (image_text input) h

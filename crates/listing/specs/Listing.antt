@@ -6,9 +6,9 @@ use Rattle.std.specs.Prelude.{List, [], ◌∷◌, ◌++◌, ℕ, zero, suc, ℤ
 use Rattle.format.specs.declared.AddressRange.{AddressRange}
 use Rattle.format.specs.declared.Place.{Place}
 use Rattle.format.specs.Refusals.{Answer, refused, accepted}
-use Rattle.format.specs.Opening.{sectorCount}
+use Rattle.format.specs.Opening.{sector_count}
 use Rattle.format.specs.Reading.{locate}
-use Rattle.text.specs.Text.{NEWLINE, decimal, signed, refusedLine, unlessLong}
+use Rattle.text.specs.Text.{NEWLINE, decimal, signed, refused_line, unless_long}
 
 -- ---- words, by the codes of their characters
 abbrev pub SECTORS : List ℕ
@@ -24,7 +24,7 @@ DASH = 32 ∷ 45 ∷ 32 ∷ []
 -- "prints the sector count"; "A refused opening prints `refused` and the number on one line."
 unfoldable pub head : Answer AddressRange → List ℕ
 head (accepted s) = SECTORS ++ decimal s.count ++ NEWLINE
-head (refused r) = refusedLine r.number
+head (refused r) = refused_line r.number
 
 -- "then for each address the place of its first byte and its size, or a dash and the refusal"
 unfoldable pub line : ℤ → Answer Place → List ℕ
@@ -42,8 +42,8 @@ lines img (accepted s) = lines_from img s.count s.lowest.0
 lines img (refused r) = []
 
 -- ---- the whole text
-unfoldable pub imageText : List ℕ → List ℕ
-imageText img = head (sectorCount img) ++ lines img (sectorCount img)
+unfoldable pub image_text : List ℕ → List ℕ
+image_text img = head (sector_count img) ++ lines img (sector_count img)
 
 unfoldable pub listing : List ℕ → List ℕ
-listing input = unlessLong input (imageText input)
+listing input = unless_long input (image_text input)

@@ -5,9 +5,9 @@ ghost use Rattle.std.specs.Prelude.{◌≡◌, ◌≤◌, length, pos, neg_ℤ};
 ghost use Rattle.format.specs.Refusals.{accepted};
 ghost use Rattle.format.specs.Opening.{opening};
 ghost use Rattle.opening.specs.Answers.{contents};
-ghost use Rattle.text.specs.Text.{longestInput};
+ghost use Rattle.text.specs.Text.{longest_input};
 ghost use Rattle.text.specs.Buffer.{Writes, Prints};
-ghost use Rattle.listing.specs.Listing.{lines_from, imageText, listing};
+ghost use Rattle.listing.specs.Listing.{lines_from, image_text, listing};
 
 use format::{ByteOffset, Counted, EntryNumber};
 use opening::{Opened, Opening};
@@ -36,8 +36,8 @@ fn address_lines(image: &[u8], t: Opened, out: &mut [u8], at: usize) -> usize
 
 // The text of an image, which is no longer than the longest text. It is opened once.
 fn image_text(image: &[u8], out: &mut [u8]) -> usize
-    requires { length image.now ≤ longestInput }
-    ensures { Writes out.old 0 (imageText image.now) out.new result × (length (imageText image.now) ≤ 311296) }
+    requires { length image.now ≤ longest_input }
+    ensures { Writes out.old 0 (image_text image.now) out.new result × (length (image_text image.now) ≤ 311296) }
 {
     let opened = opening::open(image);
     match opened {

@@ -3,7 +3,7 @@ use mathlib.Core.Path.{◌≡◌, refl}
 use Prim.Native.Nat.{◌<◌}
 use Rattle.format.specs.Refusals.{accepted}
 use Rattle.format.specs.Opening.{opening}
-use Rattle.format.specs.Reading.{pointerAt}
+use Rattle.format.specs.Reading.{pointer_at}
 use Rattle.format.specs.contracts.Pointer as P
 use Rattle.format.proofs.Pointer.TheLaws as P'
 use Rattle.format.specs.contracts.EntryNumber as A
@@ -21,5 +21,5 @@ pointer-promise = record {
   argument = number;
   result = struct-of P.the_type P'.the_laws P'.lowers refl;
   asks = λ κs s t a. (opening s.now ≡ accepted (contents t)) × (a.0 < (contents t).count);
-  answers = λ κs s t a r. r ≡ pointerAt s.now (contents t) a.0;
+  answers = λ κs s t a r. r ≡ pointer_at s.now (contents t) a.0;
 }

@@ -38,7 +38,7 @@ use Rattle.format.specs.Refusals.{accepted}
 use Rattle.format.specs.Opening.{opening}
 use Rattle.opening.specs.declared.Image.{Image}
 use Rattle.opening.specs.declared.Opened.{Opened}
-use Rattle.opening.specs.Answers.{contents, view_of, numbersOf, held}
+use Rattle.opening.specs.Answers.{contents, view_of, numbers_of, held}
 use Rattle.opening.proofs.Walks.{Ends, Meant, ends, called, called-for, walk-proves}
 use Rattle.opening.proofs.Passed.{Kind, the_view, the-bytes, the-numbers, fits, shape}
 use Rattle.opening.specs.contracts.Image as T
@@ -116,7 +116,7 @@ module _ (P : Promise) where
     of-numbers κs a = record { ghost = Unit {0}; requires = λ g. fact 𝓤 (φ κs a.0 a.1.0 a.1.1.0); ensures = λ g r e. fact 𝓤 (ψ κs a.0 a.1.0 a.1.1.0 r) }
 
     abbrev of-view : Clauses 𝓤 (shape on-view R)
-    of-view κs a = record { ghost = Unit {0}; requires = λ g. fact 𝓤 (φ κs a.0.bytes (numbersOf a.0) a.1.0); ensures = λ g r e. fact 𝓤 (ψ κs a.0.bytes (numbersOf a.0) a.1.0 r) }
+    of-view κs a = record { ghost = Unit {0}; requires = λ g. fact 𝓤 (φ κs a.0.bytes (numbers_of a.0) a.1.0); ensures = λ g r e. fact 𝓤 (ψ κs a.0.bytes (numbers_of a.0) a.1.0 r) }
 
   module _ {M : Type 1} {𝓤 : Ura M} (𝓛 : Logic 𝓤) (mem : Memory → SProp 𝓤) (run : Routine → Fun 𝓤) where
     open 𝓛 use {H}
@@ -189,14 +189,14 @@ module _ (P : Promise) where
 
       -- what `work` is passed, and what it asks
       abbrev to-work : Val → Val → On-numbers.Ghost
-      to-work s n = ((κs, qs, tt, (d.bytes, (numbersOf d, (x, tt))), (s ∷ [], (n ∷ [], (xv ∷ [], tt)))), tt)
+      to-work s n = ((κs, qs, tt, (d.bytes, (numbers_of d, (x, tt))), (s ∷ [], (n ∷ [], (xv ∷ [], tt)))), tt)
 
-      asks-work : (s n : Val) → φ κs d.bytes (numbersOf d) x
-          → ent 𝓤 (sep 𝓤 All (sem 𝓛 (owns (Slice ∷ S.the_row ∷ X.row κs ∷ []) (d.bytes, (numbersOf d, (x, tt))) (s ∷ [], (n ∷ [], (xv ∷ [], tt)))))) (On-numbers.pre (to-work s n))
-      asks-work s n p = qed 𝓛 (raw All ∷ ‵ (owns (Slice ∷ S.the_row ∷ X.row κs ∷ []) (d.bytes, (numbersOf d, (x, tt))) (s ∷ [], (n ∷ [], (xv ∷ [], tt)))) ∷ []) ∵ says ! p $ frame ! $ done !
+      asks-work : (s n : Val) → φ κs d.bytes (numbers_of d) x
+          → ent 𝓤 (sep 𝓤 All (sem 𝓛 (owns (Slice ∷ S.the_row ∷ X.row κs ∷ []) (d.bytes, (numbers_of d, (x, tt))) (s ∷ [], (n ∷ [], (xv ∷ [], tt)))))) (On-numbers.pre (to-work s n))
+      asks-work s n p = qed 𝓛 (raw All ∷ ‵ (owns (Slice ∷ S.the_row ∷ X.row κs ∷ []) (d.bytes, (numbers_of d, (x, tt))) (s ∷ [], (n ∷ [], (xv ∷ [], tt)))) ∷ []) ∵ says ! p $ frame ! $ done !
 
       walk-apart : (work : Name) → Triple 𝓤 (𝓣.C bytes-def.name) Bytes → Triple 𝓤 (𝓣.C numbers-def.name) Numbers → Triple 𝓤 (𝓣.C work) On-numbers
-          → Is (T.the_row α) d (mach ∷ []) → Is (X.row κs) x (xv ∷ []) → φ κs d.bytes (numbersOf d) x
+          → Is (T.the_row α) d (mach ∷ []) → Is (X.row κs) x (xv ∷ []) → φ κs d.bytes (numbers_of d) x
           → ent 𝓤 (on_entry 𝓛 (shape on-view R).signature κs qs (d, (x, tt)) at-view) (WpFn 𝓤 H 𝓣.C 𝓣.Λ (taken-apart m work X.mir R.mir) (mach ∷ xv ∷ []) ((Ends 𝓛 on-view R (of-view 𝓤)).post to-view))
       walk-apart work met-bytes met-numbers met-work is is_x p =
           qed 𝓛 ((‵ (flft κ q) ⊛ raw Others) ∷ ‵ (owns (T.the_row α ∷ X.row κs ∷ []) (d, (x, tt)) at-view) ∷ []) ∵ split ! $ nothing ! $ move ! (1 ∷ 0 ∷ 3 ∷ []) $ join ! $
@@ -210,58 +210,58 @@ module _ (P : Promise) where
           -- [the slice's; the token; the view's; x's; _6; …; _0; …; the other tokens]
           land ! (from ! (stop !)) (init ! 10 refl ((shr_slice_Lawful 𝓛 erased κ u8).typed d.bytes (s ∷ []) is-s).0) $
           assigns ! (of_opd ! (load ! (from ! (stop !)) (look ! 14 refl))) (from ! (stop !)) (init ! 4 refl (storable mach is)) $ move ! (1 ∷ 2 ∷ []) $ use2 𝓛 (raw (Numbers.pre to_part)) asks-part $
-          called-for {m = 0} 𝓛 (the_view ∷ []) the-numbers (numbers.clauses 𝓛 mem run) to_part (numbersOf d) (λ r ws. id⊢ 𝓤 _) ! (fm_of 𝓤 H 𝓛.laws 𝓣) met-numbers (and_then ! (load ! (from ! (stop !)) (look ! 3 refl)) (no_more !)) (λ n is-n.
+          called-for {m = 0} 𝓛 (the_view ∷ []) the-numbers (numbers.clauses 𝓛 mem run) to_part (numbers_of d) (λ r ws. id⊢ 𝓤 _) ! (fm_of 𝓤 H 𝓛.laws 𝓣) met-numbers (and_then ! (load ! (from ! (stop !)) (look ! 3 refl)) (no_more !)) (λ n is-n.
           -- [the numbers'; the token; the slice's; x's; _6; …; _0; …; the other tokens]
-          land ! (from ! (stop !)) (init ! 6 refl (fits {m = m} the-numbers κs 𝓛 (numbersOf d) n is-n)) $
+          land ! (from ! (stop !)) (init ! 6 refl (fits {m = m} the-numbers κs 𝓛 (numbers_of d) n is-n)) $
           move ! (0 ∷ 3 ∷ []) $ fjoin ! $ move ! (2 ∷ 0 ∷ []) $ fjoin ! $ move ! (1 ∷ 16 ∷ []) $ use2 𝓛 (raw All) all-again $ use2 𝓛 (raw (On-numbers.pre (to-work s n))) (asks-work s n p) $
-          called 𝓛 on-numbers R (of-numbers 𝓤) (to-work s n) (ψ κs d.bytes (numbersOf d) x) (λ r ws. id⊢ 𝓤 _) ! (fm_of 𝓤 H 𝓛.laws 𝓣) met-work
+          called 𝓛 on-numbers R (of-numbers 𝓤) (to-work s n) (ψ κs d.bytes (numbers_of d) x) (λ r ws. id⊢ 𝓤 _) ! (fm_of 𝓤 H 𝓛.laws 𝓣) met-work
           (and_then ! (load ! (from ! (stop !)) (look ! 7 refl)) (and_then ! (load ! (from ! (stop !)) (look ! 3 refl)) (and_then ! (load ! (from ! (stop !)) (look ! 9 refl)) (no_more !)))) (λ u o g is-o.
           -- [the result's; the tokens; _6; …; _0; …]
           land ! (from ! (stop !)) (init ! 14 refl (fits R κs 𝓛 o u is-o)) $
           returns ! (look ! 14 refl) $ forget ! 2 refl $ forget ! 4 refl $ forget ! 6 refl $ forget ! 8 refl $ forget ! 10 refl $ forget ! 12 refl $ forget ! 14 refl $
           move ! (14 ∷ 15 ∷ []) $ free1 ! $ move ! (12 ∷ 13 ∷ []) $ free1 ! $ move ! (10 ∷ 11 ∷ []) $ free1 ! $ move ! (8 ∷ 9 ∷ []) $ free1 ! $ move ! (6 ∷ 7 ∷ []) $ free1 ! $ move ! (4 ∷ 5 ∷ []) $ free1 ! $ move ! (2 ∷ 3 ∷ []) $ free1 ! $ free0 ! $
-          move ! (1 ∷ []) $ by ! (ends 𝓛 on-view R (of-view 𝓤) to-view u o (fact_i 𝓤 (ψ κs d.bytes (numbersOf d) x o) (emp 𝓤) g))))))))))))
+          move ! (1 ∷ []) $ by ! (ends 𝓛 on-view R (of-view 𝓤) to-view u o (fact_i 𝓤 (ψ κs d.bytes (numbers_of d) x o) (emp 𝓤) g))))))))))))
 
       -- ---- a view is made, and handed on
       abbrev v : Val
       v = slice_val d.bytes.ref_ptr (length d.bytes.now)
 
       abbrev n : Val
-      n = S'.lowered (numbersOf d)
+      n = S'.lowered (numbers_of d)
 
       -- what `view` is passed, and what it asks
       abbrev to_make : View.Ghost
-      to_make = (((κ, tt), (q, tt), tt, (d.bytes, (numbersOf d, tt)), (v ∷ [], (n ∷ [], tt))), tt)
+      to_make = (((κ, tt), (q, tt), tt, (d.bytes, (numbers_of d, tt)), (v ∷ [], (n ∷ [], tt))), tt)
 
-      asks-make : opening d.bytes.now ≡ accepted (held d) → ent 𝓤 (sep 𝓤 (sep 𝓤 (sem 𝓛 (flft κ q)) (emp 𝓤)) (sem 𝓛 (owns (Slice ∷ S.the_row ∷ []) (d.bytes, (numbersOf d, tt)) (v ∷ [], (n ∷ [], tt))))) (View.pre to_make)
-      asks-make o = qed 𝓛 ((‵ (flft κ q) ⊛ ‵ ftrue) ∷ ‵ (owns (Slice ∷ S.the_row ∷ []) (d.bytes, (numbersOf d, tt)) (v ∷ [], (n ∷ [], tt))) ∷ []) ∵ says ! o $ frame ! $ done !
+      asks-make : opening d.bytes.now ≡ accepted (held d) → ent 𝓤 (sep 𝓤 (sep 𝓤 (sem 𝓛 (flft κ q)) (emp 𝓤)) (sem 𝓛 (owns (Slice ∷ S.the_row ∷ []) (d.bytes, (numbers_of d, tt)) (v ∷ [], (n ∷ [], tt))))) (View.pre to_make)
+      asks-make o = qed 𝓛 ((‵ (flft κ q) ⊛ ‵ ftrue) ∷ ‵ (owns (Slice ∷ S.the_row ∷ []) (d.bytes, (numbers_of d, tt)) (v ∷ [], (n ∷ [], tt))) ∷ []) ∵ says ! o $ frame ! $ done !
 
       -- what `over` is passed, and what it asks
       abbrev to-over : Val → On-view.Ghost
       to-over w = ((κs, qs, tt, (d, (x, tt)), (w ∷ [], (xv ∷ [], tt))), tt)
 
-      asks-over : (w : Val) → φ κs d.bytes (numbersOf d) x → ent 𝓤 (sep 𝓤 All (sem 𝓛 (owns (T.the_row α ∷ X.row κs ∷ []) (d, (x, tt)) (w ∷ [], (xv ∷ [], tt))))) (On-view.pre (to-over w))
+      asks-over : (w : Val) → φ κs d.bytes (numbers_of d) x → ent 𝓤 (sep 𝓤 All (sem 𝓛 (owns (T.the_row α ∷ X.row κs ∷ []) (d, (x, tt)) (w ∷ [], (xv ∷ [], tt))))) (On-view.pre (to-over w))
       asks-over w p = qed 𝓛 (raw All ∷ ‵ (owns (T.the_row α ∷ X.row κs ∷ []) (d, (x, tt)) (w ∷ [], (xv ∷ [], tt))) ∷ []) ∵ says ! p $ frame ! $ done !
 
       walk-made : (over : Name) → Triple 𝓤 (𝓣.C view-def.name) View → Triple 𝓤 (𝓣.C over) On-view
-          → Is Slice d.bytes (v ∷ []) → Is S.the_row (numbersOf d) (n ∷ []) → Is (X.row κs) x (xv ∷ []) → φ κs d.bytes (numbersOf d) x → opening d.bytes.now ≡ accepted (held d)
-          → ent 𝓤 (on_entry 𝓛 (shape on-numbers R).signature κs qs (d.bytes, (numbersOf d, (x, tt))) (v ∷ [], (n ∷ [], (xv ∷ [], tt)))) (WpFn 𝓤 H 𝓣.C 𝓣.Λ (made m over X.mir R.mir) (v ∷ n ∷ xv ∷ []) ((Ends 𝓛 on-numbers R (of-numbers 𝓤)).post (to-work v n)))
+          → Is Slice d.bytes (v ∷ []) → Is S.the_row (numbers_of d) (n ∷ []) → Is (X.row κs) x (xv ∷ []) → φ κs d.bytes (numbers_of d) x → opening d.bytes.now ≡ accepted (held d)
+          → ent 𝓤 (on_entry 𝓛 (shape on-numbers R).signature κs qs (d.bytes, (numbers_of d, (x, tt))) (v ∷ [], (n ∷ [], (xv ∷ [], tt)))) (WpFn 𝓤 H 𝓣.C 𝓣.Λ (made m over X.mir R.mir) (v ∷ n ∷ xv ∷ []) ((Ends 𝓛 on-numbers R (of-numbers 𝓤)).post (to-work v n)))
       walk-made over met-view met-over is-s is-n is_x p opens =
-          qed 𝓛 ((‵ (flft κ q) ⊛ raw Others) ∷ ‵ (owns (Slice ∷ S.the_row ∷ X.row κs ∷ []) (d.bytes, (numbersOf d, (x, tt))) (v ∷ [], (n ∷ [], (xv ∷ [], tt)))) ∷ []) ∵ split ! $ nothing ! $ move ! (1 ∷ 0 ∷ 3 ∷ []) $ join ! $
+          qed 𝓛 ((‵ (flft κ q) ⊛ raw Others) ∷ ‵ (owns (Slice ∷ S.the_row ∷ X.row κs ∷ []) (d.bytes, (numbers_of d, (x, tt))) (v ∷ [], (n ∷ [], (xv ∷ [], tt)))) ∷ []) ∵ split ! $ nothing ! $ move ! (1 ∷ 0 ∷ 3 ∷ []) $ join ! $
           enter ! 𝓣.C 𝓣.Λ (made m over X.mir R.mir) (v ∷ n ∷ xv ∷ []) _ $
           alloc1 ! (λ l₀. alloc1 ! (λ l₁. alloc1 ! (λ l₂. alloc1 ! (λ l₃. alloc1 ! (λ l₄. alloc0 ! $ params1 ! $
-          pass1 ! (init ! 6 refl (fits {m = m} the-bytes κs 𝓛 d.bytes v is-s)) $ pass1 ! (init ! 4 refl (fits {m = m} the-numbers κs 𝓛 (numbersOf d) n is-n)) $
+          pass1 ! (init ! 6 refl (fits {m = m} the-bytes κs 𝓛 d.bytes v is-s)) $ pass1 ! (init ! 4 refl (fits {m = m} the-numbers κs 𝓛 (numbers_of d) n is-n)) $
           pass1 ! (init ! 2 refl (fits X κs 𝓛 x xv is_x)) $ pass0 ! $
           -- [the numbers'; x's; the slice's; the token; _4; …; _0; …; the other tokens]
           move ! (11 ∷ 10 ∷ []) $ fsplit ! $ move ! (1 ∷ []) $ fsplit ! $ nothing ! $ move ! (1 ∷ 0 ∷ []) $ fjoin ! $ move ! (2 ∷ 0 ∷ []) $ fjoin ! $ move ! (2 ∷ 0 ∷ []) $ use2 𝓛 (raw (View.pre to_make)) (asks-make opens) $
           called-for {m = 0} 𝓛 (the-bytes ∷ the-numbers ∷ []) the_view (view.clauses 𝓛 mem run) to_make d (λ r ws. id⊢ 𝓤 _) ! (fm_of 𝓤 H 𝓛.laws 𝓣) met-view (and_then ! (load ! (from ! (stop !)) (look ! 8 refl)) (and_then ! (load ! (from ! (stop !)) (look ! 6 refl)) (no_more !))) (λ w is-w.
           -- [the view's; the token; x's; _4; …; _0; …; the other tokens]
           land ! (from ! (stop !)) (init ! 3 refl (storable w is-w)) $ move ! (0 ∷ 2 ∷ []) $ fjoin ! $ move ! (1 ∷ 12 ∷ []) $ use2 𝓛 (raw All) all-again $ use2 𝓛 (raw (On-view.pre (to-over w))) (asks-over w p) $
-          called 𝓛 on-view R (of-view 𝓤) (to-over w) (ψ κs d.bytes (numbersOf d) x) (λ r ws. id⊢ 𝓤 _) ! (fm_of 𝓤 H 𝓛.laws 𝓣) met-over (and_then ! (load ! (from ! (stop !)) (look ! 1 refl)) (and_then ! (load ! (from ! (stop !)) (look ! 3 refl)) (no_more !))) (λ u o g is-o.
+          called 𝓛 on-view R (of-view 𝓤) (to-over w) (ψ κs d.bytes (numbers_of d) x) (λ r ws. id⊢ 𝓤 _) ! (fm_of 𝓤 H 𝓛.laws 𝓣) met-over (and_then ! (load ! (from ! (stop !)) (look ! 1 refl)) (and_then ! (load ! (from ! (stop !)) (look ! 3 refl)) (no_more !))) (λ u o g is-o.
           -- [the result's; the tokens; _4; …; _0; …]
           land ! (from ! (stop !)) (init ! 10 refl (fits R κs 𝓛 o u is-o)) $ returns ! (look ! 10 refl) $ forget ! 2 refl $ forget ! 4 refl $ forget ! 6 refl $ forget ! 8 refl $ forget ! 10 refl $
           move ! (10 ∷ 11 ∷ []) $ free1 ! $ move ! (8 ∷ 9 ∷ []) $ free1 ! $ move ! (6 ∷ 7 ∷ []) $ free1 ! $ move ! (4 ∷ 5 ∷ []) $ free1 ! $ move ! (2 ∷ 3 ∷ []) $ free1 ! $ free0 ! $
-          move ! (1 ∷ []) $ by ! (ends 𝓛 on-numbers R (of-numbers 𝓤) (to-work v n) u o (fact_i 𝓤 (ψ κs d.bytes (numbersOf d) x o) (emp 𝓤) g)))))))))
+          move ! (1 ∷ []) $ by ! (ends 𝓛 on-numbers R (of-numbers 𝓤) (to-work v n) u o (fact_i 𝓤 (ψ κs d.bytes (numbers_of d) x o) (emp 𝓤) g)))))))))
 
   -- ---- so each meets its contract if what it calls does
   module _ {M : Type 1} {𝓤 : Ura M} (𝓛 : Logic 𝓤) (𝓜 : Model 𝓤 𝓛.H) (𝓡 : Running 𝓤 𝓛.H 𝓜) (γ : Env) (k : Name) (callee : Name) (routine : Routine) (calls : γ callee ≡ routine) where

@@ -7,11 +7,11 @@ use lib.Dec.{lit<}
 use lib.Pow.{pow_mono, pow_pos}
 use Rattle.format.specs.declared.TableKind.{TableKind}
 use Rattle.format.specs.declared.TableKind.TheVariants.{First, Second}
-use Rattle.format.specs.Layouts.{entryPointer}
+use Rattle.format.specs.Layouts.{entry_pointer}
 
 pub no_wrap : (k : TableKind) (entry shift alignment : ℕ) → entry < 2 ^ 64 → alignment ≤ 32 → (k ≡ First → alignment ≡ 0)
-    → entryPointer k entry / 2 ^ shift * 2 ^ alignment < 2 ^ 64
-unfolding entryPointer
+    → entry_pointer k entry / 2 ^ shift * 2 ^ alignment < 2 ^ 64
+unfolding entry_pointer
 no_wrap First entry shift alignment e h f = rw (f refl, mul-one) (lt_of_le_of_lt (div-le_self entry (2 ^ shift)) e)
 no_wrap Second entry shift alignment e h f =
     let p : ℕ = entry % 2 ^ 28 in

@@ -3,10 +3,10 @@ use Rattle.std.specs.Prelude.{true, false, List, ◌≡◌, ℕ, ◌≤◌, ◌<
 use Rattle.std.specs.Borrow.{Bor}
 use Rattle.format.specs.declared.TableKind.{TableKind}
 use Rattle.format.specs.declared.TableKind.TheVariants.{First}
-use Rattle.format.specs.Reading.{outside, entryNumber}
+use Rattle.format.specs.Reading.{outside, entry_number}
 use Rattle.format.specs.Refusals.{Answer, refused, accepted}
 use Rattle.format.specs.Tests.{differs}
-use Rattle.format.specs.Opening.{kindBy}
+use Rattle.format.specs.Opening.{kind_by}
 use Rattle.format.specs.Opening as format
 use Rattle.opening.specs.declared.Image.{Image}
 use Rattle.opening.specs.declared.Numbered.{Numbered}
@@ -16,12 +16,12 @@ use Rattle.opening.specs.declared.Opening.{Opening}
 use Rattle.opening.specs.declared.Opening.TheVariants as opening
 
 -- the kind that a number stands for
-unfoldable pub kindNumbered : ℕ → TableKind
-kindNumbered n = kindBy (differs n 2)
+unfoldable pub kind_numbered : ℕ → TableKind
+kind_numbered n = kind_by (differs n 2)
 
 -- what opening found
 abbrev pub contents : Opened → format.Opened
-contents t = record { kind = kindNumbered t.kind; table = t.table.0; count = t.count; shift = t.shift; alignment = t.alignment; negative = t.negative }
+contents t = record { kind = kind_numbered t.kind; table = t.table.0; count = t.count; shift = t.shift; alignment = t.alignment; negative = t.negative }
 
 -- ---- the opened image: the lent bytes, and what opening found in them
 -- how it is made
@@ -29,13 +29,13 @@ abbrev pub view_of : Bor (List ℕ) → Opened → Image
 view_of s t = record { bytes = s; kind = t.kind; table = t.table; count = t.count; shift = t.shift; alignment = t.alignment; negative = t.negative }
 
 -- what it holds beside the bytes
-abbrev pub numbersOf : Image → Opened
-numbersOf image =
+abbrev pub numbers_of : Image → Opened
+numbers_of image =
     record { kind = image.kind; table = image.table; count = image.count; shift = image.shift; alignment = image.alignment; negative = image.negative }
 
 -- the same in the terms of the definitions
 abbrev pub held : Image → format.Opened
-held image = contents (numbersOf image)
+held image = contents (numbers_of image)
 
 -- ---- what opening found, or the refusal
 unfoldable pub outcome : Opening → Answer format.Opened
@@ -50,5 +50,5 @@ pub record Decodes (t : format.Opened) : Type 0 where
 
 -- ---- an address: its table entry's number, or that it is outside
 unfoldable pub IsNumbered : format.Opened → ℤ → Numbered → Type 0
-IsNumbered t a (numbered.At n) = (outside t a ≡ false) × (entryNumber t a ≡ n.0) × (n.0 < t.count)
+IsNumbered t a (numbered.At n) = (outside t a ≡ false) × (entry_number t a ≡ n.0) × (n.0 < t.count)
 IsNumbered t a numbered.Outside = outside t a ≡ true

@@ -8,11 +8,11 @@
 ghost use Rattle.std.specs.Prelude.{◌≡◌, ◌+◌, ◌^◌, ◌≤◌, ◌<◌, length, pos, neg_ℤ, ◌+ℤ◌};
 ghost use Rattle.format.specs.declared.Verdict.TheVariants.{Passes};
 ghost use Rattle.format.specs.Refusals.{refusal, row, accepted, answer};
-ghost use Rattle.format.specs.Layouts.{entryPointer, decode};
-ghost use Rattle.format.specs.Opening.{headerVerdict, kind_at, tableVerdict, openVerdict, openedAt, opened, opening, range_of};
-ghost use Rattle.format.specs.Reading.{outside, tableEntryAt, tableEntry, unwritten, unknown, pointerAt};
-ghost use Rattle.format.specs.Writing.{isSecond, writableVerdict};
-ghost use Rattle.opening.specs.Answers.{contents, outcome, numbersOf, view_of, held, kindNumbered, Decodes, IsNumbered};
+ghost use Rattle.format.specs.Layouts.{entry_pointer, decode};
+ghost use Rattle.format.specs.Opening.{header_verdict, kind_at, table_verdict, open_verdict, opened_at, opened, opening, range_of};
+ghost use Rattle.format.specs.Reading.{outside, table_entry_at, table_entry, unwritten, unknown, pointer_at};
+ghost use Rattle.format.specs.Writing.{is_second, writable_verdict};
+ghost use Rattle.opening.specs.Answers.{contents, outcome, numbers_of, view_of, held, kind_numbered, Decodes, IsNumbered};
 
 use fields::{get, magnitude};
 use format::{
@@ -55,7 +55,7 @@ pub enum Opening {
 
 // The number of a kind, and the kind of a number.
 fn kind_number(kind: TableKind) -> u64
-    ensures { kindNumbered result ≡ kind }
+    ensures { kind_numbered result ≡ kind }
 {
     match kind {
         TableKind::First => 1,
@@ -75,7 +75,7 @@ fn kind_of(t: Opened) -> TableKind
 // The image whose table is at t, if the table passes.
 fn open_table(s: &[u8], t: ByteOffset) -> Opening
     requires { t.0 + 4 ≤ length s.now }
-    ensures { outcome result ≡ answer (tableVerdict s.now (kind_at s.now t.0) t.0) (openedAt s.now t.0) }
+    ensures { outcome result ≡ answer (table_verdict s.now (kind_at s.now t.0) t.0) (opened_at s.now t.0) }
 {
     let kind = tables::kind_at(s, t);
     let v = tables::table_verdict(s, kind, t);
@@ -99,8 +99,8 @@ fn open_table(s: &[u8], t: ByteOffset) -> Opening
 
 // An image whose header passes, with o for its index's offset: checks 4 to 14.
 fn open_index(s: &[u8], o: ByteOffset) -> Opening
-    requires { headerVerdict s.now ≡ Passes }
-    ensures { outcome result ≡ answer (openVerdict s.now o.0) (opened s.now o.0) }
+    requires { header_verdict s.now ≡ Passes }
+    ensures { outcome result ≡ answer (open_verdict s.now o.0) (opened s.now o.0) }
 {
     let v = index::index_verdict(s, o);
     if let Verdict::Refuses(r) = v {
@@ -126,7 +126,7 @@ pub fn open(s: &[u8]) -> Opening
 
 // The image that opened as t may be written to: check 74.
 pub fn kind_verdict(t: Opened) -> Verdict
-    ensures { result ≡ row (isSecond (contents t).kind) (refusal 74 0) }
+    ensures { result ≡ row (is_second (contents t).kind) (refusal 74 0) }
 {
     let kind = kind_of(t);
     if tables::is_second(kind) {
@@ -140,7 +140,7 @@ pub fn kind_verdict(t: Opened) -> Verdict
 
 // All of opening's checks, with o for the index's offset, and 74.
 pub fn writable_verdict(s: &[u8], o: ByteOffset) -> Verdict
-    ensures { result ≡ writableVerdict s.now o.0 }
+    ensures { result ≡ writable_verdict s.now o.0 }
 {
     let v = index::header_verdict(s);
     if let Verdict::Refuses(r) = v {
@@ -178,7 +178,7 @@ pub fn bytes<'a>(image: Image<'a>) -> &'a [u8]
 
 // What opening found in them.
 pub fn numbers<'a>(image: Image<'a>) -> Opened
-    ensures { result ≡ numbersOf image.entry }
+    ensures { result ≡ numbers_of image.entry }
 {
     Opened {
         kind: image.kind,
@@ -227,8 +227,8 @@ pub fn range(t: Opened) -> AddressRange
 
 // Where table entry n stands.
 pub fn entry_place(t: Opened, n: EntryNumber) -> ByteOffset
-    requires { tableEntryAt (contents t) n.0 < 2 ^ 64 }
-    ensures { result.0 ≡ tableEntryAt (contents t) n.0 }
+    requires { table_entry_at (contents t) n.0 < 2 ^ 64 }
+    ensures { result.0 ≡ table_entry_at (contents t) n.0 }
 {
     let kind = kind_of(t);
     let table = t.table;
@@ -241,7 +241,7 @@ pub fn entry_place(t: Opened, n: EntryNumber) -> ByteOffset
 // The number there.
 pub fn table_entry(s: &[u8], t: Opened, n: EntryNumber) -> u64
     requires { (opening s.now ≡ accepted (contents t)) × (n.0 < (contents t).count) }
-    ensures { result ≡ tableEntry s.now (contents t) n.0 }
+    ensures { result ≡ table_entry s.now (contents t) n.0 }
 {
     let kind = kind_of(t);
     let table = t.table;
@@ -280,7 +280,7 @@ pub fn is_unknown(t: Opened, entry: u64) -> bool
 // What a table entry of the image that opened as t encodes.
 pub fn entry_decoded(t: Opened, entry: u64) -> Pointer
     requires { Decodes (contents t) }
-    ensures { result ≡ decode (contents t).shift (contents t).alignment (entryPointer (contents t).kind entry) }
+    ensures { result ≡ decode (contents t).shift (contents t).alignment (entry_pointer (contents t).kind entry) }
 {
     let kind = kind_of(t);
     match kind {
@@ -292,7 +292,7 @@ pub fn entry_decoded(t: Opened, entry: u64) -> Pointer
 // What table entry n encodes.
 pub fn pointer_at(s: &[u8], t: Opened, n: EntryNumber) -> Pointer
     requires { (opening s.now ≡ accepted (contents t)) × (n.0 < (contents t).count) }
-    ensures { result ≡ pointerAt s.now (contents t) n.0 }
+    ensures { result ≡ pointer_at s.now (contents t) n.0 }
 {
     entry_decoded(t, table_entry(s, t, n))
 }
@@ -300,7 +300,7 @@ pub fn pointer_at(s: &[u8], t: Opened, n: EntryNumber) -> Pointer
 // Over an opened image, which it takes apart.
 pub fn pointer<'a>(image: Image<'a>, n: EntryNumber) -> Pointer
     requires { (opening image.bytes.now ≡ accepted (held image)) × (n.0 < (held image).count) }
-    ensures { result ≡ pointerAt image.entry.bytes.now (held image.entry) n.0 }
+    ensures { result ≡ pointer_at image.entry.bytes.now (held image.entry) n.0 }
 {
     pointer_at(bytes(image), numbers(image), n)
 }
@@ -308,7 +308,7 @@ pub fn pointer<'a>(image: Image<'a>, n: EntryNumber) -> Pointer
 // Makes the opened image and hands it on.
 pub fn pointer_of(s: &[u8], t: Opened, n: EntryNumber) -> Pointer
     requires { (opening s.now ≡ accepted (contents t)) × (n.0 < (contents t).count) }
-    ensures { result ≡ pointerAt s.now (contents t) n.0 }
+    ensures { result ≡ pointer_at s.now (contents t) n.0 }
 {
     pointer(view(s, t), n)
 }

@@ -5,8 +5,8 @@
 // Cost: locating in the child, and where it answers 21, locating in the parent.
 ghost use Rattle.std.specs.Prelude.{◌≡◌};
 ghost use Rattle.format.specs.Reading.{locate};
-ghost use Rattle.format.specs.Overlaying.{fromParent, inImage, readOver, locateOver, sourceOver};
-ghost use Rattle.format.specs.Answers.{bytesRead, locatedOver, sourcedOver};
+ghost use Rattle.format.specs.Overlaying.{from_parent, in_image, read_over, locate_over, source_over};
+ghost use Rattle.format.specs.Answers.{bytes_read, located_over, sourced_over};
 
 use fields::part;
 use format::Located;
@@ -14,7 +14,7 @@ pub use format::{LocatedOver, Refusal, SectorAddress, SourceOver, Sourced};
 
 // Where the parent's sector at address a lies, or the refusal that the pair gives for its own.
 fn locate_parent(parent: &[u8], a: SectorAddress) -> LocatedOver
-    ensures { locatedOver result ≡ fromParent (inImage 1 (locate parent.now a.0)) }
+    ensures { located_over result ≡ from_parent (in_image 1 (locate parent.now a.0)) }
 {
     let l = sectors::locate_in(parent, a);
     match l {
@@ -25,7 +25,7 @@ fn locate_parent(parent: &[u8], a: SectorAddress) -> LocatedOver
 
 // Where the sector at address a lies: in which image, 0 for the child and 1 for the parent, and where there. Or why it can't be read.
 pub fn locate_over(child: &[u8], parent: &[u8], a: SectorAddress) -> LocatedOver
-    ensures { locatedOver result ≡ locateOver child.now parent.now a.0 }
+    ensures { located_over result ≡ locate_over child.now parent.now a.0 }
 {
     let l = sectors::locate_in(child, a);
     match l {
@@ -41,7 +41,7 @@ pub fn locate_over(child: &[u8], parent: &[u8], a: SectorAddress) -> LocatedOver
 
 // Which image the sector at address a is a part of, 0 for the child and 1 for the parent, or the refusal of `locate_over`.
 pub fn source_over(child: &[u8], parent: &[u8], a: SectorAddress) -> SourceOver
-    ensures { sourcedOver result ≡ sourceOver child.now parent.now a.0 }
+    ensures { sourced_over result ≡ source_over child.now parent.now a.0 }
 {
     let l = locate_over(child, parent, a);
     match l {
@@ -52,7 +52,7 @@ pub fn source_over(child: &[u8], parent: &[u8], a: SectorAddress) -> SourceOver
 
 // The sector at address a: a part of the child or of the parent, and the empty part exactly where `locate_over` refuses.
 pub fn read_over<'a>(child: &'a [u8], parent: &'a [u8], a: SectorAddress) -> &'a [u8]
-    ensures { result.now ≡ bytesRead (readOver child.now parent.now a.0) }
+    ensures { result.now ≡ bytes_read (read_over child.now parent.now a.0) }
 {
     let l = locate_over(child, parent, a);
     match l {

@@ -6,7 +6,7 @@ ghost use Rattle.std.specs.Prelude.{◌≡◌};
 ghost use Rattle.format.specs.declared.TableKind.TheVariants.{First};
 ghost use Rattle.format.specs.Refusals.{accepted};
 ghost use Rattle.format.specs.Opening.{opening};
-ghost use Rattle.format.specs.Flattening.{pairVerdict};
+ghost use Rattle.format.specs.Flattening.{pair_verdict};
 ghost use Rattle.opening.specs.Answers.{contents, outcome};
 
 use format::Verdict;
@@ -16,7 +16,7 @@ use opening::{Opened, Opening};
 // child has not written. As both tables rise with the addresses, the parent's first one is that of the lowest such address.
 pub fn pair_verdict(child: &[u8], t: Opened, parent: &[u8], p: Opening) -> Verdict
     requires { (opening child.now ≡ accepted (contents t)) × ((contents t).kind ≡ First) × (opening parent.now ≡ outcome p) }
-    ensures { result ≡ pairVerdict child.now parent.now }
+    ensures { result ≡ pair_verdict child.now parent.now }
 {
     let own = checking::first_refused(child, t);
     let limit = own.number;

@@ -5,42 +5,42 @@ use Rattle.format.specs.declared.TableKind.TheVariants.{First}
 use Rattle.format.specs.declared.Verdict.TheVariants.{Passes}
 use Rattle.format.specs.Tests.{◌or◌}
 use Rattle.format.specs.Refusals.{Answer, accepted, answer}
-use Rattle.format.specs.Layouts.{indexOffset, entries}
+use Rattle.format.specs.Layouts.{index_offset, entries}
 use Rattle.format.specs.Opening.{Opened, opening}
-use Rattle.format.specs.Reading.{pointerAt, itemBytes, sectorVerdict, read}
-use Rattle.format.specs.Answers.{bytesRead}
-use Rattle.format.specs.Committing.{otherThan21}
-use Rattle.format.specs.Overlaying.{fromParent}
-use Rattle.format.specs.Flattening.{pair_at, verdictOf, pairVerdict}
+use Rattle.format.specs.Reading.{pointer_at, item_bytes, sector_verdict, read}
+use Rattle.format.specs.Answers.{bytes_read}
+use Rattle.format.specs.Committing.{other_than_21}
+use Rattle.format.specs.Overlaying.{from_parent}
+use Rattle.format.specs.Flattening.{pair_at, verdict_of, pair_verdict}
 
 -- ---- one image
 -- what reading the address of table entry n of an image that opened as t answers
-unfoldable pub entryAnswer : List ℕ → Opened → ℕ → Answer (List ℕ)
-entryAnswer img t n = answer (sectorVerdict img (entries img (indexOffset img)) t n) (itemBytes img (pointerAt img t n))
+unfoldable pub entry_answer : List ℕ → Opened → ℕ → Answer (List ℕ)
+entry_answer img t n = answer (sector_verdict img (entries img (index_offset img)) t n) (item_bytes img (pointer_at img t n))
 
 -- an image that opens to t, and whose table entry n is not written or has a good sector
 pub record EntryChecked (img : List ℕ) (t : Opened) (n : ℕ) : Type 0 where
   pub opens : opening img ≡ accepted t
   pub inside : n < t.count
-  pub passes : otherThan21 (sectorVerdict img (entries img (indexOffset img)) t n) ≡ Passes
+  pub passes : other_than_21 (sector_verdict img (entries img (index_offset img)) t n) ≡ Passes
 
 -- a parent that opens so, or does not, and from which the pair's sector at address a passed
 pub record ParentChecked (parent : List ℕ) (p : Answer Opened) (a : ℤ) : Type 0 where
   pub opens : opening parent ≡ p
-  pub passes : otherThan21 (verdictOf (fromParent (read parent a))) ≡ Passes
+  pub passes : other_than_21 (verdict_of (from_parent (read parent a))) ≡ Passes
 
 -- ---- the pair: the child opens to t, with a table of the first kind, the parent so, or it does not, and all sectors passed
 pub record Pair (child parent : List ℕ) (t : Opened) (p : Answer Opened) : Type 0 where
   pub opens : opening child ≡ accepted t
   pub first : t.kind ≡ First
-  pub opensParent : opening parent ≡ p
-  pub passes : pairVerdict child parent ≡ Passes
+  pub opens_parent : opening parent ≡ p
+  pub passes : pair_verdict child parent ≡ Passes
 
 -- its sector at address n of the child, empty where it has none
-abbrev pub sectorAt : List ℕ → List ℕ → ℕ → List ℕ
-sectorAt child parent n = bytesRead (pair_at child parent n)
+abbrev pub sector_at : List ℕ → List ℕ → ℕ → List ℕ
+sector_at child parent n = bytes_read (pair_at child parent n)
 
 -- one of the addresses below n has this sector
-unfoldable pub heldBelow : (ℕ → List ℕ) → List ℕ → ℕ → Bool
-heldBelow disc sector zero = false
-heldBelow disc sector (suc n) = equal (disc n) sector or heldBelow disc sector n
+unfoldable pub held_below : (ℕ → List ℕ) → List ℕ → ℕ → Bool
+held_below disc sector zero = false
+held_below disc sector (suc n) = equal (disc n) sector or held_below disc sector n

@@ -7,12 +7,12 @@ ghost use Rattle.std.specs.Prelude.{not, ◌≡◌, ◌≤◌, ◌<◌, length};
 ghost use Rattle.fields.specs.Bytes.{equal};
 ghost use Rattle.format.specs.Tests.{same, below, ◌or◌};
 ghost use Rattle.format.specs.Reading.{read};
-ghost use Rattle.format.specs.Writing.{mostSectors, largestSize, mostAddresses};
-ghost use Rattle.format.specs.Answers.{bytesRead};
-ghost use Rattle.format.specs.Overlaying.{parentRefusal, fromParent};
-ghost use Rattle.format.specs.Flattening.{count_of, written_of, size_of, anyOther, sizesVerdict};
+ghost use Rattle.format.specs.Writing.{most_sectors, largest_size, most_addresses};
+ghost use Rattle.format.specs.Answers.{bytes_read};
+ghost use Rattle.format.specs.Overlaying.{parent_refusal, from_parent};
+ghost use Rattle.format.specs.Flattening.{count_of, written_of, size_of, any_other, sizes_verdict};
 ghost use Rattle.opening.specs.Answers.{contents, outcome};
-ghost use Rattle.pairs.specs.Pairs.{entryAnswer, EntryChecked, ParentChecked, Pair, sectorAt, heldBelow};
+ghost use Rattle.pairs.specs.Pairs.{entry_answer, EntryChecked, ParentChecked, Pair, sector_at, held_below};
 
 use fields::part;
 use format::{ByteOffset, EntryNumber, Refusal, SectorAddress, Verdict};
@@ -21,7 +21,7 @@ use opening::{Numbered, Opened, Opening};
 // A refusal of the parent, as the pair gives it: 20 and 21 as 21, any other with 100 added. A read's are at most 73, so that the sum is no larger number's.
 pub fn parent_refusal(r: Refusal) -> Refusal
     requires { r.number ≤ 73 }
-    ensures { result ≡ parentRefusal r }
+    ensures { result ≡ parent_refusal r }
 {
     let number = r.number;
     let none = ByteOffset(0);
@@ -47,7 +47,7 @@ pub fn parent_refusal(r: Refusal) -> Refusal
 // The sector of table entry n of an image that was checked there, empty where it is not written.
 fn entry_sector<'a>(s: &'a [u8], t: Opened, n: EntryNumber) -> &'a [u8]
     requires { EntryChecked s.now (contents t) n.0 }
-    ensures { result.now ≡ bytesRead (entryAnswer s.now (contents t) n.0) }
+    ensures { result.now ≡ bytes_read (entry_answer s.now (contents t) n.0) }
 {
     let e = opening::table_entry(s, t, n);
     if opening::is_unwritten(t, e) {
@@ -61,7 +61,7 @@ fn entry_sector<'a>(s: &'a [u8], t: Opened, n: EntryNumber) -> &'a [u8]
 // The parent's sector at address a, empty where it has none: it does not open, or the address is outside or not written.
 fn parent_sector<'a>(parent: &'a [u8], p: Opening, a: SectorAddress) -> &'a [u8]
     requires { ParentChecked parent.now (outcome p) a.0 }
-    ensures { result.now ≡ bytesRead (fromParent (read parent.now a.0)) }
+    ensures { result.now ≡ bytes_read (from_parent (read parent.now a.0)) }
 {
     let Opening::Opens(t) = p else {
         return part(parent, 0, 0);
@@ -82,7 +82,7 @@ pub fn sector<'a>(
     n: EntryNumber,
 ) -> &'a [u8]
     requires { Pair child.now parent.now (contents t) (outcome p) × (n.0 < (contents t).count) }
-    ensures { result.now ≡ sectorAt child.now parent.now n.0 }
+    ensures { result.now ≡ sector_at child.now parent.now n.0 }
 {
     let own = entry_sector(child, t, n);
     if 0 < own.len() {
@@ -131,7 +131,7 @@ pub fn count_written<'a>(child: &'a [u8], t: Opened, parent: &'a [u8], p: Openin
 // Whether a sector of the pair has another size than this.
 fn any_other<'a>(child: &'a [u8], t: Opened, parent: &'a [u8], p: Opening, size: u64) -> bool
     requires { Pair child.now parent.now (contents t) (outcome p) }
-    ensures { result ≡ anyOther size (written_of child.now parent.now) }
+    ensures { result ≡ any_other size (written_of child.now parent.now) }
 {
     let count = opening::count(t);
     let mut n: u64 = 0;
@@ -150,7 +150,7 @@ fn any_other<'a>(child: &'a [u8], t: Opened, parent: &'a [u8], p: Opening, size:
 
 // Check 30 of a disc of so many addresses, of which so many have a sector, and of this size.
 fn is_over(count: u64, size: u64, written: u64) -> bool
-    ensures { result ≡ (same count 0 or below mostSectors count or below largestSize size or below mostAddresses written) }
+    ensures { result ≡ (same count 0 or below most_sectors count or below largest_size size or below most_addresses written) }
 {
     if count == 0 {
         return true;
@@ -174,7 +174,7 @@ pub fn sizes_verdict<'a>(
     written: u64,
 ) -> Verdict
     requires { Pair child.now parent.now (contents t) (outcome p) × (size ≡ size_of (written_of child.now parent.now)) × (written ≡ length (written_of child.now parent.now)) }
-    ensures { result ≡ sizesVerdict (count_of child.now) (written_of child.now parent.now) }
+    ensures { result ≡ sizes_verdict (count_of child.now) (written_of child.now parent.now) }
 {
     let place = ByteOffset(0);
     if any_other(child, t, parent, p, size) {
@@ -199,7 +199,7 @@ fn is_same(x: &[u8], y: &[u8]) -> bool
 // Whether no address below n has the same sector. Each comparison ends at the first difference in size or bytes.
 pub fn is_new<'a>(child: &'a [u8], t: Opened, parent: &'a [u8], p: Opening, n: EntryNumber) -> bool
     requires { Pair child.now parent.now (contents t) (outcome p) × (n.0 < (contents t).count) }
-    ensures { result ≡ not (heldBelow (sectorAt child.now parent.now) (sectorAt child.now parent.now n.0) n.0) }
+    ensures { result ≡ not (held_below (sector_at child.now parent.now) (sector_at child.now parent.now n.0) n.0) }
 {
     let own = sector(child, t, parent, p, n);
     let mut left = n.0;

@@ -16,24 +16,24 @@ use Rattle.format.specs.declared.Pointer.{Pointer}
 use Rattle.format.specs.Lists.{All, done, more}
 use Rattle.format.specs.Tests.{below}
 use Rattle.format.specs.Opening.{Opened}
-use Rattle.format.specs.Committing.{risingBy, pieces, given, storeOne, storeAll, oldPointer, newPointer, newPointers}
+use Rattle.format.specs.Committing.{rising_by, pieces, given, store_one, store_all, old_pointer, new_pointer, new_pointers}
 use Rattle.format.proofs.Tests.{below_on, same-on, same_true, same-iff, and-on, never, choose-true, choose-false}
 use Rattle.format.proofs.Lists.{all-get}
 use Rattle.format.proofs.Addresses.{given-other}
-use Rattle.format.proofs.Storing.{getD-pieces, length-pieces}
-use Rattle.planning.specs.Plans.{heads, isNext, sectorOf, storedBy}
+use Rattle.format.proofs.Storing.{get_or-pieces, length-pieces}
+use Rattle.planning.specs.Plans.{heads, is_next, sector_of, stored_by}
 
 -- ---- addresses that rise, from a on
 unfoldable pub Above : ℕ → List ℕ → Type 0
 Above a [] = Unit
 Above a (b ∷ l) = (a ≤ b) × Above (suc b) l
 
-above-cons : (n a : ℕ) (l : List ℕ) → risingBy below (a ∷ l) ≡ true → n ≤ a → Above n (a ∷ l)
-unfolding risingBy Above
+above-cons : (n a : ℕ) (l : List ℕ) → rising_by below (a ∷ l) ≡ true → n ≤ a → Above n (a ∷ l)
+unfolding rising_by Above
 above-cons n a [] h q = (q, tt)
 above-cons n a (b ∷ l) h q = let r = and-on _ _ h in (q, above-cons (suc a) b l r.1 (below_on a b r.0))
 
-above-all : (l : List ℕ) → risingBy below l ≡ true → Above 0 l
+above-all : (l : List ℕ) → rising_by below l ≡ true → Above 0 l
 unfolding Above
 above-all [] h = tt
 above-all (a ∷ l) h = above-cons 0 a l h (omega arith)
@@ -55,27 +55,27 @@ unfolding Above heads
 above-next a [] h e = tt
 above-next a (b ∷ l) h e = (⊎_elim (λ q. absurd (same-iff.0 e (sym q))) (λ q. q) (eq-or-lt_of_le h.0), h.1)
 
-pub next-listed : (addresses : List ℕ) (k a : ℕ) → isNext addresses k a ≡ true → k < length addresses
-unfolding isNext heads
+pub next-listed : (addresses : List ℕ) (k a : ℕ) → is_next addresses k a ≡ true → k < length addresses
+unfolding is_next heads
 next-listed addresses k a e = lt_of_not-le (λ g. never e (ap (λ (l : List ℕ). heads l a) (drop_of_length-le addresses {i = k} g)))
 
 -- ---- the new pointers of the n addresses from a on
 module _ (img : List ℕ) (t : Opened) where
   pointers-old : (l : List ℕ) (ps : List Pointer) (n a : ℕ) → Above (suc a) l
-      → newPointers img t l ps (suc n) a ≡ oldPointer img t a ∷ newPointers img t l ps n (suc a)
-  unfolding newPointers newPointer or_else
+      → new_pointers img t l ps (suc n) a ≡ old_pointer img t a ∷ new_pointers img t l ps n (suc a)
+  unfolding new_pointers new_pointer or_else
   pointers-old l ps n a h = rw (given-other l ps a (above_other a l h))
 
   -- an address that is passed
-  past : (b : ℕ) (l : List ℕ) (p : Pointer) (ps : List Pointer) (n x : ℕ) → b < x → newPointers img t (b ∷ l) (p ∷ ps) n x ≡ newPointers img t l ps n x
-  unfolding newPointers newPointer given
+  past : (b : ℕ) (l : List ℕ) (p : Pointer) (ps : List Pointer) (n x : ℕ) → b < x → new_pointers img t (b ∷ l) (p ∷ ps) n x ≡ new_pointers img t l ps n x
+  unfolding new_pointers new_pointer given
   past b l p ps zero x h = refl
   past b l p ps (suc n) x h =
       rw (choose-false _ (some p) (given l ps x) (same-iff.1 (λ (e : b ≡ x). absurd (omega arith))), past b l p ps n (suc x) (omega arith))
 
   pub pointers-new : (b : ℕ) (l : List ℕ) (p : Pointer) (ps : List Pointer) (n a : ℕ) → b ≡ a
-      → newPointers img t (b ∷ l) (p ∷ ps) (suc n) a ≡ some p ∷ newPointers img t l ps n (suc a)
-  unfolding newPointers newPointer given or_else
+      → new_pointers img t (b ∷ l) (p ∷ ps) (suc n) a ≡ some p ∷ new_pointers img t l ps n (suc a)
+  unfolding new_pointers new_pointer given or_else
   pointers-new b l p ps n a e =
       rw (choose-true _ (some p) (given l ps a) (same_true b a e)) (ap (λ (r : List (Option Pointer)). some p ∷ r) (past b l p ps n (suc a) (omega arith)))
 
@@ -86,20 +86,20 @@ module _ (img : List ℕ) (t : Opened) (addresses : List ℕ) (size : ℕ) (sect
 
   -- the new pointers from address a on
   abbrev pub left : ℕ → ℕ → List (List ℕ) → List (Option Pointer)
-  left a k st = newPointers img t (drop k addresses) (storeAll img t (length img) st (drop k all)).pointers (t.count - a) a
+  left a k st = new_pointers img t (drop k addresses) (store_all img t (length img) st (drop k all)).pointers (t.count - a) a
 
   pub record Walks (a k : ℕ) (st : List (List ℕ)) : Type 0 where
     pub above : Above a (drop k addresses)
-    pub items : (storeAll img t (length img) st (drop k all)).items ≡ (storedBy img t addresses size sectors).items
+    pub items : (store_all img t (length img) st (drop k all)).items ≡ (stored_by img t addresses size sectors).items
 
-  pub walk-starts : risingBy below addresses ≡ true → Walks 0 0 []
+  pub walk-starts : rising_by below addresses ≡ true → Walks 0 0 []
   walk-starts h = record { above = above-all addresses h; items = refl }
 
-  pub left-starts : left 0 0 [] ≡ newPointers img t addresses (storedBy img t addresses size sectors).pointers t.count 0
+  pub left-starts : left 0 0 [] ≡ new_pointers img t addresses (stored_by img t addresses size sectors).pointers t.count 0
   left-starts = rw sub-zero
 
   pub left-done : (a k : ℕ) (st : List (List ℕ)) → t.count ≤ a → left a k st ≡ []
-  unfolding newPointers
+  unfolding new_pointers
   left-done a k st h = rw (sub-done a t.count h)
 
   -- all that is handed in is used up
@@ -114,26 +114,26 @@ module _ (img : List ℕ) (t : Opened) (addresses : List ℕ) (size : ℕ) (sect
       absurd (omega arith)))
 
   pub walk-done : {a k : ℕ} {st : List (List ℕ)} → Walks a k st → All (λ (n : ℕ). n < t.count) addresses → t.count ≤ a
-      → st ≡ (storedBy img t addresses size sectors).items
-  unfolding storeAll
+      → st ≡ (stored_by img t addresses size sectors).items
+  unfolding store_all
   walk-done {a} {k} w o h =
       rw (drop_of_length-le all {i = k} (rw length-pieces (used-up a k o w.above h))) at w.items
 
   module _ {a k : ℕ} {st : List (List ℕ)} (w : Walks a k st) (h : a < t.count) where
     -- ---- an address for which nothing is handed in
-    module _ (e : isNext addresses k a ≡ false) where
+    module _ (e : is_next addresses k a ≡ false) where
       above-old : Above (suc a) (drop k addresses)
-      unfolding isNext
+      unfolding is_next
       above-old = above-next a (drop k addresses) w.above e
 
       pub walk-old : Walks (a + 1) k st
       walk-old = record { above = rw add-one above-old; items = w.items }
 
-      pub left-old : left a k st ≡ oldPointer img t a ∷ left (a + 1) k st
+      pub left-old : left a k st ≡ old_pointer img t a ∷ left (a + 1) k st
       left-old = rw (sub-step a t.count h, add-one) (pointers-old img t _ _ _ a above-old)
 
     -- ---- one for which sector k is
-    module _ (e : isNext addresses k a ≡ true) where
+    module _ (e : is_next addresses k a ≡ true) where
       listed : k < length addresses
       listed = next-listed addresses k a e
 
@@ -141,16 +141,16 @@ module _ (img : List ℕ) (t : Opened) (addresses : List ℕ) (size : ℕ) (sect
       addresses-next = drop-cons addresses k 0 listed
 
       next-is : get_or addresses k 0 ≡ a
-      unfolding isNext heads
+      unfolding is_next heads
       next-is = same-on _ _ (rw addresses-next at e)
 
-      sectors-next : drop k all ≡ sectorOf size sectors k ∷ drop (suc k) all
+      sectors-next : drop k all ≡ sector_of size sectors k ∷ drop (suc k) all
       sectors-next =
           drop-cons all k [] (rw length-pieces listed)
-          ∙ ap (λ (d : List ℕ). d ∷ drop (suc k) all) (getD-pieces (length addresses) size sectors k listed)
+          ∙ ap (λ (d : List ℕ). d ∷ drop (suc k) all) (get_or-pieces (length addresses) size sectors k listed)
 
-      pub walk-new : Walks (a + 1) (k + 1) (storeOne img t (length img) st (sectorOf size sectors k)).stored
-      unfolding storeAll Above
+      pub walk-new : Walks (a + 1) (k + 1) (store_one img t (length img) st (sector_of size sectors k)).stored
+      unfolding store_all Above
       walk-new =
           record {
             above = rw (add-one a, add-one k, ← next-is) (subst (Above a) addresses-next w.above).1;
@@ -158,7 +158,7 @@ module _ (img : List ℕ) (t : Opened) (addresses : List ℕ) (size : ℕ) (sect
           }
 
       pub left-new : left a k st
-          ≡ some (storeOne img t (length img) st (sectorOf size sectors k)).pointer ∷ left (a + 1) (k + 1) (storeOne img t (length img) st (sectorOf size sectors k)).stored
-      unfolding storeAll
+          ≡ some (store_one img t (length img) st (sector_of size sectors k)).pointer ∷ left (a + 1) (k + 1) (store_one img t (length img) st (sector_of size sectors k)).stored
+      unfolding store_all
       left-new =
           rw (sub-step a t.count h, add-one a, add-one k, addresses-next, sectors-next) (pointers-new img t (get_or addresses k 0) _ _ _ _ a next-is)

@@ -10,72 +10,72 @@ use Rattle.format.specs.declared.ItemNumber.{ItemNumber}
 use Rattle.format.specs.declared.Pointer.{Pointer}
 use Rattle.format.specs.declared.EntryNumber.{EntryNumber}
 use Rattle.format.specs.Opening.{Opened}
-use Rattle.format.specs.Reading.{notWritten, pointerAt}
-use Rattle.format.specs.Committing.{onDisc, amongStored, pieces, oldPointer, itemOrZero}
+use Rattle.format.specs.Reading.{not_written, pointer_at}
+use Rattle.format.specs.Committing.{on_disc, among_stored, pieces, old_pointer, item_or_zero}
 use Rattle.format.proofs.Tests.{choose-true, choose-false}
-use Rattle.format.proofs.Storing.{onDisc-found}
-use Rattle.search.specs.Found.{entryFound, itemFound}
+use Rattle.format.proofs.Storing.{on_disc-found}
+use Rattle.search.specs.Found.{entry_found, item_found}
 use Rattle.search.specs.declared.TableEntry.{TableEntry}
 use Rattle.search.specs.declared.TableEntry.TheVariants as at_entry_lem
 use Rattle.search.specs.declared.Item.{Item}
 use Rattle.search.specs.declared.Item.TheVariants as item
 use Rattle.search.proofs.Stored.{room}
-use Rattle.planning.specs.Plans.{isNext, Commits, sectorOf, Looks, missing, isNew, lookedFor, looked}
+use Rattle.planning.specs.Plans.{is_next, Commits, sector_of, Looks, missing, is_new, looked_for, looked}
 use Rattle.planning.proofs.Cursor.{next-listed}
 
 -- the item of an address, by whether it is written
-module _ (img : List ℕ) (t : Opened) (a : ℕ) {b : Bool} (w : b ≡ notWritten img t a) where
-  pub item-none : b ≡ true → 0 ≡ itemOrZero (oldPointer img t a)
-  unfolding oldPointer itemOrZero
-  item-none e = ap itemOrZero (sym (choose-true _ _ _ (sym w ∙ e)))
+module _ (img : List ℕ) (t : Opened) (a : ℕ) {b : Bool} (w : b ≡ not_written img t a) where
+  pub item-none : b ≡ true → 0 ≡ item_or_zero (old_pointer img t a)
+  unfolding old_pointer item_or_zero
+  item-none e = ap item_or_zero (sym (choose-true _ _ _ (sym w ∙ e)))
 
-  pub item-old : (p : Pointer) → p ≡ pointerAt img t a → b ≡ false → p.item.0 ≡ itemOrZero (oldPointer img t a)
-  unfolding oldPointer itemOrZero
-  item-old p f e = ap (λ (q : Pointer). q.item.0) f ∙ ap itemOrZero (sym (choose-false _ _ _ (sym w ∙ e)))
+  pub item-old : (p : Pointer) → p ≡ pointer_at img t a → b ≡ false → p.item.0 ≡ item_or_zero (old_pointer img t a)
+  unfolding old_pointer item_or_zero
+  item-old p f e = ap (λ (q : Pointer). q.item.0) f ∙ ap item_or_zero (sym (choose-false _ _ _ (sym w ∙ e)))
 
 pub next-looks : {img : List ℕ} {t : Opened} {addresses : List ℕ} {size : ℕ} {sectors : List ℕ} (k a stored : ℕ) → Commits img t addresses size sectors
-    → isNext addresses k a ≡ true → stored ≤ k → Looks img t size sectors k stored
+    → is_next addresses k a ≡ true → stored ≤ k → Looks img t size sectors k stored
 next-looks {addresses = addresses} {size = size} k a stored c e h =
     let l = next-listed addresses k a e in
     (c.checked, rw c.whole (room size l), omega (arith, c.few), h)
 
 -- ---- the sectors before sector k, whose bytes are d, are searched for it
-module _ (size : ℕ) (sectors : List ℕ) (k : ℕ) (inside : k * size + size ≤ length sectors) (d : List ℕ) (is : d ≡ sectorOf size sectors k) where
+module _ (size : ℕ) (sectors : List ℕ) (k : ℕ) (inside : k * size + size ≤ length sectors) (d : List ℕ) (is : d ≡ sector_of size sectors k) where
   long : length d ≡ size
   long = ap length is ∙ length_part sectors (k * size) size inside
 
   pub earlier-inside : 0 + k * length d ≤ length sectors
   earlier-inside = rw long (omega arith)
 
-  module _ (q : Item) (among : itemFound q ≡ amongStored (pieces k (length d) (drop 0 sectors)) d) where
-    earlier : itemFound q ≡ amongStored (pieces k size sectors) (sectorOf size sectors k)
-    earlier = among ∙ (λ j. amongStored (pieces k (long j) sectors) (is j))
+  module _ (q : Item) (among : item_found q ≡ among_stored (pieces k (length d) (drop 0 sectors)) d) where
+    earlier : item_found q ≡ among_stored (pieces k size sectors) (sector_of size sectors k)
+    earlier = among ∙ (λ j. among_stored (pieces k (long j) sectors) (is j))
 
-    pub not_new : {i : ItemNumber} → q ≡ item.Is i → false ≡ isNew size sectors k
-    unfolding isNew missing itemFound
-    not_new e = ap missing (sym (ap itemFound e) ∙ earlier)
+    pub not_new : {i : ItemNumber} → q ≡ item.Is i → false ≡ is_new size sectors k
+    unfolding is_new missing item_found
+    not_new e = ap missing (sym (ap item_found e) ∙ earlier)
 
-    pub new-here : q ≡ item.Missing → true ≡ isNew size sectors k
-    unfolding isNew missing itemFound
-    new-here e = ap missing (sym (ap itemFound e) ∙ earlier)
+    pub new-here : q ≡ item.Missing → true ≡ is_new size sectors k
+    unfolding is_new missing item_found
+    new-here e = ap missing (sym (ap item_found e) ∙ earlier)
 
-pub found_inside : (img : List ℕ) (t : Opened) (d : List ℕ) (r : TableEntry) → entryFound r ≡ onDisc img t d → (a : EntryNumber) → r ≡ at_entry_lem.Is a → a.0 < t.count
-unfolding entryFound
-found_inside img t d r disc a e = (onDisc-found img t d a.0 (sym (rw e at disc))).inside
+pub found_inside : (img : List ℕ) (t : Opened) (d : List ℕ) (r : TableEntry) → entry_found r ≡ on_disc img t d → (a : EntryNumber) → r ≡ at_entry_lem.Is a → a.0 < t.count
+unfolding entry_found
+found_inside img t d r disc a e = (on_disc-found img t d a.0 (sym (rw e at disc))).inside
 
 -- ---- the handed-in sector k, whose bytes are d; r and b are what the searches answer
 module _ (img : List ℕ) (t : Opened) (size : ℕ) (sectors : List ℕ) (k stored : ℕ)
-    (d : List ℕ) (is : d ≡ sectorOf size sectors k) (r : TableEntry) (disc : entryFound r ≡ onDisc img t d) where
-  pub looked-old : (a : EntryNumber) (p : Pointer) → r ≡ at_entry_lem.Is a → p ≡ pointerAt img t a.0
+    (d : List ℕ) (is : d ≡ sector_of size sectors k) (r : TableEntry) (disc : entry_found r ≡ on_disc img t d) where
+  pub looked-old : (a : EntryNumber) (p : Pointer) → r ≡ at_entry_lem.Is a → p ≡ pointer_at img t a.0
       → record { item = p.item; stored = stored; k = k + 1 } ≡ looked img t size sectors k stored
-  unfolding looked lookedFor entryFound
+  unfolding looked looked_for entry_found
   looked-old a p e f = rw (← is, ← disc, e, f)
 
-  module _ {b : Bool} (lost : r ≡ at_entry_lem.Missing) (new : b ≡ isNew size sectors k) where
+  module _ {b : Bool} (lost : r ≡ at_entry_lem.Missing) (new : b ≡ is_new size sectors k) where
     pub looked-new : b ≡ true → record { item = record { 0 = stored }; stored = stored + 1; k = k + 1 } ≡ looked img t size sectors k stored
-    unfolding looked lookedFor entryFound
+    unfolding looked looked_for entry_found
     looked-new e = rw (← is, ← disc, lost, ← new, e)
 
     pub looked-earlier : b ≡ false → record { item = record { 0 = 0 }; stored = stored; k = k + 1 } ≡ looked img t size sectors k stored
-    unfolding looked lookedFor entryFound
+    unfolding looked looked_for entry_found
     looked-earlier e = rw (← is, ← disc, lost, ← new, e)

@@ -7,17 +7,17 @@ use Prim.Native.Nat.{ℕ, suc, ◌+◌, ◌≤◌, ◌<◌, max}
 use native.Mathlib.Omega.{arith}
 use lib.ListN.{length, length-append}
 use Rattle.format.specs.Opening.{Opened}
-use Rattle.format.specs.Committing.{onDisc, amongStored, Step, stepFor, storeOne, newPointers, itemOrZero, largestItem, oldPointer}
+use Rattle.format.specs.Committing.{on_disc, among_stored, Step, step_for, store_one, new_pointers, item_or_zero, largest_item, old_pointer}
 use Rattle.format.proofs.Tests.{choose-cases}
-use Rattle.format.proofs.Storing.{amongStored-found}
+use Rattle.format.proofs.Storing.{among_stored-found}
 use Rattle.planning.specs.declared.Looked.{Looked}
-use Rattle.planning.specs.Plans.{isNext, Commits, sectorOf, storedBy, planFor, missing, isNew, lookedFor, looked, lookedAt}
+use Rattle.planning.specs.Plans.{is_next, Commits, sector_of, stored_by, plan_for, missing, is_new, looked_for, looked, looked_at}
 use Rattle.planning.proofs.Cursor.{left, Walks, walk-starts, left-starts, walk-old, left-old, walk-new, left-new, walk-done, left-done}
 use Rattle.planning.proofs.Seen.{Same, same-starts, same_more, same_new}
 
 module _ (img : List ℕ) (t : Opened) (addresses : List ℕ) (size : ℕ) (sectors : List ℕ) where
   abbrev whole : ℕ
-  whole = largestItem (newPointers img t addresses (storedBy img t addresses size sectors).pointers t.count 0)
+  whole = largest_item (new_pointers img t addresses (stored_by img t addresses size sectors).pointers t.count 0)
 
   pub record Planning (a k stored largest : ℕ) : Type 0 where
     pub items : List (List ℕ)
@@ -27,7 +27,7 @@ module _ (img : List ℕ) (t : Opened) (addresses : List ℕ) (size : ℕ) (sect
     -- so the item of a sector that equals an earlier one adds nothing
     pub low : stored ≤ suc largest
     pub seen : Same img t size sectors k items
-    pub top : max largest (largestItem (left img t addresses size sectors a k items)) ≡ whole
+    pub top : max largest (largest_item (left img t addresses size sectors a k items)) ≡ whole
 
   pub plan-starts : Commits img t addresses size sectors → Planning 0 0 0 0
   plan-starts c =
@@ -42,10 +42,10 @@ module _ (img : List ℕ) (t : Opened) (addresses : List ℕ) (size : ℕ) (sect
       }
 
   pub plan-done : {a k stored largest : ℕ} → Planning a k stored largest → Commits img t addresses size sectors → t.count ≤ a
-      → record { stored = stored; largest = record { 0 = largest } } ≡ planFor img t addresses size sectors
-  unfolding planFor largestItem
+      → record { stored = stored; largest = record { 0 = largest } } ≡ plan_for img t addresses size sectors
+  unfolding plan_for largest_item
   plan-done {a} {k} {stored} {largest} p c h =
-      let e : stored ≡ length (storedBy img t addresses size sectors).items = p.count ∙ ap length (walk-done img t addresses size sectors p.walks c.inside h) in
+      let e : stored ≡ length (stored_by img t addresses size sectors).items = p.count ∙ ap length (walk-done img t addresses size sectors p.walks c.inside h) in
       let m : max largest 0 ≡ whole = rw (left-done img t addresses size sectors a k p.items h) at p.top in
       let f : largest ≡ whole = omega arith in
       λ i. record { stored = e i; largest = record { 0 = f i } }
@@ -54,8 +54,8 @@ module _ (img : List ℕ) (t : Opened) (addresses : List ℕ) (size : ℕ) (sect
     abbrev Goes : Looked → Type 0
     Goes r = Planning (a + 1) r.k r.stored (max largest r.item.0)
 
-    goes-old : isNext addresses k a ≡ false → Goes (record { item = record { 0 = itemOrZero (oldPointer img t a) }; stored = stored; k = k })
-    unfolding largestItem
+    goes-old : is_next addresses k a ≡ false → Goes (record { item = record { 0 = item_or_zero (old_pointer img t a) }; stored = stored; k = k })
+    unfolding largest_item
     goes-old e =
         let m = rw (left-old img t addresses size sectors p.walks h e) at p.top in
         record {
@@ -76,21 +76,21 @@ module _ (img : List ℕ) (t : Opened) (addresses : List ℕ) (size : ℕ) (sect
       low : r.stored ≤ suc (max largest r.item.0)
       top : max largest r.item.0 ≡ max largest s.pointer.item.0
 
-    fits : Fits (looked img t size sectors k stored) (storeOne img t (length img) p.items (sectorOf size sectors k))
-    unfolding looked lookedFor missing storeOne stepFor
-    fits = go (onDisc img t x) refl (amongStored p.items x) refl
+    fits : Fits (looked img t size sectors k stored) (store_one img t (length img) p.items (sector_of size sectors k))
+    unfolding looked looked_for missing store_one step_for
+    fits = go (on_disc img t x) refl (among_stored p.items x) refl
       where
         x : List ℕ
-        x = sectorOf size sectors k
+        x = sector_of size sectors k
 
-        is-new : {v : Option ℕ} → onDisc img t x ≡ none → amongStored p.items x ≡ v → isNew size sectors k ≡ missing v
+        is-new : {v : Option ℕ} → on_disc img t x ≡ none → among_stored p.items x ≡ v → is_new size sectors k ≡ missing v
         is-new e f = same_new img t size sectors k p.items p.seen e ∙ ap missing f
 
-        go : (u : Option ℕ) → onDisc img t x ≡ u → (v : Option ℕ) → amongStored p.items x ≡ v
-            → Fits (lookedFor img t k stored u (isNew size sectors k)) (stepFor img t (length img) p.items x u v)
+        go : (u : Option ℕ) → on_disc img t x ≡ u → (v : Option ℕ) → among_stored p.items x ≡ v
+            → Fits (looked_for img t k stored u (is_new size sectors k)) (step_for img t (length img) p.items x u v)
         go (some b) e v f = record { used = refl; count = p.count; few = omega (arith, p.few); low = omega (arith, p.low); top = refl }
         go none e (some j) f =
-            let r = amongStored-found p.items x j f in
+            let r = among_stored-found p.items x j f in
             rw (is-new e f)
             (record { used = refl; count = p.count; few = omega (arith, p.few); low = omega (arith, p.low); top = omega (arith, r.0, p.count, p.low) })
         go none e none f =
@@ -103,12 +103,12 @@ module _ (img : List ℕ) (t : Opened) (addresses : List ℕ) (size : ℕ) (sect
               top = ap (max largest) p.count;
             })
 
-    goes-new : isNext addresses k a ≡ true → Goes (looked img t size sectors k stored)
-    unfolding largestItem itemOrZero
+    goes-new : is_next addresses k a ≡ true → Goes (looked img t size sectors k stored)
+    unfolding largest_item item_or_zero
     goes-new e =
         let m = rw (left-new img t addresses size sectors p.walks h e) at p.top in
         record {
-          items = (storeOne img t (length img) p.items (sectorOf size sectors k)).stored;
+          items = (store_one img t (length img) p.items (sector_of size sectors k)).stored;
           walks = rw fits.used (walk-new img t addresses size sectors p.walks h e);
           count = fits.count;
           few = omega (arith, fits.few, fits.used);
@@ -117,6 +117,6 @@ module _ (img : List ℕ) (t : Opened) (addresses : List ℕ) (size : ℕ) (sect
           top = rw fits.used (omega (arith, m, fits.top));
         }
 
-    pub plan-goes : (r : Looked) (n : ℕ) → r ≡ lookedAt img t addresses size sectors k a stored → n ≡ max largest r.item.0 → Planning (a + 1) r.k r.stored n
-    unfolding lookedAt
-    plan-goes r n e f = rw (f, e) (choose-cases Goes (isNext addresses k a) _ _ goes-new goes-old)
+    pub plan-goes : (r : Looked) (n : ℕ) → r ≡ looked_at img t addresses size sectors k a stored → n ≡ max largest r.item.0 → Planning (a + 1) r.k r.stored n
+    unfolding looked_at
+    plan-goes r n e f = rw (f, e) (choose-cases Goes (is_next addresses k a) _ _ goes-new goes-old)

@@ -12,9 +12,9 @@ use lib.Seq.{drop-drop}
 use Rattle.fields.specs.Bytes.{part}
 use Rattle.format.specs.Lists.{here, there}
 use Rattle.format.specs.Opening.{Opened}
-use Rattle.format.specs.Committing.{onDisc, amongStored, pieces, stepFor, storeOne}
+use Rattle.format.specs.Committing.{on_disc, among_stored, pieces, step_for, store_one}
 use Rattle.format.proofs.Storing.{Among, among-some, among_none}
-use Rattle.planning.specs.Plans.{sectorOf, missing, isNew}
+use Rattle.planning.specs.Plans.{sector_of, missing, is_new}
 
 -- ---- one more of them
 among-long : (l : List (List ℕ)) (d : List ℕ) → Among l d → 0 < length l
@@ -38,7 +38,7 @@ more-new (y ∷ l) x d e = there (more-new l x d e)
 pub among-more : (l : List (List ℕ)) (x d : List ℕ) → Among (l ++ (x ∷ [])) d ↔ (Among l d ⊎ (x ≡ d))
 among-more l x d = (more-forth l x d, ⊎_elim (more-old l x d) (more-new l x d))
 
-pub pieces_more : (k size : ℕ) (l : List ℕ) → pieces (suc k) size l ≡ pieces k size l ++ (sectorOf size l k ∷ [])
+pub pieces_more : (k size : ℕ) (l : List ℕ) → pieces (suc k) size l ≡ pieces k size l ++ (sector_of size l k ∷ [])
 unfolding pieces part
 pieces_more zero size l = rw zero-mul
 pieces_more (suc k) size l =
@@ -49,14 +49,14 @@ pieces_more (suc k) size l =
 
 -- ---- one more sector: it is among the stored ones then
 module _ (img : List ℕ) (t : Opened) where
-  pub step-among : (block : ℕ) (st : List (List ℕ)) (x d : List ℕ) → onDisc img t d ≡ none → Among (storeOne img t block st x).stored d ↔ (Among st d ⊎ (x ≡ d))
-  unfolding storeOne stepFor
-  step-among block st x d n = go (onDisc img t x) refl (amongStored st x) refl
+  pub step-among : (block : ℕ) (st : List (List ℕ)) (x d : List ℕ) → on_disc img t d ≡ none → Among (store_one img t block st x).stored d ↔ (Among st d ⊎ (x ≡ d))
+  unfolding store_one step_for
+  step-among block st x d n = go (on_disc img t x) refl (among_stored st x) refl
     where
-      go : (u : Option ℕ) → onDisc img t x ≡ u → (v : Option ℕ) → amongStored st x ≡ v → Among (stepFor img t block st x u v).stored d ↔ (Among st d ⊎ (x ≡ d))
+      go : (u : Option ℕ) → on_disc img t x ≡ u → (v : Option ℕ) → among_stored st x ≡ v → Among (step_for img t block st x u v).stored d ↔ (Among st d ⊎ (x ≡ d))
       go (some a) e v f = (
         inl,
-        ⊎_elim (λ h. h) (λ (q : x ≡ d). let s : onDisc img t d ≡ some a = rw (← q) e in let z : ◌≡◌ {A = ℕ} 0 1 = cc in absurd (omega arith)),
+        ⊎_elim (λ h. h) (λ (q : x ≡ d). let s : on_disc img t d ≡ some a = rw (← q) e in let z : ◌≡◌ {A = ℕ} 0 1 = cc in absurd (omega arith)),
       )
       go none e (some j) f = (inl, ⊎_elim (λ h. h) (λ q. subst (Among st) q (among-some st x j f)))
       go none e none f = among-more st x d
@@ -64,15 +64,15 @@ module _ (img : List ℕ) (t : Opened) where
 -- ---- the stored ones hold what the first k handed-in ones hold
 module _ (img : List ℕ) (t : Opened) (size : ℕ) (sectors : List ℕ) where
   abbrev pub Same : ℕ → List (List ℕ) → Type 0
-  Same k st = (d : List ℕ) → onDisc img t d ≡ none → Among st d ↔ Among (pieces k size sectors) d
+  Same k st = (d : List ℕ) → on_disc img t d ≡ none → Among st d ↔ Among (pieces k size sectors) d
 
   pub same-starts : Same 0 []
   unfolding pieces
   same-starts d n = (λ h. h, λ h. h)
 
-  pub same_more : (block k : ℕ) (st : List (List ℕ)) → Same k st → Same (k + 1) (storeOne img t block st (sectorOf size sectors k)).stored
+  pub same_more : (block k : ℕ) (st : List (List ℕ)) → Same k st → Same (k + 1) (store_one img t block st (sector_of size sectors k)).stored
   same_more block k st s d n =
-      let x = sectorOf size sectors k in
+      let x = sector_of size sectors k in
       let p = among-more (pieces k size sectors) x d in
       let q = step-among img t block st x d n in
       rw (add-one, pieces_more k size sectors) (
@@ -81,15 +81,15 @@ module _ (img : List ℕ) (t : Opened) (size : ℕ) (sectors : List ℕ) where
       )
 
   -- sector k is found among the stored ones exactly if one before it equals it
-  pub same_new : (k : ℕ) (st : List (List ℕ)) → Same k st → onDisc img t (sectorOf size sectors k) ≡ none
-      → isNew size sectors k ≡ missing (amongStored st (sectorOf size sectors k))
-  unfolding isNew missing
-  same_new k st s n = go (amongStored (pieces k size sectors) x) refl (amongStored st x) refl
+  pub same_new : (k : ℕ) (st : List (List ℕ)) → Same k st → on_disc img t (sector_of size sectors k) ≡ none
+      → is_new size sectors k ≡ missing (among_stored st (sector_of size sectors k))
+  unfolding is_new missing
+  same_new k st s n = go (among_stored (pieces k size sectors) x) refl (among_stored st x) refl
     where
       x : List ℕ
-      x = sectorOf size sectors k
+      x = sector_of size sectors k
 
-      go : (u : Option ℕ) → amongStored (pieces k size sectors) x ≡ u → (v : Option ℕ) → amongStored st x ≡ v → missing u ≡ missing v
+      go : (u : Option ℕ) → among_stored (pieces k size sectors) x ≡ u → (v : Option ℕ) → among_stored st x ≡ v → missing u ≡ missing v
       go none e none f = refl
       go (some i) e (some j) f = refl
       go (some i) e none f = absurd (among_none st x f ((s x n).1 (among-some _ x i e)))

@@ -6,9 +6,9 @@
 ghost use Rattle.std.specs.Prelude.{false, ◌≡◌, ◌+◌, ◌*◌, ◌^◌, ◌≤◌, ◌<◌, max, length};
 ghost use Rattle.format.specs.Refusals.{accepted};
 ghost use Rattle.format.specs.Opening.{opening};
-ghost use Rattle.format.specs.Committing.{anyOutside, entryNumbers, oldPointer, itemOrZero, shiftFor};
+ghost use Rattle.format.specs.Committing.{any_outside, entry_numbers, old_pointer, item_or_zero, shift_for};
 ghost use Rattle.opening.specs.Answers.{contents};
-ghost use Rattle.planning.specs.Plans.{isNext, isNew, Commits, planFor, Looks, looked, lookedAt};
+ghost use Rattle.planning.specs.Plans.{is_next, is_new, Commits, plan_for, Looks, looked, looked_at};
 
 use format::{ByteOffset, EntryNumber, ItemNumber};
 use opening::Opened;
@@ -31,7 +31,7 @@ struct Looked {
 
 // The shift of a table with this largest item number.
 pub fn shift_for(largest: ItemNumber) -> u64
-    ensures { result ≡ shiftFor largest.0 }
+    ensures { result ≡ shift_for largest.0 }
 {
     let zeros = u64::leading_zeros(largest.0);
     (64 - zeros) as u64
@@ -40,8 +40,8 @@ pub fn shift_for(largest: ItemNumber) -> u64
 // Whether n is the table entry of the next address of the list, of which k are used up. None of them is outside. It compares addresses, since that of n is a
 // difference, and the entry of an address takes its checks.
 pub fn is_next(t: Opened, addresses: &[i64], k: usize, n: EntryNumber) -> bool
-    requires { (anyOutside (contents t) addresses.now ≡ false) × (n.0 < 2 ^ 63) }
-    ensures { result ≡ isNext (entryNumbers (contents t) addresses.now) k n.0 }
+    requires { (any_outside (contents t) addresses.now ≡ false) × (n.0 < 2 ^ 63) }
+    ensures { result ≡ is_next (entry_numbers (contents t) addresses.now) k n.0 }
 {
     if addresses.len() <= k {
         return false;
@@ -53,7 +53,7 @@ pub fn is_next(t: Opened, addresses: &[i64], k: usize, n: EntryNumber) -> bool
 // The item number that table entry n has, 0 where it is not written. It is read once.
 fn old_item(s: &[u8], t: Opened, n: EntryNumber) -> ItemNumber
     requires { (opening s.now ≡ accepted (contents t)) × (n.0 < (contents t).count) }
-    ensures { result.0 ≡ itemOrZero (oldPointer s.now (contents t) n.0) }
+    ensures { result.0 ≡ item_or_zero (old_pointer s.now (contents t) n.0) }
 {
     let e = opening::table_entry(s, t, n);
     if opening::is_unwritten(t, e) {
@@ -66,7 +66,7 @@ fn old_item(s: &[u8], t: Opened, n: EntryNumber) -> ItemNumber
 // Whether sector k of those that stand one after another equals none before it.
 pub fn is_new(sectors: &[u8], size: u64, k: u64) -> bool
     requires { k * size + size ≤ length sectors.now }
-    ensures { result ≡ isNew size sectors.now k }
+    ensures { result ≡ is_new size sectors.now k }
 {
     let sector = fields::part(sectors, k * size, size);
     let earlier = search::among(sectors, ByteOffset(0), k, sector);
@@ -118,8 +118,8 @@ fn look_at(
     a: EntryNumber,
     stored: u64,
 ) -> Looked
-    requires { Commits s.now (contents t) (entryNumbers (contents t) addresses.now) size sectors.now × (anyOutside (contents t) addresses.now ≡ false) × (a.0 < (contents t).count) × (stored ≤ k) }
-    ensures { result ≡ lookedAt s.now (contents t) (entryNumbers (contents t) addresses.now) size sectors.now k a.0 stored }
+    requires { Commits s.now (contents t) (entry_numbers (contents t) addresses.now) size sectors.now × (any_outside (contents t) addresses.now ≡ false) × (a.0 < (contents t).count) × (stored ≤ k) }
+    ensures { result ≡ looked_at s.now (contents t) (entry_numbers (contents t) addresses.now) size sectors.now k a.0 stored }
 {
     if is_next(t, addresses, k, a) {
         return look(s, t, size, sectors, k, stored);
@@ -143,8 +143,8 @@ fn larger(x: u64, y: u64) -> u64
 
 // What a commit will store.
 pub fn plan(s: &[u8], t: Opened, addresses: &[i64], size: u64, sectors: &[u8]) -> Planned
-    requires { Commits s.now (contents t) (entryNumbers (contents t) addresses.now) size sectors.now × (anyOutside (contents t) addresses.now ≡ false) }
-    ensures { result ≡ planFor s.now (contents t) (entryNumbers (contents t) addresses.now) size sectors.now }
+    requires { Commits s.now (contents t) (entry_numbers (contents t) addresses.now) size sectors.now × (any_outside (contents t) addresses.now ≡ false) }
+    ensures { result ≡ plan_for s.now (contents t) (entry_numbers (contents t) addresses.now) size sectors.now }
 {
     let count = opening::count(t);
     let mut largest: u64 = 0;

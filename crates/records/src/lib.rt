@@ -5,10 +5,10 @@
 ghost use Rattle.std.specs.Prelude.{[], ◌∷◌, ◌≡◌, ◌+◌, ◌*◌, ◌≤◌, length};
 ghost use Rattle.fields.specs.Bytes.{part, overwrite};
 ghost use Rattle.fields.specs.Layout.{num, raw, layout};
-ghost use Rattle.format.specs.Layouts.{headerLength, applicationLength, imageMajorAt, headerBytes, entryBytes, userDataEntry, indexHeader, tableHeader};
-ghost use Rattle.format.specs.Writing.{setHeader};
-ghost use Rattle.format.specs.Creating.{createdUsed, createdBytes};
-ghost use Rattle.records.specs.Blocks.{headerFor};
+ghost use Rattle.format.specs.Layouts.{header_length, application_length, image_major_at, header_bytes, entry_bytes, user_data_entry, index_header, table_header};
+ghost use Rattle.format.specs.Writing.{set_header};
+ghost use Rattle.format.specs.Creating.{created_used, created_bytes};
+ghost use Rattle.records.specs.Blocks.{header_for};
 
 use crc64::checksum;
 use fields::{clear, copy, get, part, put};
@@ -41,7 +41,7 @@ fn put_sums(buf: &mut [u8], at: u64, width: u64, n: u64, sum: u64)
 // Writes the header of a data block at `at` whose sectors, `stored` of `size` bytes, stand after it. Where nothing is stored there is no block.
 pub fn seal_block(buf: &mut [u8], at: ByteOffset, size: u64, stored: u64)
     requires { at.0 + 36 + stored * size ≤ length buf.old }
-    ensures { buf.new ≡ overwrite buf.old at.0 (headerFor stored size (part buf.old (at.0 + 36) (stored * size))) }
+    ensures { buf.new ≡ overwrite buf.old at.0 (header_for stored size (part buf.old (at.0 + 36) (stored * size))) }
 {
     if stored == 0 {
         return;
@@ -57,7 +57,7 @@ pub fn seal_block(buf: &mut [u8], at: ByteOffset, size: u64, stored: u64)
 // Writes the header of a table at `at` whose entries stand after it.
 pub fn seal_table(buf: &mut [u8], at: ByteOffset, shift: u64, count: u64)
     requires { at.0 + 49 + 8 * count ≤ length buf.old }
-    ensures { buf.new ≡ overwrite buf.old at.0 (tableHeader shift count (part buf.old (at.0 + 49) (8 * count))) }
+    ensures { buf.new ≡ overwrite buf.old at.0 (table_header shift count (part buf.old (at.0 + 49) (8 * count))) }
 {
     let table = at.0;
     let n = 8 * count;
@@ -71,7 +71,7 @@ pub fn seal_table(buf: &mut [u8], at: ByteOffset, shift: u64, count: u64)
 // Writes the header of an index at `at` whose entries stand after it.
 pub fn seal_index(buf: &mut [u8], at: ByteOffset, count: u64)
     requires { at.0 + 20 + 16 * count ≤ length buf.old }
-    ensures { buf.new ≡ overwrite buf.old at.0 (indexHeader count (part buf.old (at.0 + 20) (16 * count))) }
+    ensures { buf.new ≡ overwrite buf.old at.0 (index_header count (part buf.old (at.0 + 20) (16 * count))) }
 {
     let index = at.0;
     let sum = checksum(part(buf, index + 20, 16 * count));
@@ -83,7 +83,7 @@ pub fn seal_index(buf: &mut [u8], at: ByteOffset, count: u64)
 // Writes an index entry.
 pub fn put_entry(buf: &mut [u8], at: ByteOffset, e: Entry)
     requires { at.0 + 16 ≤ length buf.old }
-    ensures { buf.new ≡ overwrite buf.old at.0 (entryBytes e) }
+    ensures { buf.new ≡ overwrite buf.old at.0 (entry_bytes e) }
 {
     let p = at.0;
     let offset = e.offset;
@@ -94,7 +94,7 @@ pub fn put_entry(buf: &mut [u8], at: ByteOffset, e: Entry)
 
 // An index entry for user data in a block with this identifier.
 pub fn user_data_entry(letters: &[u8; 4], offset: ByteOffset) -> Entry
-    ensures { result ≡ userDataEntry letters.now offset.0 }
+    ensures { result ≡ user_data_entry letters.now offset.0 }
 {
     let blockType = get(letters, 0, 4);
     Entry {
@@ -106,8 +106,8 @@ pub fn user_data_entry(letters: &[u8; 4], offset: ByteOffset) -> Entry
 
 // The header's versions and mediaType: those of the image are 2.0.
 fn put_versions(buf: &mut [u8], major: u8, minor: u8, mediaType: u32)
-    requires { imageMajorAt + 8 ≤ length buf.old }
-    ensures { buf.new ≡ overwrite buf.old imageMajorAt (layout (num 1 2 ∷ num 1 0 ∷ num 1 major ∷ num 1 minor ∷ num 4 mediaType ∷ [])) }
+    requires { image_major_at + 8 ≤ length buf.old }
+    ensures { buf.new ≡ overwrite buf.old image_major_at (layout (num 1 2 ∷ num 1 0 ∷ num 1 major ∷ num 1 minor ∷ num 4 mediaType ∷ [])) }
 {
     put(buf, IMAGE_MAJOR, 1, 2);
     put(buf, IMAGE_MINOR, 1, 0);
@@ -127,8 +127,8 @@ fn put_header(
     created: u64,
     written: u64,
 )
-    requires { (headerLength ≤ length buf.old) × (length application.now ≡ applicationLength) }
-    ensures { buf.new ≡ overwrite buf.old 0 (headerBytes application.now major minor mediaType index.0 created written) }
+    requires { (header_length ≤ length buf.old) × (length application.now ≡ application_length) }
+    ensures { buf.new ≡ overwrite buf.old 0 (header_bytes application.now major minor mediaType index.0 created written) }
 {
     copy(buf, 0, b"AARUFRMT");
     copy(buf, APPLICATION, application);
@@ -140,8 +140,8 @@ fn put_header(
 
 // Sets indexOffset and lastWrittenTime.
 pub fn set_header(buf: &mut [u8], offset: ByteOffset, time: u64)
-    requires { headerLength ≤ length buf.old }
-    ensures { buf.new ≡ setHeader buf.old offset.0 time }
+    requires { header_length ≤ length buf.old }
+    ensures { buf.new ≡ set_header buf.old offset.0 time }
 {
     put(buf, INDEX_OFFSET, 8, offset.0);
     put(buf, LAST_WRITTEN_TIME, 8, time);
@@ -158,8 +158,8 @@ pub fn put_image(
     created: u64,
     written: u64,
 )
-    requires { (createdUsed count ≤ length buf.old) × (length application.now ≡ applicationLength) }
-    ensures { buf.new ≡ overwrite buf.old 0 (createdBytes count application.now major minor mediaType created written) }
+    requires { (created_used count ≤ length buf.old) × (length application.now ≡ application_length) }
+    ensures { buf.new ≡ overwrite buf.old 0 (created_bytes count application.now major minor mediaType created written) }
 {
     let index = CREATED_ENTRIES + 8 * count;
     put_header(

@@ -14,32 +14,32 @@ use Rattle.fields.proofs.Compare.{compare-start}
 use Rattle.format.specs.declared.Place.{Place}
 use Rattle.format.specs.declared.Pointer.{Pointer}
 use Rattle.format.specs.Tests.{◌and◌, choose}
-use Rattle.format.specs.Layouts.{indexOffset, entries}
+use Rattle.format.specs.Layouts.{index_offset, entries}
 use Rattle.format.specs.Opening.{Opened}
-use Rattle.format.specs.Reading.{notWritten, pointerAt, place_of, itemBytes}
-use Rattle.format.specs.Committing.{sectorsVerdict, holdsSector}
+use Rattle.format.specs.Reading.{not_written, pointer_at, place_of, item_bytes}
+use Rattle.format.specs.Committing.{sectors_verdict, holds_sector}
 use Rattle.format.proofs.Tests.{on-or-off, off_rest, choose-true, choose-false}
-use Rattle.format.proofs.Refusals.{firstRefusal-iff}
+use Rattle.format.proofs.Refusals.{first_refusal-iff}
 use Rattle.format.proofs.Checks.{PointerOk, SectorOk, address-ok, item-inside}
 use Rattle.search.specs.Found.{Checked, slot_at}
 use Rattle.search.specs.declared.Slot.TheVariants as slot
 use Rattle.search.proofs.First.{Searching, Comparing}
 
 -- a written address has a good sector
-pub sector-good : (img : List ℕ) (t : Opened) (a : ℕ) → Checked img t → a < t.count → notWritten img t a ≡ false
-    → SectorOk img (entries img (indexOffset img)) t a
-unfolding sectorsVerdict
+pub sector-good : (img : List ℕ) (t : Opened) (a : ℕ) → Checked img t → a < t.count → not_written img t a ≡ false
+    → SectorOk img (entries img (index_offset img)) t a
+unfolding sectors_verdict
 sector-good img t a k h w =
     off_rest w
-    ((firstRefusal-iff t.count t.count 0 (omega arith) (λ n l. address-ok img (entries img (indexOffset img)) t n)).0 k.1 a (omega arith) h)
+    ((first_refusal-iff t.count t.count 0 (omega arith) (λ n l. address-ok img (entries img (index_offset img)) t n)).0 k.1 a (omega arith) h)
 
 -- ---- what an address has, by whether it is written
-module _ (img : List ℕ) (t : Opened) (a : ℕ) {b : Bool} (w : b ≡ notWritten img t a) where
+module _ (img : List ℕ) (t : Opened) (a : ℕ) {b : Bool} (w : b ≡ not_written img t a) where
   pub slot-empty : b ≡ true → slot.Empty ≡ slot_at img t a
   unfolding slot_at
   slot-empty y = sym (choose-true _ _ _ (sym w ∙ y))
 
-  module _ (p : Pointer) (e : p ≡ pointerAt img t a) (n : b ≡ false) where
+  module _ (p : Pointer) (e : p ≡ pointer_at img t a) (n : b ≡ false) where
     pub slot-item : Checked img t → a < t.count → PointerOk img p
     slot-item k h = rw e (sector-good img t a k h (sym w ∙ n)).item
 
@@ -58,16 +58,16 @@ is-sector true p q e = let z : ◌≡◌ {A = ℕ} 0 1 = cc in absurd (omega ari
 is-sector false p q e = (refl, cc)
 
 module _ (img : List ℕ) (t : Opened) (a : ℕ) where
-  pub slot-gap : slot.Empty ≡ slot_at img t a → notWritten img t a ≡ true
+  pub slot-gap : slot.Empty ≡ slot_at img t a → not_written img t a ≡ true
   unfolding slot_at
   slot-gap e = is-empty _ _ e
 
   module _ (p : Place) (e : slot.Sector p ≡ slot_at img t a) where
-    pub slot-written : notWritten img t a ≡ false
+    pub slot-written : not_written img t a ≡ false
     unfolding slot_at
     slot-written = (is-sector _ _ _ e).0
 
-    pub slot-place : place_of img (pointerAt img t a) ≡ p
+    pub slot-place : place_of img (pointer_at img t a) ≡ p
     unfolding slot_at
     slot-place = (is-sector _ _ _ e).1
 
@@ -78,25 +78,25 @@ module _ (img : List ℕ) (t : Opened) (a : ℕ) where
         rw (← slot-place) (omega (arith, item-inside img _ _ good, good.block.fits))
 
 module _ (img : List ℕ) (t : Opened) (sector : List ℕ) (a : ℕ) where
-  pub empty-other : slot.Empty ≡ slot_at img t a → holdsSector img t sector a ≡ false
-  unfolding holdsSector ◌and◌
+  pub empty-other : slot.Empty ≡ slot_at img t a → holds_sector img t sector a ≡ false
+  unfolding holds_sector ◌and◌
   empty-other e = rw (slot-gap img t a e)
 
   module _ (p : Place) (k : Checked img t) (h : a < t.count) (e : slot.Sector p ≡ slot_at img t a) where
     inside : p.start.0 + p.size ≤ length img
     inside = slot-inside img t a p e k h
 
-    holds : holdsSector img t sector a ≡ equal (part img p.start.0 p.size) sector
-    unfolding holdsSector itemBytes ◌and◌
+    holds : holds_sector img t sector a ≡ equal (part img p.start.0 p.size) sector
+    unfolding holds_sector item_bytes ◌and◌
     holds = rw (slot-written img t a p e, slot-place img t a p e)
 
-    pub size-other : p.size ≢ length sector → holdsSector img t sector a ≡ false
+    pub size-other : p.size ≢ length sector → holds_sector img t sector a ≡ false
     size-other n =
         ⊎_elim (λ y. absurd (n (sym (length_part img _ _ inside) ∙ ap length (equal-true _ _ (sym holds ∙ y))))) (λ x. x)
-        (on-or-off (holdsSector img t sector a))
+        (on-or-off (holds_sector img t sector a))
 
-    pub size_same : {goal : Option ℕ} → Searching (holdsSector img t sector) t.count goal a → p.size ≡ length sector
-        → Comparing (holdsSector img t sector) t.count goal img sector a p.start.0 0
+    pub size_same : {goal : Option ℕ} → Searching (holds_sector img t sector) t.count goal a → p.size ≡ length sector
+        → Comparing (holds_sector img t sector) t.count goal img sector a p.start.0 0
     size_same s n =
         record {
           searching = s;

@@ -11,13 +11,13 @@ use native.Mathlib.Omega.{arith}
 use lib.ListN.{length, get_or}
 use Rattle.fields.proofs.Compare.{remaining, compare-turn, compare-stop, compare-done}
 use Rattle.fields.proofs.Steps.{sub-step, sub-done}
-use Rattle.format.specs.Committing.{firstWith}
+use Rattle.format.specs.Committing.{first_with}
 use Rattle.format.proofs.Tests.{choose-true, choose-false}
 
 module _ (f : ℕ → Bool) (n : ℕ) (goal : Option ℕ) where
   -- the numbers below i do not pass
   pub record Searching (i : ℕ) : Type 0 where
-    pub left : firstWith f (n - i) i ≡ goal
+    pub left : first_with f (n - i) i ≡ goal
 
   -- number i passes exactly if the bytes of s at `start` are those of t, of which j are compared
   pub record Comparing (s t : List ℕ) (i start j : ℕ) : Type 0 where
@@ -27,20 +27,20 @@ module _ (f : ℕ → Bool) (n : ℕ) (goal : Option ℕ) where
     pub most : j ≤ length t
     pub test : remaining s start t j ≡ f i
 
-  pub search-starts : firstWith f n 0 ≡ goal → Searching 0
+  pub search-starts : first_with f n 0 ≡ goal → Searching 0
   search-starts e = record { left = rw sub-zero e }
 
   pub search-goes : {i : ℕ} → Searching i → i < n → f i ≡ false → Searching (i + 1)
-  unfolding firstWith
+  unfolding first_with
   search-goes {i} k h e =
       record { left = rw add-one (sym (choose-false (f i) (some i) _ e) ∙ (rw (sub-step i n h, add-one) at k.left)) }
 
   found : {i : ℕ} → Searching i → i < n → f i ≡ true → some i ≡ goal
-  unfolding firstWith
+  unfolding first_with
   found {i} k h e = sym (choose-true (f i) (some i) _ e) ∙ (rw (sub-step i n h) at k.left)
 
   pub search-done : {i : ℕ} → Searching i → n ≤ i → none ≡ goal
-  unfolding firstWith
+  unfolding first_with
   search-done {i} k h = rw (sub-done i n h) at k.left
 
   module _ {s t : List ℕ} {i start j : ℕ} (k : Comparing s t i start j) where

@@ -10,8 +10,8 @@ use lib.ListN.{length, drop, get_or}
 use lib.Seq.{drop-drop}
 use Rattle.fields.specs.Bytes.{part, equal}
 use Rattle.fields.proofs.Compare.{compare-start}
-use Rattle.format.specs.Committing.{amongStored, pieces}
-use Rattle.format.proofs.Storing.{getD-pieces, length-pieces}
+use Rattle.format.specs.Committing.{among_stored, pieces}
+use Rattle.format.proofs.Storing.{get_or-pieces, length-pieces}
 use Rattle.search.proofs.First.{Searching, Comparing, search-starts}
 
 -- number i lies before the end of all
@@ -23,10 +23,10 @@ module _ (s : List ℕ) (at n : ℕ) (sector : List ℕ) where
   holds j = equal (get_or (pieces n (length sector) (drop at s)) j []) sector
 
   abbrev pub goal : Option ℕ
-  goal = amongStored (pieces n (length sector) (drop at s)) sector
+  goal = among_stored (pieces n (length sector) (drop at s)) sector
 
   pub among-starts : Searching holds n goal 0
-  unfolding amongStored
+  unfolding among_stored
   among-starts = search-starts holds n goal (rw length-pieces)
 
   -- the bytes of number i are compared
@@ -41,5 +41,5 @@ module _ (s : List ℕ) (at n : ℕ) (sector : List ℕ) where
         most = omega arith;
         test =
             compare-start s (at + i * length sector) sector
-            ∙ ap (λ (l : List ℕ). equal l sector) (sym (getD-pieces n (length sector) (drop at s) i h ∙ rw drop-drop));
+            ∙ ap (λ (l : List ℕ). equal l sector) (sym (get_or-pieces n (length sector) (drop at s) i h ∙ rw drop-drop));
       }

@@ -3,9 +3,9 @@
 //
 // Cost: a comparison for each sector looked at, which ends at the first difference in size or bytes. No checksum is computed.
 ghost use Rattle.std.specs.Prelude.{◌≡◌, ◌+◌, ◌*◌, ◌≤◌, ◌<◌, length, drop};
-ghost use Rattle.format.specs.Committing.{onDisc, amongStored, pieces};
+ghost use Rattle.format.specs.Committing.{on_disc, among_stored, pieces};
 ghost use Rattle.opening.specs.Answers.{contents, held};
-ghost use Rattle.search.specs.Found.{Checked, entryFound, itemFound, slot_at};
+ghost use Rattle.search.specs.Found.{Checked, entry_found, item_found, slot_at};
 
 use format::{ByteOffset, EntryNumber, ItemNumber, Place};
 use opening::{Image, Opened};
@@ -47,7 +47,7 @@ pub fn slot_at(s: &[u8], t: Opened, a: EntryNumber) -> Slot
 // The first table entry of the disc that opened as t whose sector holds these bytes, length included.
 pub fn on_disc_at(s: &[u8], t: Opened, sector: &[u8]) -> TableEntry
     requires { Checked s.now (contents t) }
-    ensures { entryFound result ≡ onDisc s.now (contents t) sector.now }
+    ensures { entry_found result ≡ on_disc s.now (contents t) sector.now }
 {
     let size = sector.len();
     let mut found = TableEntry::Missing;
@@ -80,7 +80,7 @@ pub fn on_disc_at(s: &[u8], t: Opened, sector: &[u8]) -> TableEntry
 // Over an opened image, which it takes apart.
 pub fn on_disc<'a, 'b>(image: Image<'a>, sector: &'b [u8]) -> TableEntry
     requires { Checked image.bytes.now (held image) }
-    ensures { entryFound result ≡ onDisc image.entry.bytes.now (held image.entry) sector.now }
+    ensures { entry_found result ≡ on_disc image.entry.bytes.now (held image.entry) sector.now }
 {
     on_disc_at(opening::bytes(image), opening::numbers(image), sector)
 }
@@ -88,7 +88,7 @@ pub fn on_disc<'a, 'b>(image: Image<'a>, sector: &'b [u8]) -> TableEntry
 // Makes the opened image and hands it on.
 pub fn on_disc_of(s: &[u8], t: Opened, sector: &[u8]) -> TableEntry
     requires { Checked s.now (contents t) }
-    ensures { entryFound result ≡ onDisc s.now (contents t) sector.now }
+    ensures { entry_found result ≡ on_disc s.now (contents t) sector.now }
 {
     on_disc(opening::view(s, t), sector)
 }
@@ -96,7 +96,7 @@ pub fn on_disc_of(s: &[u8], t: Opened, sector: &[u8]) -> TableEntry
 // The first of the n sectors that stand one after another from `at` on that holds these bytes; each has as many.
 pub fn among(s: &[u8], at: ByteOffset, n: u64, sector: &[u8]) -> Item
     requires { at.0 + n * length sector.now ≤ length s.now }
-    ensures { itemFound result ≡ amongStored (pieces n (length sector.now) (drop at.0 s.now)) sector.now }
+    ensures { item_found result ≡ among_stored (pieces n (length sector.now) (drop at.0 s.now)) sector.now }
 {
     let size = sector.len();
     let first = at.0 as usize;

@@ -7,9 +7,9 @@ use Prim.Native.Nat.{ℕ, ◌/◌}
 use Rattle.format.specs.declared.Pointer.{Pointer}
 use Rattle.format.specs.Tests.{same, differs, at_least, ◌and◌}
 use Rattle.format.specs.Refusals.{refusal, row}
-use Rattle.format.specs.Layouts.{indexOffset, entries, blockLength, sectorSize}
-use Rattle.format.specs.Opening.{sumsDiffer}
-use Rattle.format.specs.Reading.{itemVerdict, pointerVerdict}
+use Rattle.format.specs.Layouts.{index_offset, entries, block_length, sector_size}
+use Rattle.format.specs.Opening.{sums_differ}
+use Rattle.format.specs.Reading.{item_verdict, pointer_verdict}
 use Rattle.format.proofs.Tests.{never, not_iff, same-on, differs-iff, or-iff, and-on}
 use Rattle.format.proofs.Checks.{block-ok}
 use Rattle.format.proofs.Chains.{on, on-last, goes, ends}
@@ -23,9 +23,9 @@ known-block P b k known e =
 
 -- of an intact block's item only the check of its number is left
 pub known-verdict : (img : List ℕ) (at : ℕ) (p : Pointer) → Intact img p.block.0
-    → row (at_least p.item.0 (blockLength img p.block.0 / sectorSize img p.block.0)) (refusal 26 p.block.0)
-    ≡ pointerVerdict img (entries img (indexOffset img)) at p
-unfolding pointerVerdict itemVerdict sumsDiffer
+    → row (at_least p.item.0 (block_length img p.block.0 / sector_size img p.block.0)) (refusal 26 p.block.0)
+    ≡ pointer_verdict img (entries img (index_offset img)) at p
+unfolding pointer_verdict item_verdict sums_differ
 known-verdict img at p k =
     on _ (not_iff.1 k.indexed)
-    (goes (sym ((block-ok img p.block.0).1 k.block)) (ends _ (on-last _ ((or-iff differs-iff differs-iff).1 (k.cmpSum, k.sum)))))
+    (goes (sym ((block-ok img p.block.0).1 k.block)) (ends _ (on-last _ ((or-iff differs-iff differs-iff).1 (k.cmp_sum, k.sum)))))

@@ -8,9 +8,9 @@ use lib.IntN.{ℤ}
 use Rattle.format.specs.declared.Pointer.{Pointer}
 use Rattle.format.specs.declared.Refusal.{Refusal}
 use Rattle.format.specs.Refusals.{refused, accepted, answer}
-use Rattle.format.specs.Layouts.{indexOffset, entries}
+use Rattle.format.specs.Layouts.{index_offset, entries}
 use Rattle.format.specs.Opening.{Opened, opening}
-use Rattle.format.specs.Reading.{entryNumber, pointerAt, addressVerdict, pointerOf, place_of, readVerdict, locate}
+use Rattle.format.specs.Reading.{entry_number, pointer_at, address_verdict, pointer_of, place_of, read_verdict, locate}
 use Rattle.format.specs.Facts.{ItemOk}
 use Rattle.format.proofs.Refusals.{row-iff, then-iff, answer-passes, answer-refuses, answer-accepted, answer-refused}
 use Rattle.format.proofs.Checks.{SectorOk, sector-ok, verdict-opened}
@@ -19,22 +19,22 @@ use Rattle.sectors.specs.Found.{Known}
 
 -- ---- in an image that opens to t
 module _ (img : List ℕ) (t : Opened) (e : opening img ≡ accepted t) (a : ℤ) where
-  verdict : readVerdict img (indexOffset img) a ≡ addressVerdict img (entries img (indexOffset img)) t a
+  verdict : read_verdict img (index_offset img) a ≡ address_verdict img (entries img (index_offset img)) t a
   verdict =
-      verdict-opened img (indexOffset img) (opens img t e) a
-      ∙ ap (λ (u : Opened). addressVerdict img (entries img (indexOffset img)) u a) (opened-is img t e)
+      verdict-opened img (index_offset img) (opens img t e) a
+      ∙ ap (λ (u : Opened). address_verdict img (entries img (index_offset img)) u a) (opened-is img t e)
 
-  pub locate-refused : (r : Refusal) → refused r ≡ answer (addressVerdict img (entries img (indexOffset img)) t a) (pointerOf img t a) → refused r ≡ locate img a
+  pub locate-refused : (r : Refusal) → refused r ≡ answer (address_verdict img (entries img (index_offset img)) t a) (pointer_of img t a) → refused r ≡ locate img a
   unfolding locate
   locate-refused r f = sym (answer-refuses _ _ r (verdict ∙ answer-refused _ _ r (sym f)))
 
-  module _ (p : Pointer) (f : accepted p ≡ answer (addressVerdict img (entries img (indexOffset img)) t a) (pointerOf img t a)) where
-    found_ok : SectorOk img (entries img (indexOffset img)) t (entryNumber t a)
-    unfolding addressVerdict
-    found_ok = ((then-iff (row-iff _ Iff.rfl) (sector-ok img _ t (entryNumber t a))).0 (answer-accepted _ _ p (sym f)).0).1
+  module _ (p : Pointer) (f : accepted p ≡ answer (address_verdict img (entries img (index_offset img)) t a) (pointer_of img t a)) where
+    found_ok : SectorOk img (entries img (index_offset img)) t (entry_number t a)
+    unfolding address_verdict
+    found_ok = ((then-iff (row-iff _ Iff.rfl) (sector-ok img _ t (entry_number t a))).0 (answer-accepted _ _ p (sym f)).0).1
 
-    found-is : pointerAt img t (entryNumber t a) ≡ p
-    unfolding pointerOf
+    found-is : pointer_at img t (entry_number t a) ≡ p
+    unfolding pointer_of
     found-is = (answer-accepted _ _ p (sym f)).1
 
     pub found-item : ItemOk img p.block.0 p.item.0
@@ -44,10 +44,10 @@ module _ (img : List ℕ) (t : Opened) (e : opening img ≡ accepted t) (a : ℤ
     pub found-known : Known img p.block.0
     found-known =
         let k = found-item in
-        inr (record { indexed = rw (← found-is) found_ok.named; block = k.block; cmpSum = k.cmpSum; sum = k.sum })
+        inr (record { indexed = rw (← found-is) found_ok.named; block = k.block; cmp_sum = k.cmp_sum; sum = k.sum })
 
     pub locate-found : accepted (place_of img p) ≡ locate img a
-    unfolding locate pointerOf
+    unfolding locate pointer_of
     locate-found =
-        ap (λ (q : Pointer). accepted (place_of img q)) (sym (ap (λ (u : Opened). pointerOf img u a) (opened-is img t e) ∙ found-is))
+        ap (λ (q : Pointer). accepted (place_of img q)) (sym (ap (λ (u : Opened). pointer_of img u a) (opened-is img t e) ∙ found-is))
         ∙ sym (answer-passes _ _ (verdict ∙ (answer-accepted _ _ p (sym f)).0))

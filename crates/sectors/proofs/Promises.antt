@@ -3,7 +3,7 @@ use mathlib.Core.Path.{◌≡◌, refl}
 use Rattle.format.specs.Refusals.{accepted}
 use Rattle.format.specs.Opening.{opening}
 use Rattle.format.specs.Reading.{locate, read}
-use Rattle.format.specs.Answers.{located, bytesRead}
+use Rattle.format.specs.Answers.{located, bytes_read}
 use Rattle.format.specs.contracts.Located as located-type
 use Rattle.format.proofs.Located.TheLaws as located-type'
 use Rattle.opening.specs.Answers.{contents}
@@ -44,5 +44,5 @@ read-promise = record {
   argument = address;
   result = the-bytes;
   asks = λ κs s t a. opening s.now ≡ accepted (contents t);
-  answers = λ κs s t a r. r.now ≡ bytesRead (read s.now a.0);
+  answers = λ κs s t a r. r.now ≡ bytes_read (read s.now a.0);
 }

@@ -5,11 +5,11 @@ ghost use Rattle.std.specs.Prelude.{◌≡◌, ◌+◌, ◌*◌, ◌/◌, ◌≤
 ghost use Rattle.format.specs.declared.Verdict.TheVariants.{Passes};
 ghost use Rattle.format.specs.Tests.{same, differs, at_least, ◌and◌};
 ghost use Rattle.format.specs.Refusals.{refusal, row, accepted, answer};
-ghost use Rattle.format.specs.Layouts.{DBLK, indexOffset, indexHeaderLength, entryCount, entryLength, entriesFrom, entries, blockLength, sectorSize};
-ghost use Rattle.format.specs.Opening.{isUserData, offsetsOf, openVerdict, opening};
-ghost use Rattle.format.specs.Reading.{has, pointerAt, blockMalformed, blockVerdict, itemVerdict, pointerVerdict, sectorVerdict, addressVerdict, pointerOf, place_of, locate, read};
+ghost use Rattle.format.specs.Layouts.{DBLK, index_offset, index_header_length, entry_count, entry_length, entries_from, entries, block_length, sector_size};
+ghost use Rattle.format.specs.Opening.{is_user_data, offsets_of, open_verdict, opening};
+ghost use Rattle.format.specs.Reading.{has, pointer_at, block_malformed, block_verdict, item_verdict, pointer_verdict, sector_verdict, address_verdict, pointer_of, place_of, locate, read};
 ghost use Rattle.format.specs.Facts.{BlockOk, ItemOk};
-ghost use Rattle.format.specs.Answers.{located, bytesRead};
+ghost use Rattle.format.specs.Answers.{located, bytes_read};
 ghost use Rattle.opening.specs.Answers.{contents, held};
 ghost use Rattle.sectors.specs.Found.{found, Known};
 
@@ -44,7 +44,7 @@ pub struct Near {
 
 // The entry names a data block at b, of user data.
 fn names_block(e: Entry, b: ByteOffset) -> bool
-    ensures { result ≡ (isUserData DBLK e and same e.offset.0 b.0) }
+    ensures { result ≡ (is_user_data DBLK e and same e.offset.0 b.0) }
 {
     // the offset first, in which most entries differ
     let offset = e.offset;
@@ -58,8 +58,8 @@ fn names_block(e: Entry, b: ByteOffset) -> bool
 
 // One of the `left` index entries from `first` on names a data block at b. At most one pass over them.
 pub fn names(s: &[u8], first: ByteOffset, left: u64, b: ByteOffset) -> bool
-    requires { first.0 + entryLength * left ≤ length s.now }
-    ensures { result ≡ has b.0 (offsetsOf DBLK (entriesFrom s.now left first.0)) }
+    requires { first.0 + entry_length * left ≤ length s.now }
+    ensures { result ≡ has b.0 (offsets_of DBLK (entries_from s.now left first.0)) }
 {
     let mut p = first.0;
     let mut n = left;
@@ -76,8 +76,8 @@ pub fn names(s: &[u8], first: ByteOffset, left: u64, b: ByteOffset) -> bool
 
 // The index at o names a data block at b. At most one pass over its entries.
 pub fn is_indexed(s: &[u8], o: ByteOffset, b: ByteOffset) -> bool
-    requires { o.0 + indexHeaderLength + entryLength * entryCount s.now o.0 ≤ length s.now }
-    ensures { result ≡ has b.0 (offsetsOf DBLK (entries s.now o.0)) }
+    requires { o.0 + index_header_length + entry_length * entry_count s.now o.0 ≤ length s.now }
+    ensures { result ≡ has b.0 (offsets_of DBLK (entries s.now o.0)) }
 {
     let index = o.0;
     names(s, ByteOffset(index + 20), get(s, index + 4, 8), b)
@@ -86,7 +86,7 @@ pub fn is_indexed(s: &[u8], o: ByteOffset, b: ByteOffset) -> bool
 // The block at b: check 25.
 fn block_malformed(s: &[u8], b: ByteOffset) -> bool
     requires { b.0 + 36 ≤ length s.now }
-    ensures { result ≡ blockMalformed s.now b.0 }
+    ensures { result ≡ block_malformed s.now b.0 }
 {
     let block = b.0;
     if get(s, block + 4, 2) != 1 {
@@ -108,7 +108,7 @@ fn block_malformed(s: &[u8], b: ByteOffset) -> bool
 
 // The block at b: checks 23 to 25, and 23 of its payload.
 pub fn block_verdict(s: &[u8], b: ByteOffset) -> Verdict
-    ensures { result ≡ blockVerdict s.now b.0 }
+    ensures { result ≡ block_verdict s.now b.0 }
 {
     let place = b;
     let block = b.0;
@@ -130,7 +130,7 @@ pub fn block_verdict(s: &[u8], b: ByteOffset) -> Verdict
 // The item of p, in a block that passed: check 26.
 pub fn number_verdict(s: &[u8], p: Pointer) -> Verdict
     requires { BlockOk s.now p.block.0 }
-    ensures { result ≡ row (at_least p.item.0 (blockLength s.now p.block.0 / sectorSize s.now p.block.0)) (refusal 26 p.block.0) }
+    ensures { result ≡ row (at_least p.item.0 (block_length s.now p.block.0 / sectorSize s.now p.block.0)) (refusal 26 p.block.0) }
 {
     let place = p.block;
     let block = place.0;
@@ -145,7 +145,7 @@ pub fn number_verdict(s: &[u8], p: Pointer) -> Verdict
 
 // The item of p: checks 23 to 27. One pass over the block for its checksum.
 fn item_verdict(s: &[u8], p: Pointer) -> Verdict
-    ensures { result ≡ itemVerdict s.now p }
+    ensures { result ≡ item_verdict s.now p }
 {
     let place = p.block;
     let v = block_verdict(s, place);
@@ -183,8 +183,8 @@ pub fn is_known(b: ByteOffset, known: ByteOffset) -> bool
 
 // What p, whose table entry stands at `place`, points to: checks 22 to 27. Of the block that is known only the item's number is looked at.
 fn pointer_verdict(s: &[u8], place: ByteOffset, p: Pointer, known: ByteOffset) -> Verdict
-    requires { (openVerdict s.now (indexOffset s.now) ≡ Passes) × Known s.now known.0 }
-    ensures { result ≡ pointerVerdict s.now (entries s.now (indexOffset s.now)) place.0 p }
+    requires { (open_verdict s.now (index_offset s.now) ≡ Passes) × Known s.now known.0 }
+    ensures { result ≡ pointer_verdict s.now (entries s.now (index_offset s.now)) place.0 p }
 {
     let b = p.block;
     if is_known(b, known) {
@@ -200,7 +200,7 @@ fn pointer_verdict(s: &[u8], place: ByteOffset, p: Pointer, known: ByteOffset) -
 // item's number is looked at.
 fn find(s: &[u8], t: Opened, n: EntryNumber, known: ByteOffset) -> Found
     requires { (opening s.now ≡ accepted (contents t)) × (n.0 < (contents t).count) × Known s.now known.0 }
-    ensures { found result ≡ answer (sectorVerdict s.now (entries s.now (indexOffset s.now)) (contents t) n.0) (pointerAt s.now (contents t) n.0) }
+    ensures { found result ≡ answer (sector_verdict s.now (entries s.now (index_offset s.now)) (contents t) n.0) (pointer_at s.now (contents t) n.0) }
 {
     let place = ByteOffset(0);
     let e = opening::table_entry(s, t, n);
@@ -221,7 +221,7 @@ fn find(s: &[u8], t: Opened, n: EntryNumber, known: ByteOffset) -> Found
 // The sector at address a: check 20, and its table entry's.
 fn find_address(s: &[u8], t: Opened, a: SectorAddress, known: ByteOffset) -> Found
     requires { (opening s.now ≡ accepted (contents t)) × Known s.now known.0 }
-    ensures { found result ≡ answer (addressVerdict s.now (entries s.now (indexOffset s.now)) (contents t) a.0) (pointerOf s.now (contents t) a.0) }
+    ensures { found result ≡ answer (address_verdict s.now (entries s.now (index_offset s.now)) (contents t) a.0) (pointer_of s.now (contents t) a.0) }
 {
     let numbered = opening::entry_number(t, a);
     match numbered {
@@ -331,7 +331,7 @@ pub fn locate_in(image: &[u8], a: SectorAddress) -> Located
 // The sector at address a of the image that opened as t: the part that `locate_at` names, and the empty part exactly where it refuses.
 fn read_at<'a>(s: &'a [u8], t: Opened, a: SectorAddress) -> &'a [u8]
     requires { opening s.now ≡ accepted (contents t) }
-    ensures { result.now ≡ bytesRead (read s.now a.0) }
+    ensures { result.now ≡ bytes_read (read s.now a.0) }
 {
     let l = locate_at(s, t, a);
     match l {
@@ -346,7 +346,7 @@ fn read_at<'a>(s: &'a [u8], t: Opened, a: SectorAddress) -> &'a [u8]
 // Over an opened image, which it takes apart; the answer is a part of the lent bytes.
 pub fn read<'a>(image: Image<'a>, a: SectorAddress) -> &'a [u8]
     requires { opening image.bytes.now ≡ accepted (held image) }
-    ensures { result.now ≡ bytesRead (read image.entry.bytes.now a.0) }
+    ensures { result.now ≡ bytes_read (read image.entry.bytes.now a.0) }
 {
     read_at(opening::bytes(image), opening::numbers(image), a)
 }
@@ -354,7 +354,7 @@ pub fn read<'a>(image: Image<'a>, a: SectorAddress) -> &'a [u8]
 // Makes the opened image and hands it on.
 pub fn read_of<'a>(s: &'a [u8], t: Opened, a: SectorAddress) -> &'a [u8]
     requires { opening s.now ≡ accepted (contents t) }
-    ensures { result.now ≡ bytesRead (read s.now a.0) }
+    ensures { result.now ≡ bytes_read (read s.now a.0) }
 {
     read(opening::view(s, t), a)
 }

@@ -6,30 +6,30 @@ use Prim.Native.Nat.{ℕ, ◌+◌, ◌*◌, ◌≤◌, ◌<◌}
 use native.Mathlib.Nat.{add-zero, mul-zero, mul-le-mul_right}
 use native.Mathlib.Omega.{arith}
 use lib.ListN.{length, take, drop, length-append}
-use Rattle.fields.specs.Bytes.{toLe, overwrite}
-use Rattle.fields.proofs.Numbers.{length-toLe}
+use Rattle.fields.specs.Bytes.{to_le, overwrite}
+use Rattle.fields.proofs.Numbers.{length-to_le}
 use Rattle.fields.proofs.Overwrite.{length-overwrite, take-overwrite, overwrite-nil, overwrite-comm, length_part}
 use Rattle.format.specs.declared.Pointer.{Pointer}
 use Rattle.format.specs.Lists.{All, done}
-use Rattle.format.specs.Layouts.{blockHeaderLength, tableEntryLength}
+use Rattle.format.specs.Layouts.{block_header_length, table_entry_length}
 use Rattle.format.specs.Opening.{Opened}
-use Rattle.format.specs.Committing.{pieces, tableEntryBytes}
+use Rattle.format.specs.Committing.{pieces, table_entry_bytes}
 use Rattle.format.proofs.Lists.{Sized, length-flatten}
 use Rattle.format.proofs.Tests.{choose-cases}
 use Rattle.format.proofs.Storing.{length-pieces, step_ok, stored_ok, stored-sized}
 use Rattle.search.proofs.Stored.{room}
-use Rattle.planning.specs.Plans.{isNext, sectorOf, storedBy}
+use Rattle.planning.specs.Plans.{is_next, sector_of, stored_by}
 use Rattle.planning.proofs.Cursor.{next-listed, left, Walks, walk-starts, left-starts, walk-old, left-old, walk-new, left-new, walk-done, left-done}
 use Rattle.storing.specs.declared.Next.{Next}
-use Rattle.storing.specs.Stores.{tableEntriesBytes, Stores, stored}
-use Rattle.storing.specs.Turns.{items_in, entry_of, Turn, turnAt, Turns, Turned}
+use Rattle.storing.specs.Stores.{table_entries_bytes, Stores, stored}
+use Rattle.storing.specs.Turns.{items_in, entry_of, Turn, turn_at, Turns, Turned}
 use Rattle.storing.proofs.Pieces.{pieces-stand, pieces-written, written_next}
 
 -- ---- one turn
 module _ (img : List ℕ) (t : Opened) (addresses : List ℕ) (size : ℕ) (sectors : List ℕ) where
   -- at most as many are stored as in the end
   walks-few : {a k : ℕ} {items : List (List ℕ)} → Walks img t addresses size sectors a k items
-      → length items ≤ length (storedBy img t addresses size sectors).items
+      → length items ≤ length (stored_by img t addresses size sectors).items
   walks-few {a} {k} {items} w =
       let g = stored_ok img t (length img) (Sized size) (drop k (pieces (length addresses) size sectors)) items in
       rw (← w.items, g.grown) (simp length-append (omega arith))
@@ -41,16 +41,16 @@ module _ (img : List ℕ) (t : Opened) (addresses : List ℕ) (size : ℕ) (sect
     sized : All (Sized size) items → All (Sized size) r.items
 
   onto : (items : List (List ℕ)) (k a : ℕ) → length sectors ≡ length addresses * size → a < t.count → Walks img t addresses size sectors a k items
-      → Onto items k a (turnAt img t addresses size sectors items k a)
-  unfolding turnAt
+      → Onto items k a (turn_at img t addresses size sectors items k a)
+  unfolding turn_at
   onto items k a whole h w =
-      choose-cases (Onto items k a) (isNext addresses k a) _ _
+      choose-cases (Onto items k a) (is_next addresses k a) _ _
       (λ e.
       record {
         walks = walk-new img t addresses size sectors w h e;
         goes = left-new img t addresses size sectors w h e;
         sized = λ hs.
-            (step_ok img t (length img) (Sized size) items (sectorOf size sectors k)).keeps hs
+            (step_ok img t (length img) (Sized size) items (sector_of size sectors k)).keeps hs
             (length_part sectors (k * size) size (omega (arith, room size (next-listed addresses k a e))));
       })
       (λ e.
@@ -61,8 +61,8 @@ module _ (img : List ℕ) (t : Opened) (addresses : List ℕ) (size : ℕ) (sect
       })
 
 -- ---- the loop
-entry-bytes : (shift : ℕ) (u : Option Pointer) → tableEntryBytes shift u ≡ toLe tableEntryLength (entry_of shift u)
-unfolding tableEntryBytes entry_of
+entry-bytes : (shift : ℕ) (u : Option Pointer) → table_entry_bytes shift u ≡ to_le table_entry_length (entry_of shift u)
+unfolding table_entry_bytes entry_of
 entry-bytes shift none = refl
 entry-bytes shift (some p) = refl
 
@@ -71,11 +71,11 @@ module _ (buf₀ : List ℕ) (used : ℕ) (t : Opened) (addresses : List ℕ) (s
   img = take used buf₀
 
   abbrev start : ℕ
-  start = used + blockHeaderLength
+  start = used + block_header_length
 
   -- the sectors that are stored in the end
   abbrev all : List (List ℕ)
-  all = (storedBy img t addresses size sectors).items
+  all = (stored_by img t addresses size sectors).items
 
   abbrev goal : List ℕ
   goal = stored buf₀ used t addresses size sectors at shift
@@ -86,8 +86,8 @@ module _ (buf₀ : List ℕ) (used : ℕ) (t : Opened) (addresses : List ℕ) (s
     pub long : length buf ≡ length buf₀
     pub image : take used buf ≡ img
     pub sized : All (Sized size) (items_in buf used n size)
-    pub bytes : overwrite (overwrite buf start (flatten all)) (at + tableEntryLength * a)
-        (tableEntriesBytes shift (left img t addresses size sectors a k (items_in buf used n size))) ≡ goal
+    pub bytes : overwrite (overwrite buf start (flatten all)) (at + table_entry_length * a)
+        (table_entries_bytes shift (left img t addresses size sectors a k (items_in buf used n size))) ≡ goal
 
   module _ (h : Stores buf₀ used t addresses size sectors at shift) where
     pub starts : Going buf₀ 0 0 0
@@ -109,7 +109,7 @@ module _ (buf₀ : List ℕ) (used : ℕ) (t : Opened) (addresses : List ℕ) (s
       items = items_in buf used n size
 
       abbrev turn : Turn
-      turn = turnAt img t addresses size sectors items k a
+      turn = turn_at img t addresses size sectors items k a
 
       module _ (lt : a < t.count) where
         goes_on : Onto img t addresses size sectors items k a turn
@@ -131,18 +131,18 @@ module _ (buf₀ : List ℕ) (used : ℕ) (t : Opened) (addresses : List ℕ) (s
 
         -- the turn, and then the entry
         module _ {r : Next} {mid after : List ℕ} (l : Turned buf mid used t addresses size sectors shift k a n r)
-            (e : after ≡ overwrite mid (at + tableEntryLength * a) (toLe tableEntryLength r.entry)) where
+            (e : after ≡ overwrite mid (at + table_entry_length * a) (to_le table_entry_length r.entry)) where
           abbrev place : ℕ
-          place = at + tableEntryLength * a
+          place = at + table_entry_length * a
 
           abbrev run : List ℕ
           run = flatten turn.items
 
           abbrev entry : List ℕ
-          entry = toLe tableEntryLength r.entry
+          entry = to_le table_entry_length r.entry
 
           abbrev later : List ℕ
-          later = tableEntriesBytes shift (left img t addresses size sectors (a + 1) turn.k turn.items)
+          later = table_entries_bytes shift (left img t addresses size sectors (a + 1) turn.k turn.items)
 
           is : after ≡ overwrite (overwrite buf start run) place entry
           is = e ∙ ap (λ (x : List ℕ). overwrite x place entry) (rw g.image at l.buffer)
@@ -150,8 +150,8 @@ module _ (buf₀ : List ℕ) (used : ℕ) (t : Opened) (addresses : List ℕ) (s
           k-is : r.k ≡ turn.k
           k-is = rw g.image at l.next
 
-          entry-is : tableEntryBytes shift turn.pointer ≡ entry
-          entry-is = entry-bytes shift turn.pointer ∙ ap (toLe tableEntryLength) (sym (rw g.image at l.entry))
+          entry-is : table_entry_bytes shift turn.pointer ≡ entry
+          entry-is = entry-bytes shift turn.pointer ∙ ap (to_le table_entry_length) (sym (rw g.image at l.entry))
 
           sized_on : All (Sized size) turn.items
           sized_on = goes_on.sized g.sized
@@ -174,11 +174,11 @@ module _ (buf₀ : List ℕ) (used : ℕ) (t : Opened) (addresses : List ℕ) (s
           unfolding flatten
           left_is =
               ap (λ (x : List ℕ). overwrite (overwrite buf start (flatten all)) place (x ++ later)) (sym entry-is)
-              ∙ ap (λ (x : List (Option Pointer)). overwrite (overwrite buf start (flatten all)) place (tableEntriesBytes shift x)) (sym goes_on.goes) ∙ g.bytes
+              ∙ ap (λ (x : List (Option Pointer)). overwrite (overwrite buf start (flatten all)) place (table_entries_bytes shift x)) (sym goes_on.goes) ∙ g.bytes
 
           pub goes : Going after r.stored r.k (a + 1)
           goes =
-              let next : place + length entry ≡ at + tableEntryLength * (a + 1) = omega (arith, length-toLe tableEntryLength r.entry) in
+              let next : place + length entry ≡ at + table_entry_length * (a + 1) = omega (arith, length-to_le table_entry_length r.entry) in
               record {
                 walks = rw (items-are, k-is) goes_on.walks;
                 long = ap length is ∙ length-overwrite (overwrite buf start run) place entry ∙ length-overwrite buf start run ∙ g.long;
@@ -198,7 +198,7 @@ module _ (buf₀ : List ℕ) (used : ℕ) (t : Opened) (addresses : List ℕ) (s
           let count : n ≡ length all = sym (length-pieces n size (drop start buf)) ∙ ap length is in
           let room : start + n * size ≤ length buf = rw count (omega (arith, h.items, h.entries, g.long)) in
           sym (ap (λ (l : List (List ℕ)). overwrite buf start (flatten l)) (sym is) ∙ pieces-stand buf start n size room)
-          ∙ sym (overwrite-nil (overwrite buf start (flatten all)) (at + tableEntryLength * a))
-          ∙ ap (λ (l : List (Option Pointer)). overwrite (overwrite buf start (flatten all)) (at + tableEntryLength * a) (tableEntriesBytes shift l))
+          ∙ sym (overwrite-nil (overwrite buf start (flatten all)) (at + table_entry_length * a))
+          ∙ ap (λ (l : List (Option Pointer)). overwrite (overwrite buf start (flatten all)) (at + table_entry_length * a) (table_entries_bytes shift l))
           (sym (left-done img t addresses size sectors a k items le))
           ∙ g.bytes

@@ -9,19 +9,19 @@ use lib.ListN.{length, take, drop}
 use lib.Seq.{length-take-le}
 use Rattle.fields.specs.Bytes.{part}
 use Rattle.fields.proofs.Overwrite.{length_part}
-use Rattle.format.specs.Layouts.{blockHeaderLength, encode}
+use Rattle.format.specs.Layouts.{block_header_length, encode}
 use Rattle.format.specs.Opening.{Opened}
-use Rattle.format.specs.Reading.{pointerAt}
-use Rattle.format.specs.Writing.{longestBuffer}
-use Rattle.format.specs.Committing.{oldPointer}
+use Rattle.format.specs.Reading.{pointer_at}
+use Rattle.format.specs.Writing.{longest_buffer}
+use Rattle.format.specs.Committing.{old_pointer}
 use Rattle.format.proofs.Tests.{choose-true, choose-false}
 use Rattle.format.proofs.Storing.{OnDisc, length-pieces}
 use Rattle.search.specs.Found.{Checked}
 use Rattle.search.proofs.Stored as stored
-use Rattle.planning.specs.Plans.{isNext, sectorOf}
+use Rattle.planning.specs.Plans.{is_next, sector_of}
 use Rattle.planning.proofs.Cursor.{next-listed}
 use Rattle.storing.specs.declared.Handed.{Handed}
-use Rattle.storing.specs.Turns.{stepAt, entry_of, Turn, turnAt, items_in, stepIn, Steps, Stepped, Turns, Turned}
+use Rattle.storing.specs.Turns.{step_at, entry_of, Turn, turn_at, items_in, step_in, Steps, Stepped, Turns, Turned}
 use Rattle.storing.proofs.Pieces.{pieces-stand}
 use Rattle.storing.proofs.Steps.{Small, old-small, step_small}
 
@@ -31,21 +31,21 @@ module _ {buf : List ℕ} {used : ℕ} {t : Opened} {addresses : List ℕ} {size
   img = take used buf
 
   abbrev start : ℕ
-  start = used + blockHeaderLength
+  start = used + block_header_length
 
   abbrev items : List (List ℕ)
   items = items_in buf used n size
 
   abbrev turn : Turn
-  turn = turnAt img t addresses size sectors items k a
+  turn = turn_at img t addresses size sectors items k a
 
-  module _ (e : isNext addresses k a ≡ true) where
+  module _ (e : is_next addresses k a ≡ true) where
     abbrev sector : List ℕ
-    sector = sectorOf size sectors k
+    sector = sector_of size sectors k
 
-    turn-next : turn ≡ record { items = (stepAt img t items sector).stored; pointer = some (stepAt img t items sector).pointer; k = k + 1 }
-    unfolding turnAt
-    turn-next = choose-true (isNext addresses k a) _ _ e
+    turn-next : turn ≡ record { items = (step_at img t items sector).stored; pointer = some (step_at img t items sector).pointer; k = k + 1 }
+    unfolding turn_at
+    turn-next = choose-true (is_next addresses k a) _ _ e
 
     pub listed : k < length addresses
     listed = next-listed addresses k a e
@@ -56,24 +56,24 @@ module _ {buf : List ℕ} {used : ℕ} {t : Opened} {addresses : List ℕ} {size
     sector-long : length sector ≡ size
     sector-long = length_part sectors (k * size) size handed-inside
 
-    room : start + length (stepAt img t items sector).stored * size ≤ length buf
+    room : start + length (step_at img t items sector).stored * size ≤ length buf
     room = rw turn-next at h.room
 
-    pub steps : {s : List ℕ} → s ≡ sectorOf size sectors k → Checked img t × Steps buf used s (stepIn buf used t s n)
+    pub steps : {s : List ℕ} → s ≡ sector_of size sectors k → Checked img t × Steps buf used s (step_in buf used t s n)
     steps {s} es = (
       h.commits.checked,
-      subst (λ (x : List ℕ). Steps buf used x (stepIn buf used t x n)) (sym es)
+      subst (λ (x : List ℕ). Steps buf used x (step_in buf used t x n)) (sym es)
           (record { pos = rw sector-long h.commits.pos; short = h.short; room = rw sector-long room }),
     )
 
-    module _ {s after : List ℕ} {r : Handed} (es : s ≡ sectorOf size sectors k) (w : Stepped buf after used (stepIn buf used t s n) r) where
-      stepped : Stepped buf after used (stepAt img t items sector) r
-      stepped = rw sector-long at (subst (λ (x : List ℕ). Stepped buf after used (stepIn buf used t x n) r) es w)
+    module _ {s after : List ℕ} {r : Handed} (es : s ≡ sector_of size sectors k) (w : Stepped buf after used (step_in buf used t s n) r) where
+      stepped : Stepped buf after used (step_at img t items sector) r
+      stepped = rw sector-long at (subst (λ (x : List ℕ). Stepped buf after used (step_in buf used t x n) r) es w)
 
       pub encodes : (shift ≤ 32) × (r.pointer.block.0 < 2 ^ 32) × (r.pointer.item.0 < 2 ^ 32)
       encodes =
           let long : length img ≡ used = length-take-le used buf (omega (arith, room)) in
-          let old : (a : ℕ) → OnDisc img t sector a → Small (pointerAt img t a) =
+          let old : (a : ℕ) → OnDisc img t sector a → Small (pointer_at img t a) =
           λ a o. old-small img t a h.commits.checked (omega (arith, room, h.short)) o.inside o.written in
           let p : Small r.pointer = rw stepped.pointer (step_small img t (length img) items sector size old h.commits.pos (omega (arith, room, h.short))) in
           (h.low, p.0, p.1)
@@ -89,25 +89,25 @@ module _ {buf : List ℕ} {used : ℕ} {t : Opened} {addresses : List ℕ} {size
             buffer = rw turn-next stepped.buffer;
           }
 
-  module _ (e : isNext addresses k a ≡ false) {s : List ℕ} (es : s ≡ part buf 0 used) where
-    turn-old : turn ≡ record { items = items; pointer = oldPointer img t a; k = k }
-    unfolding turnAt
-    turn-old = choose-false (isNext addresses k a) _ _ e
+  module _ (e : is_next addresses k a ≡ false) {s : List ℕ} (es : s ≡ part buf 0 used) where
+    turn-old : turn ≡ record { items = items; pointer = old_pointer img t a; k = k }
+    unfolding turn_at
+    turn-old = choose-false (is_next addresses k a) _ _ e
 
-    pub old-readable : Checked s t × (length s ≤ longestBuffer) × (a < t.count) × (shift ≤ 32)
+    pub old-readable : Checked s t × (length s ≤ longest_buffer) × (a < t.count) × (shift ≤ 32)
     unfolding part
     old-readable =
         let long : length img ≡ used = length-take-le used buf (omega (arith, h.room)) in
         (rw es h.commits.checked, omega (arith, ap length es, h.room, h.short), h.below, h.low)
 
-    pub kept : {entry : ℕ} → entry ≡ entry_of shift (oldPointer s t a)
+    pub kept : {entry : ℕ} → entry ≡ entry_of shift (old_pointer s t a)
         → Turned buf buf used t addresses size sectors shift k a n (record { entry = entry; stored = n; k = k })
     unfolding part
     kept {entry} q =
         let count : length items ≡ n = length-pieces n size (drop start buf) in
         let room : start + n * size ≤ length buf = rw (turn-old, count) at h.room in
         record {
-          entry = rw turn-old (q ∙ ap (λ (x : List ℕ). entry_of shift (oldPointer x t a)) es);
+          entry = rw turn-old (q ∙ ap (λ (x : List ℕ). entry_of shift (old_pointer x t a)) es);
           stored = rw turn-old (sym count);
           next = rw turn-old;
           buffer = rw turn-old (sym (pieces-stand buf start n size room));

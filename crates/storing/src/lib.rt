@@ -5,12 +5,12 @@
 // is equal; else linear in what is read and written.
 ghost use Rattle.std.specs.Prelude.{false, ◌≡◌, ◌^◌, ◌≤◌, ◌<◌, length, take};
 ghost use Rattle.format.specs.Layouts.{encode};
-ghost use Rattle.format.specs.Writing.{longestBuffer};
-ghost use Rattle.format.specs.Committing.{anyOutside, entryNumbers, oldPointer};
+ghost use Rattle.format.specs.Writing.{longest_buffer};
+ghost use Rattle.format.specs.Committing.{any_outside, entry_numbers, old_pointer};
 ghost use Rattle.opening.specs.Answers.{contents};
 ghost use Rattle.search.specs.Found.{Checked};
 ghost use Rattle.storing.specs.Stores.{Stores, stored};
-ghost use Rattle.storing.specs.Turns.{entry_of, addIn, stepIn, Steps, Stepped, Turns, Turned};
+ghost use Rattle.storing.specs.Turns.{entry_of, add_in, step_in, Steps, Stepped, Turns, Turned};
 
 use fields::part;
 use format::{ByteOffset, EntryNumber, ItemNumber, Pointer};
@@ -45,8 +45,8 @@ pub fn encode(shift: u64, p: Pointer) -> u64
 
 // A sector that the disc does not hold: found among the `stored` ones of the block at `block`, or stored there as the next.
 pub fn store_among(buf: &mut [u8], block: ByteOffset, sector: &[u8], stored: u64) -> Handed
-    requires { Steps buf.old block.0 sector.now (addIn buf.old block.0 sector.now stored) }
-    ensures { Stepped buf.old buf.new block.0 (addIn buf.old block.0 sector.now stored) result }
+    requires { Steps buf.old block.0 sector.now (add_in buf.old block.0 sector.now stored) }
+    ensures { Stepped buf.old buf.new block.0 (add_in buf.old block.0 sector.now stored) result }
 {
     let start = block.0 + 36;
     let found = search::among(buf, ByteOffset(start), stored, sector);
@@ -67,8 +67,8 @@ pub fn store_among(buf: &mut [u8], block: ByteOffset, sector: &[u8], stored: u64
 
 // A handed-in sector: found on the disc, or stored in the new block, at the image's end.
 fn store(buf: &mut [u8], used: u64, t: Opened, sector: &[u8], stored: u64) -> Handed
-    requires { Checked (take used buf.old) (contents t) × Steps buf.old used sector.now (stepIn buf.old used (contents t) sector.now stored) }
-    ensures { Stepped buf.old buf.new used (stepIn buf.old used (contents t) sector.now stored) result }
+    requires { Checked (take used buf.old) (contents t) × Steps buf.old used sector.now (step_in buf.old used (contents t) sector.now stored) }
+    ensures { Stepped buf.old buf.new used (step_in buf.old used (contents t) sector.now stored) result }
 {
     let old = search::on_disc_at(part(buf, 0, used), t, sector);
     if let TableEntry::Is(a) = old {
@@ -82,8 +82,8 @@ fn store(buf: &mut [u8], used: u64, t: Opened, sector: &[u8], stored: u64) -> Ha
 
 // The entry of an address that is not in the list, number a: what it was, encoded anew. It is read once.
 fn old_entry(s: &[u8], t: Opened, a: EntryNumber, shift: u64) -> u64
-    requires { Checked s.now (contents t) × (length s.now ≤ longestBuffer) × (a.0 < (contents t).count) × (shift ≤ 32) }
-    ensures { result ≡ entry_of shift (oldPointer s.now (contents t) a.0) }
+    requires { Checked s.now (contents t) × (length s.now ≤ longest_buffer) × (a.0 < (contents t).count) × (shift ≤ 32) }
+    ensures { result ≡ entry_of shift (old_pointer s.now (contents t) a.0) }
 {
     let e = opening::table_entry(s, t, a);
     if opening::is_unwritten(t, e) {
@@ -105,8 +105,8 @@ fn next_entry(
     a: EntryNumber,
     stored: u64,
 ) -> Next
-    requires { Turns buf.old used (contents t) (entryNumbers (contents t) addresses.now) size sectors.now shift k a.0 stored × (anyOutside (contents t) addresses.now ≡ false) }
-    ensures { Turned buf.old buf.new used (contents t) (entryNumbers (contents t) addresses.now) size sectors.now shift k a.0 stored result }
+    requires { Turns buf.old used (contents t) (entry_numbers (contents t) addresses.now) size sectors.now shift k a.0 stored × (any_outside (contents t) addresses.now ≡ false) }
+    ensures { Turned buf.old buf.new used (contents t) (entry_numbers (contents t) addresses.now) size sectors.now shift k a.0 stored result }
 {
     if planning::is_next(t, addresses, k, a) {
         let handed = k as u64;
@@ -135,8 +135,8 @@ pub fn put_entries(
     at: ByteOffset,
     shift: u64,
 )
-    requires { Stores buf.old used (contents t) (entryNumbers (contents t) addresses.now) size sectors.now at.0 shift × (anyOutside (contents t) addresses.now ≡ false) }
-    ensures { buf.new ≡ stored buf.old used (contents t) (entryNumbers (contents t) addresses.now) size sectors.now at.0 shift }
+    requires { Stores buf.old used (contents t) (entry_numbers (contents t) addresses.now) size sectors.now at.0 shift × (any_outside (contents t) addresses.now ≡ false) }
+    ensures { buf.new ≡ stored buf.old used (contents t) (entry_numbers (contents t) addresses.now) size sectors.now at.0 shift }
 {
     let count = opening::count(t);
     let mut stored: u64 = 0;

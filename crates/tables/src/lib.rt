@@ -3,12 +3,12 @@
 //
 // Cost: one pass over the table's entries, for their checksum.
 ghost use Rattle.std.specs.Prelude.{◌≡◌, ◌+◌, ◌*◌, ◌/◌, ◌^◌, ◌≤◌, ◌<◌, length};
-ghost use Rattle.crc64.specs.Crc.{crcOf};
+ghost use Rattle.crc64.specs.Crc.{crc_of};
 ghost use Rattle.format.specs.declared.TableKind.TheVariants.{Second};
 ghost use Rattle.format.specs.Tests.{same};
-ghost use Rattle.format.specs.Layouts.{tableHeaderLengthOf, tableAlignment, tableNegative, decode};
-ghost use Rattle.format.specs.Opening.{kind_at, extentVerdict, tableMalformed, sumsDiffer, payloadVerdict, tableVerdict};
-ghost use Rattle.format.specs.Writing.{isSecond};
+ghost use Rattle.format.specs.Layouts.{table_header_length_of, table_alignment, table_negative, decode};
+ghost use Rattle.format.specs.Opening.{kind_at, extent_verdict, table_malformed, sums_differ, payload_verdict, table_verdict};
+ghost use Rattle.format.specs.Writing.{is_second};
 ghost use Rattle.tables.specs.Places.{IsLayout};
 
 use crc64::checksum;
@@ -20,7 +20,7 @@ use format::{
 
 // Either of two stored checksums is not that of the payload. One pass over the payload.
 pub fn sums_differ(payload: &[u8], stored1: u64, stored2: u64) -> bool
-    ensures { result ≡ sumsDiffer (crcOf payload.now) stored1 stored2 }
+    ensures { result ≡ sums_differ (crc_of payload.now) stored1 stored2 }
 {
     let sum = checksum(payload);
     if sum != stored1 {
@@ -74,8 +74,8 @@ pub fn kind_at(s: &[u8], t: ByteOffset) -> TableKind
 
 // The alignment of the table at t.
 pub fn alignment_at(s: &[u8], kind: TableKind, t: ByteOffset) -> u64
-    requires { t.0 + tableHeaderLengthOf kind ≤ length s.now }
-    ensures { result ≡ tableAlignment s.now kind t.0 }
+    requires { t.0 + table_header_length_of kind ≤ length s.now }
+    ensures { result ≡ table_alignment s.now kind t.0 }
 {
     match kind {
         TableKind::First => 0,
@@ -85,8 +85,8 @@ pub fn alignment_at(s: &[u8], kind: TableKind, t: ByteOffset) -> u64
 
 // How many of its entries are for addresses below 0.
 pub fn negative_at(s: &[u8], kind: TableKind, t: ByteOffset) -> u16
-    requires { t.0 + tableHeaderLengthOf kind ≤ length s.now }
-    ensures { result ≡ tableNegative s.now kind t.0 }
+    requires { t.0 + table_header_length_of kind ≤ length s.now }
+    ensures { result ≡ table_negative s.now kind t.0 }
 {
     match kind {
         TableKind::First => 0,
@@ -97,7 +97,7 @@ pub fn negative_at(s: &[u8], kind: TableKind, t: ByteOffset) -> u16
 // The table of the second kind at t: checks 70 to 72.
 fn second_verdict(s: &[u8], t: ByteOffset) -> Verdict
     requires { t.0 + 82 ≤ length s.now }
-    ensures { result ≡ extentVerdict s.now Second t.0 }
+    ensures { result ≡ extent_verdict s.now Second t.0 }
 {
     let place = ByteOffset(0);
     let table = t.0;
@@ -120,8 +120,8 @@ fn second_verdict(s: &[u8], t: ByteOffset) -> Verdict
 
 // The table at t, of either kind: checks 70 to 72.
 fn extent_verdict(s: &[u8], kind: TableKind, t: ByteOffset) -> Verdict
-    requires { t.0 + tableHeaderLengthOf kind ≤ length s.now }
-    ensures { result ≡ extentVerdict s.now kind t.0 }
+    requires { t.0 + table_header_length_of kind ≤ length s.now }
+    ensures { result ≡ extent_verdict s.now kind t.0 }
 {
     match kind {
         TableKind::First => Verdict::Passes,
@@ -142,8 +142,8 @@ fn is_whole(length: u64, width: u64, count: u64) -> bool
 
 // The table at t: check 12.
 fn table_malformed(s: &[u8], kind: TableKind, t: ByteOffset) -> bool
-    requires { t.0 + tableHeaderLengthOf kind ≤ length s.now }
-    ensures { result ≡ tableMalformed s.now kind t.0 }
+    requires { t.0 + table_header_length_of kind ≤ length s.now }
+    ensures { result ≡ table_malformed s.now kind t.0 }
 {
     let l = layout_of(kind);
     let table = t.0;
@@ -168,8 +168,8 @@ fn table_malformed(s: &[u8], kind: TableKind, t: ByteOffset) -> bool
 
 // The payload of the table at t, whose header passed: checks 11 and 14. One pass over its entries for the checksum.
 fn payload_verdict(s: &[u8], kind: TableKind, t: ByteOffset) -> Verdict
-    requires { t.0 + tableHeaderLengthOf kind ≤ length s.now }
-    ensures { result ≡ payloadVerdict s.now kind t.0 }
+    requires { t.0 + table_header_length_of kind ≤ length s.now }
+    ensures { result ≡ payload_verdict s.now kind t.0 }
 {
     let l = layout_of(kind);
     let place = t;
@@ -190,7 +190,7 @@ fn payload_verdict(s: &[u8], kind: TableKind, t: ByteOffset) -> Verdict
 
 // The table at t: checks 11 to 14, 70 to 72.
 pub fn table_verdict(s: &[u8], kind: TableKind, t: ByteOffset) -> Verdict
-    ensures { result ≡ tableVerdict s.now kind t.0 }
+    ensures { result ≡ table_verdict s.now kind t.0 }
 {
     let l = layout_of(kind);
     let place = t;
@@ -213,7 +213,7 @@ pub fn table_verdict(s: &[u8], kind: TableKind, t: ByteOffset) -> Verdict
 
 // The table is of the second kind.
 pub fn is_second(kind: TableKind) -> bool
-    ensures { result ≡ isSecond kind }
+    ensures { result ≡ is_second kind }
 {
     match kind {
         TableKind::First => false,

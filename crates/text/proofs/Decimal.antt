@@ -12,7 +12,7 @@ use lib.Signed.{lt_z}
 use borrow.Author.Tests.{ltb-true}
 use Rattle.format.specs.Tests.{below, choose}
 use Rattle.format.proofs.Tests.{below_true, below-iff, choose-true, choose-false, choose-cases}
-use Rattle.text.specs.Text.{MINUS, lastDigit, digits, decimal, signed, refusedLine}
+use Rattle.text.specs.Text.{MINUS, last_digit, digits, decimal, signed, refused_line}
 
 -- the codes of the digits of a few numbers: 0, 7, 10, 507, 65536, 2^64 - 1
 pub decimal-examples :
@@ -30,17 +30,17 @@ tenth k n h = let e : 10 ^ suc k ≡ 10 ^ k * 10 = pow-suc 10 k in omega arith
 digits-enough : (k n : ℕ) → n < 10 ^ suc k → digits (suc k) n ≡ digits (suc (suc k)) n
 unfolding digits
 digits-enough zero n h = rw (below_true n 10 h, choose-true, choose-true)
-digits-enough (suc k) n h = ap (λ (l : List ℕ). choose (below n 10) [] l ++ (lastDigit n ∷ [])) (digits-enough k (n / 10) (tenth (suc k) n h))
+digits-enough (suc k) n h = ap (λ (l : List ℕ). choose (below n 10) [] l ++ (last_digit n ∷ [])) (digits-enough k (n / 10) (tenth (suc k) n h))
 
 -- ---- the last digit, and those before it
-pub decimal-one : (n : ℕ) → n < 10 → decimal n ≡ lastDigit n ∷ []
+pub decimal-one : (n : ℕ) → n < 10 → decimal n ≡ last_digit n ∷ []
 unfolding decimal digits
-decimal-one n h = ap (λ (l : List ℕ). l ++ (lastDigit n ∷ [])) (choose-true _ _ _ (below_true n 10 h))
+decimal-one n h = ap (λ (l : List ℕ). l ++ (last_digit n ∷ [])) (choose-true _ _ _ (below_true n 10 h))
 
-pub decimal-more : (n : ℕ) → 10 ≤ n → n < 10 ^ 20 → decimal n ≡ decimal (n / 10) ++ (lastDigit n ∷ [])
+pub decimal-more : (n : ℕ) → 10 ≤ n → n < 10 ^ 20 → decimal n ≡ decimal (n / 10) ++ (last_digit n ∷ [])
 unfolding decimal digits
 decimal-more n h b =
-    ap (λ (l : List ℕ). l ++ (lastDigit n ∷ []))
+    ap (λ (l : List ℕ). l ++ (last_digit n ∷ []))
     (choose-false _ _ _ (below-iff.1 h) ∙ digits-enough 18 (n / 10) (tenth 19 n b))
 
 -- ---- a number by its sign, n from 0
@@ -75,6 +75,6 @@ length-signed j (pos n) h = let u = length-decimal j n h in omega arith
 length-signed j (negsuc n) h = let u = length-decimal j (suc n) h in simp length-append (omega arith)
 
 -- in the line of a refusal
-pub length-refused : (j n : ℕ) → n < 10 ^ suc j → length (refusedLine n) ≤ 10 + j
-unfolding refusedLine
+pub length-refused : (j n : ℕ) → n < 10 ^ suc j → length (refused_line n) ≤ 10 + j
+unfolding refused_line
 length-refused j n h = let u = length-decimal j n h in simp length-append (omega arith)

@@ -13,7 +13,7 @@ use Rattle.fields.specs.Bytes.{overwrite}
 use Rattle.fields.proofs.Overwrite.{length-overwrite, overwrite-out, overwrite-then}
 use Rattle.format.proofs.Tests.{below_true, below-iff, choose-true, choose-false}
 use Rattle.text.specs.Buffer.{Writes, Prints}
-use Rattle.text.specs.Text.{TOO-LONG, NEWLINE, longestInput, unlessLong}
+use Rattle.text.specs.Text.{TOO-LONG, NEWLINE, longest_input, unless_long}
 
 -- two runs of bytes, where the first reaches the end, and the second is written there
 overwrite-end : (s : List ℕ) (at : ℕ) (x y : List ℕ) → length s ≤ at + length x → overwrite (overwrite s at x) (length s) y ≡ overwrite s at (x ++ y)
@@ -62,12 +62,12 @@ module _ {s t : List ℕ} {at p : ℕ} (x : List ℕ) (i : ℕ) (w : Writes s at
 
 -- ---- a program's text, by the length of its input
 module _ (input text : List ℕ) where
-  pub unless-long : longestInput < length input → unlessLong input text ≡ TOO-LONG ++ NEWLINE
-  unfolding unlessLong
+  pub unless-long : longest_input < length input → unless_long input text ≡ TOO-LONG ++ NEWLINE
+  unfolding unless_long
   unless-long h = choose-true _ _ _ (below_true _ _ h)
 
-  pub unless-short : length input ≤ longestInput → unlessLong input text ≡ text
-  unfolding unlessLong
+  pub unless-short : length input ≤ longest_input → unless_long input text ≡ text
+  unfolding unless_long
   unless-short h = choose-false _ _ _ (below-iff.1 h)
 
 -- ---- a text at the front of a buffer that has room for it

@@ -19,13 +19,13 @@ NEWLINE = 10 ∷ []
 
 -- ---- numbers, in decimal
 -- the code of the last digit; that of the digit 0 is 48
-abbrev pub lastDigit : ℕ → ℕ
-lastDigit n = 48 + n % 10
+abbrev pub last_digit : ℕ → ℕ
+last_digit n = 48 + n % 10
 
 -- at most k digits of n, the highest first: those of n / 10 where n has more than one, then the last
 unfoldable pub digits : ℕ → ℕ → List ℕ
 digits zero n = []
-digits (suc k) n = choose (below n 10) [] (digits k (n / 10)) ++ (lastDigit n ∷ [])
+digits (suc k) n = choose (below n 10) [] (digits k (n / 10)) ++ (last_digit n ∷ [])
 
 -- all of them: a number of 64 bits has at most 20
 unfoldable pub decimal : ℕ → List ℕ
@@ -37,12 +37,12 @@ signed (pos n) = decimal n
 signed (negsuc n) = MINUS ++ decimal (suc n)
 
 -- ---- the line of a refusal, by its number
-unfoldable pub refusedLine : ℕ → List ℕ
-refusedLine n = REFUSED ++ decimal n ++ NEWLINE
+unfoldable pub refused_line : ℕ → List ℕ
+refused_line n = REFUSED ++ decimal n ++ NEWLINE
 
 -- ---- a program's text for an input of at most 65,536 bytes. "A longer input prints `too long`."
-abbrev pub longestInput : ℕ
-longestInput = 65536
+abbrev pub longest_input : ℕ
+longest_input = 65536
 
-unfoldable pub unlessLong : List ℕ → List ℕ → List ℕ
-unlessLong input text = choose (below longestInput (length input)) (TOO-LONG ++ NEWLINE) text
+unfoldable pub unless_long : List ℕ → List ℕ → List ℕ
+unless_long input text = choose (below longest_input (length input)) (TOO-LONG ++ NEWLINE) text

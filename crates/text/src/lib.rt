@@ -2,7 +2,7 @@
 // caller writes one piece after the other with no test between them.
 ghost use Rattle.std.specs.Prelude.{[], ◌∷◌, ◌++◌, ◌≤◌, length};
 ghost use Rattle.text.specs.Buffer.{Writes};
-ghost use Rattle.text.specs.Text.{NEWLINE, decimal, signed, refusedLine};
+ghost use Rattle.text.specs.Text.{NEWLINE, decimal, signed, refused_line};
 
 use fields::magnitude;
 
@@ -79,7 +79,7 @@ pub fn write_end(out: &mut [u8], at: usize, word: &[u8], n: u64) -> usize
 // The line of a refusal, by its number.
 pub fn refused(out: &mut [u8], at: usize, number: u64) -> usize
     requires { at ≤ length out.old }
-    ensures { Writes out.old at (refusedLine number) out.new result }
+    ensures { Writes out.old at (refused_line number) out.new result }
 {
     write_end(out, at, b"refused ", number)
 }

@@ -2,50 +2,50 @@
 use mathlib.Core.List.{flatten as joined}
 use mathlib.Core.Option.{or_else}
 use lib.Dec.{T}
-use Rattle.crc64.specs.Crc.{crcOf}
-use Rattle.fields.specs.Bytes.{part, fromLe, toLe, field, overwrite, equal}
+use Rattle.crc64.specs.Crc.{crc_of}
+use Rattle.fields.specs.Bytes.{part, from_le, to_le, field, overwrite, equal}
 use Rattle.fields.specs.Layout.{layout}
-use Rattle.format.specs.Tests.{same, differs, below, at_least, lessThan, ◌or◌, ◌and◌, choose, allHold}
-use Rattle.format.specs.Refusals.{row, ◌then◌, firstRefusal, answer}
-use Rattle.format.specs.Layouts.{tag, indexOffset, headerBytes, entryCount, entry_at, entriesFrom, entries, entryBytes, indexHeader, indexBytes, blockHeader, blockBytes, tableHeader, tableBytes, tableAlignment, tableNegative, entryStatus, entryPointer, decode, encode}
-use Rattle.format.specs.Opening.{lacks, is_type, isUserData, headerVerdict, indexVerdict, entryVerdict, entriesVerdict, offsetsWith, isTable, one_of, oneVerdict, table_at, kindBy, kind_at, extentVerdict, tableMalformed, sumsDiffer, payloadVerdict, tableVerdict, openVerdict, openedAs, opened}
-use Rattle.format.specs.Reading.{displaced, outside, entryNumber, tableEntry, unwritten, notWritten, unknown, unknownStatus, pointerAt, has, blockMalformed, blockVerdict, itemVerdict, pointerVerdict, sectorVerdict, place_of, itemBytes, addressVerdict, readVerdict, pointerOf, readAt, read, locate}
-use Rattle.format.specs.Writing.{bufferVerdict, isSecond, writableVerdict, outcome, setHeader}
-use Rattle.format.specs.Creating.{createdIndexAt, createdUsed, createdBytes, createVerdict, create}
-use Rattle.format.specs.Committing.{pieces, firstWith, given, holdsSector, onDisc, amongStored, stepFor, storeOne, storeAll, oldPointer, newPointer, newPointers, itemOrZero, largestItem, shiftFrom, shiftFor, tableEntryBytes, newTable, keptEntry, keptEntries, newBlock, newBlockEntry, appendedFor, storedFor, pointersFor, appended, tableStart, indexStart, usedAfter, appendedBytes, risingBy, argumentsVerdict, anyOutside, entryNumbers, otherThan21, sectorsVerdict, discVerdict, append, commitVerdict, commit}
-use Rattle.format.specs.Importing.{orLeaves, and_then}
-use Rattle.format.specs.Overlaying.{parentRefusal, fromParent, over, discOver, readOver, inImage, locateOver, image_of, sourceOver}
-use Rattle.format.specs.Flattening.{pair_at, withSector, writtenFrom, written_of, addressesOf, size_of, sectorsOf, anyOther, verdictOf, pairVerdict, sizesVerdict, lentVerdict, flattenVerdict, commitAll, flatten}
-use Rattle.worked_disc.specs.WorkedDisc.{leaves, refusedWith, gives, hasTable}
-use Rattle.worked_disc.specs.SecondDisc.{secondHeader, secondImage}
+use Rattle.format.specs.Tests.{same, differs, below, at_least, less_than, ◌or◌, ◌and◌, choose, all_hold}
+use Rattle.format.specs.Refusals.{row, ◌then◌, first_refusal, answer}
+use Rattle.format.specs.Layouts.{tag, index_offset, header_bytes, entry_count, entry_at, entries_from, entries, entry_bytes, index_header, index_bytes, block_header, block_bytes, table_header, table_bytes, table_alignment, table_negative, entry_status, entry_pointer, decode, encode}
+use Rattle.format.specs.Opening.{lacks, is_type, is_user_data, header_verdict, index_verdict, entry_verdict, entries_verdict, offsets_with, is_table, one_of, one_verdict, table_at, kind_by, kind_at, extent_verdict, table_malformed, sums_differ, payload_verdict, table_verdict, open_verdict, opened_as, opened}
+use Rattle.format.specs.Reading.{displaced, outside, entry_number, table_entry, unwritten, not_written, unknown, unknown_status, pointer_at, has, block_malformed, block_verdict, item_verdict, pointer_verdict, sector_verdict, place_of, item_bytes, address_verdict, read_verdict, pointer_of, read_at, read, locate}
+use Rattle.format.specs.Writing.{buffer_verdict, is_second, writable_verdict, outcome, set_header}
+use Rattle.format.specs.Creating.{created_index_at, created_used, created_bytes, create_verdict, create}
+use Rattle.format.specs.Committing.{pieces, first_with, given, holds_sector, on_disc, among_stored, step_for, store_one, store_all, old_pointer, new_pointer, new_pointers, item_or_zero, largest_item, shift_from, shift_for, table_entry_bytes, new_table, kept_entry, kept_entries, new_block, new_block_entry, appended_for, stored_for, pointers_for, appended, table_start, index_start, used_after, appended_bytes, rising_by, arguments_verdict, any_outside, entry_numbers, other_than_21, sectors_verdict, disc_verdict, append, commit_verdict, commit}
+use Rattle.format.specs.Importing.{or_leaves, and_then}
+use Rattle.format.specs.Overlaying.{parent_refusal, from_parent, over, disc_over, read_over, in_image, locate_over, image_of, source_over}
+use Rattle.format.specs.Flattening.{pair_at, with_sector, written_from, written_of, addresses_of, size_of, sectors_of, any_other, verdict_of, pair_verdict, sizes_verdict, lent_verdict, flatten_verdict, commit_all, flatten}
+use Rattle.worked_disc.specs.WorkedDisc.{leaves, refused_with, gives, has_table}
+use Rattle.worked_disc.specs.SecondDisc.{second_header, second_image}
 use Rattle.worked_disc.specs.FlatDisc.{exports}
-use Rattle.worked_disc.specs.GapDisc.{gapImage, secondThree}
-use Rattle.worked_disc.specs.PairDisc.{liesIn, readsFrom, pairDisc, damagedPair, secondPair, flattenedDisc, flattenedRoom, flattenedOrder, flattenedSizes}
+use Rattle.worked_disc.specs.GapDisc.{gap_image, second_three}
+use Rattle.worked_disc.specs.PairDisc.{lies_in, reads_from, pair_disc, damaged_pair, second_pair, flattened_disc, flattened_room, flattened_order, flattened_sizes}
 
-pub pair-disc : T (allHold pairDisc)
-unfolding pairDisc liesIn readsFrom allHold refusedWith exports crcOf part fromLe toLe field overwrite equal layout same differs below at_least ◌or◌ ◌and◌ choose joined row ◌then◌ answer tag lacks indexOffset headerBytes entryCount entry_at entriesFrom entries is_type isUserData entryBytes indexHeader indexBytes blockHeader blockBytes tableHeader tableBytes decode headerVerdict indexVerdict entryVerdict entriesVerdict one_of oneVerdict table_at tableMalformed sumsDiffer tableVerdict openVerdict opened tableEntry notWritten pointerAt has blockMalformed blockVerdict itemVerdict pointerVerdict sectorVerdict place_of itemBytes lessThan tableAlignment tableNegative entryStatus entryPointer offsetsWith isTable kindBy kind_at extentVerdict payloadVerdict openedAs displaced outside entryNumber unwritten unknown unknownStatus gapImage secondThree secondHeader secondImage gives parentRefusal fromParent over discOver readOver inImage locateOver image_of sourceOver addressVerdict readVerdict pointerOf readAt read locate
+pub pair-disc : T (all_hold pair_disc)
+unfolding pair_disc lies_in reads_from all_hold refused_with exports crc_of part from_le to_le field overwrite equal layout same differs below at_least ◌or◌ ◌and◌ choose joined row ◌then◌ answer tag lacks index_offset header_bytes entry_count entry_at entries_from entries is_type is_user_data entry_bytes index_header index_bytes block_header block_bytes table_header table_bytes decode header_verdict index_verdict entry_verdict entries_verdict one_of one_verdict table_at table_malformed sums_differ table_verdict open_verdict opened table_entry not_written pointer_at has block_malformed block_verdict item_verdict pointer_verdict sector_verdict place_of item_bytes less_than table_alignment table_negative entry_status entry_pointer offsets_with is_table kind_by kind_at extent_verdict payload_verdict opened_as displaced outside entry_number unwritten unknown unknown_status gap_image second_three second_header second_image gives parent_refusal from_parent over disc_over read_over in_image locate_over image_of source_over address_verdict read_verdict pointer_of read_at read locate
 pair-disc = tt
 
-pub damaged-pair : T (allHold damagedPair)
-unfolding damagedPair allHold refusedWith crcOf part fromLe toLe field overwrite equal layout same differs below at_least ◌or◌ ◌and◌ choose joined row ◌then◌ answer tag lacks indexOffset headerBytes entryCount entry_at entriesFrom entries is_type isUserData entryBytes indexHeader indexBytes blockHeader blockBytes tableHeader tableBytes decode headerVerdict indexVerdict entryVerdict entriesVerdict one_of oneVerdict table_at tableMalformed sumsDiffer tableVerdict openVerdict opened tableEntry notWritten pointerAt has blockMalformed blockVerdict itemVerdict pointerVerdict sectorVerdict place_of itemBytes lessThan tableAlignment tableNegative entryStatus entryPointer offsetsWith isTable kindBy kind_at extentVerdict payloadVerdict openedAs displaced outside entryNumber unwritten unknown unknownStatus gapImage secondThree secondHeader secondImage gives parentRefusal fromParent over discOver readOver addressVerdict readVerdict pointerOf readAt read
+pub damaged-pair : T (all_hold damaged_pair)
+unfolding damaged_pair all_hold refused_with crc_of part from_le to_le field overwrite equal layout same differs below at_least ◌or◌ ◌and◌ choose joined row ◌then◌ answer tag lacks index_offset header_bytes entry_count entry_at entries_from entries is_type is_user_data entry_bytes index_header index_bytes block_header block_bytes table_header table_bytes decode header_verdict index_verdict entry_verdict entries_verdict one_of one_verdict table_at table_malformed sums_differ table_verdict open_verdict opened table_entry not_written pointer_at has block_malformed block_verdict item_verdict pointer_verdict sector_verdict place_of item_bytes less_than table_alignment table_negative entry_status entry_pointer offsets_with is_table kind_by kind_at extent_verdict payload_verdict opened_as displaced outside entry_number unwritten unknown unknown_status gap_image second_three second_header second_image gives parent_refusal from_parent over disc_over read_over address_verdict read_verdict pointer_of read_at read
 damaged-pair = tt
 
-pub second-pair : T (allHold secondPair)
-unfolding secondPair allHold refusedWith crcOf part fromLe toLe field overwrite equal layout same differs below at_least ◌or◌ ◌and◌ choose joined row ◌then◌ answer tag lacks indexOffset headerBytes entryCount entry_at entriesFrom entries is_type isUserData entryBytes indexHeader indexBytes blockHeader blockBytes tableHeader tableBytes decode headerVerdict indexVerdict entryVerdict entriesVerdict one_of oneVerdict table_at tableMalformed sumsDiffer tableVerdict openVerdict opened tableEntry notWritten pointerAt has blockMalformed blockVerdict itemVerdict pointerVerdict sectorVerdict place_of itemBytes lessThan tableAlignment tableNegative entryStatus entryPointer offsetsWith isTable kindBy kind_at extentVerdict payloadVerdict openedAs displaced outside entryNumber unwritten unknown unknownStatus gapImage secondThree secondHeader secondImage gives parentRefusal fromParent over discOver readOver addressVerdict readVerdict pointerOf readAt read
+pub second-pair : T (all_hold second_pair)
+unfolding second_pair all_hold refused_with crc_of part from_le to_le field overwrite equal layout same differs below at_least ◌or◌ ◌and◌ choose joined row ◌then◌ answer tag lacks index_offset header_bytes entry_count entry_at entries_from entries is_type is_user_data entry_bytes index_header index_bytes block_header block_bytes table_header table_bytes decode header_verdict index_verdict entry_verdict entries_verdict one_of one_verdict table_at table_malformed sums_differ table_verdict open_verdict opened table_entry not_written pointer_at has block_malformed block_verdict item_verdict pointer_verdict sector_verdict place_of item_bytes less_than table_alignment table_negative entry_status entry_pointer offsets_with is_table kind_by kind_at extent_verdict payload_verdict opened_as displaced outside entry_number unwritten unknown unknown_status gap_image second_three second_header second_image gives parent_refusal from_parent over disc_over read_over address_verdict read_verdict pointer_of read_at read
 second-pair = tt
 
-pub flattened-disc : T (allHold flattenedDisc)
-unfolding flattenedDisc allHold leaves refusedWith hasTable exports orLeaves and_then bufferVerdict crcOf part fromLe toLe field overwrite equal layout same differs below at_least ◌or◌ ◌and◌ choose pieces firstWith given row ◌then◌ firstRefusal answer tag lacks indexOffset headerBytes entryCount entry_at entriesFrom entries is_type isUserData entryBytes indexHeader indexBytes blockHeader blockBytes tableHeader tableBytes decode encode headerVerdict indexVerdict entryVerdict entriesVerdict one_of oneVerdict table_at tableMalformed sumsDiffer tableVerdict openVerdict opened tableEntry notWritten pointerAt has blockMalformed blockVerdict itemVerdict pointerVerdict sectorVerdict place_of itemBytes outcome setHeader createdIndexAt createdUsed createdBytes createVerdict create holdsSector onDisc amongStored stepFor storeOne storeAll oldPointer or_else newPointer newPointers itemOrZero largestItem shiftFrom shiftFor tableEntryBytes newTable keptEntry keptEntries newBlock newBlockEntry appendedFor storedFor pointersFor appended tableStart indexStart usedAfter appendedBytes argumentsVerdict anyOutside otherThan21 sectorsVerdict discVerdict append commitVerdict commit lessThan tableAlignment tableNegative entryStatus entryPointer offsetsWith isTable kindBy kind_at extentVerdict payloadVerdict openedAs displaced outside entryNumber unwritten unknown unknownStatus isSecond writableVerdict risingBy entryNumbers gapImage secondThree secondHeader secondImage gives parentRefusal fromParent over discOver readOver addressVerdict readVerdict pointerOf readAt read pair_at withSector writtenFrom written_of addressesOf size_of sectorsOf anyOther verdictOf pairVerdict sizesVerdict lentVerdict flattenVerdict commitAll flatten joined
+pub flattened-disc : T (all_hold flattened_disc)
+unfolding flattened_disc all_hold leaves refused_with has_table exports or_leaves and_then buffer_verdict crc_of part from_le to_le field overwrite equal layout same differs below at_least ◌or◌ ◌and◌ choose pieces first_with given row ◌then◌ first_refusal answer tag lacks index_offset header_bytes entry_count entry_at entries_from entries is_type is_user_data entry_bytes index_header index_bytes block_header block_bytes table_header table_bytes decode encode header_verdict index_verdict entry_verdict entries_verdict one_of one_verdict table_at table_malformed sums_differ table_verdict open_verdict opened table_entry not_written pointer_at has block_malformed block_verdict item_verdict pointer_verdict sector_verdict place_of item_bytes outcome set_header created_index_at created_used created_bytes create_verdict create holds_sector on_disc among_stored step_for store_one store_all old_pointer or_else new_pointer new_pointers item_or_zero largest_item shift_from shift_for table_entry_bytes new_table kept_entry kept_entries new_block new_block_entry appended_for stored_for pointers_for appended table_start index_start used_after appended_bytes arguments_verdict any_outside other_than_21 sectors_verdict disc_verdict append commit_verdict commit less_than table_alignment table_negative entry_status entry_pointer offsets_with is_table kind_by kind_at extent_verdict payload_verdict opened_as displaced outside entry_number unwritten unknown unknown_status is_second writable_verdict rising_by entry_numbers gap_image second_three second_header second_image gives parent_refusal from_parent over disc_over read_over address_verdict read_verdict pointer_of read_at read pair_at with_sector written_from written_of addresses_of size_of sectors_of any_other verdict_of pair_verdict sizes_verdict lent_verdict flatten_verdict commit_all flatten joined
 flattened-disc = tt
 
-pub flattened-room : T (allHold flattenedRoom)
-unfolding flattenedRoom allHold leaves refusedWith hasTable exports orLeaves and_then bufferVerdict crcOf part fromLe toLe field overwrite equal layout same differs below at_least ◌or◌ ◌and◌ choose pieces firstWith given row ◌then◌ firstRefusal answer tag lacks indexOffset headerBytes entryCount entry_at entriesFrom entries is_type isUserData entryBytes indexHeader indexBytes blockHeader blockBytes tableHeader tableBytes decode encode headerVerdict indexVerdict entryVerdict entriesVerdict one_of oneVerdict table_at tableMalformed sumsDiffer tableVerdict openVerdict opened tableEntry notWritten pointerAt has blockMalformed blockVerdict itemVerdict pointerVerdict sectorVerdict place_of itemBytes outcome setHeader createdIndexAt createdUsed createdBytes createVerdict create holdsSector onDisc amongStored stepFor storeOne storeAll oldPointer or_else newPointer newPointers itemOrZero largestItem shiftFrom shiftFor tableEntryBytes newTable keptEntry keptEntries newBlock newBlockEntry appendedFor storedFor pointersFor appended tableStart indexStart usedAfter appendedBytes argumentsVerdict anyOutside otherThan21 sectorsVerdict discVerdict append commitVerdict commit lessThan tableAlignment tableNegative entryStatus entryPointer offsetsWith isTable kindBy kind_at extentVerdict payloadVerdict openedAs displaced outside entryNumber unwritten unknown unknownStatus isSecond writableVerdict risingBy entryNumbers gapImage secondThree secondHeader secondImage gives parentRefusal fromParent over discOver readOver addressVerdict readVerdict pointerOf readAt read pair_at withSector writtenFrom written_of addressesOf size_of sectorsOf anyOther verdictOf pairVerdict sizesVerdict lentVerdict flattenVerdict commitAll flatten joined
+pub flattened-room : T (all_hold flattened_room)
+unfolding flattened_room all_hold leaves refused_with has_table exports or_leaves and_then buffer_verdict crc_of part from_le to_le field overwrite equal layout same differs below at_least ◌or◌ ◌and◌ choose pieces first_with given row ◌then◌ first_refusal answer tag lacks index_offset header_bytes entry_count entry_at entries_from entries is_type is_user_data entry_bytes index_header index_bytes block_header block_bytes table_header table_bytes decode encode header_verdict index_verdict entry_verdict entries_verdict one_of one_verdict table_at table_malformed sums_differ table_verdict open_verdict opened table_entry not_written pointer_at has block_malformed block_verdict item_verdict pointer_verdict sector_verdict place_of item_bytes outcome set_header created_index_at created_used created_bytes create_verdict create holds_sector on_disc among_stored step_for store_one store_all old_pointer or_else new_pointer new_pointers item_or_zero largest_item shift_from shift_for table_entry_bytes new_table kept_entry kept_entries new_block new_block_entry appended_for stored_for pointers_for appended table_start index_start used_after appended_bytes arguments_verdict any_outside other_than_21 sectors_verdict disc_verdict append commit_verdict commit less_than table_alignment table_negative entry_status entry_pointer offsets_with is_table kind_by kind_at extent_verdict payload_verdict opened_as displaced outside entry_number unwritten unknown unknown_status is_second writable_verdict rising_by entry_numbers gap_image second_three second_header second_image gives parent_refusal from_parent over disc_over read_over address_verdict read_verdict pointer_of read_at read pair_at with_sector written_from written_of addresses_of size_of sectors_of any_other verdict_of pair_verdict sizes_verdict lent_verdict flatten_verdict commit_all flatten joined
 flattened-room = tt
 
-pub flattened-order : T (allHold flattenedOrder)
-unfolding flattenedOrder allHold leaves refusedWith hasTable exports orLeaves and_then bufferVerdict crcOf part fromLe toLe field overwrite equal layout same differs below at_least ◌or◌ ◌and◌ choose pieces firstWith given row ◌then◌ firstRefusal answer tag lacks indexOffset headerBytes entryCount entry_at entriesFrom entries is_type isUserData entryBytes indexHeader indexBytes blockHeader blockBytes tableHeader tableBytes decode encode headerVerdict indexVerdict entryVerdict entriesVerdict one_of oneVerdict table_at tableMalformed sumsDiffer tableVerdict openVerdict opened tableEntry notWritten pointerAt has blockMalformed blockVerdict itemVerdict pointerVerdict sectorVerdict place_of itemBytes outcome setHeader createdIndexAt createdUsed createdBytes createVerdict create holdsSector onDisc amongStored stepFor storeOne storeAll oldPointer or_else newPointer newPointers itemOrZero largestItem shiftFrom shiftFor tableEntryBytes newTable keptEntry keptEntries newBlock newBlockEntry appendedFor storedFor pointersFor appended tableStart indexStart usedAfter appendedBytes argumentsVerdict anyOutside otherThan21 sectorsVerdict discVerdict append commitVerdict commit lessThan tableAlignment tableNegative entryStatus entryPointer offsetsWith isTable kindBy kind_at extentVerdict payloadVerdict openedAs displaced outside entryNumber unwritten unknown unknownStatus isSecond writableVerdict risingBy entryNumbers gapImage secondThree secondHeader secondImage gives parentRefusal fromParent over discOver readOver addressVerdict readVerdict pointerOf readAt read pair_at withSector writtenFrom written_of addressesOf size_of sectorsOf anyOther verdictOf pairVerdict sizesVerdict lentVerdict flattenVerdict commitAll flatten joined
+pub flattened-order : T (all_hold flattened_order)
+unfolding flattened_order all_hold leaves refused_with has_table exports or_leaves and_then buffer_verdict crc_of part from_le to_le field overwrite equal layout same differs below at_least ◌or◌ ◌and◌ choose pieces first_with given row ◌then◌ first_refusal answer tag lacks index_offset header_bytes entry_count entry_at entries_from entries is_type is_user_data entry_bytes index_header index_bytes block_header block_bytes table_header table_bytes decode encode header_verdict index_verdict entry_verdict entries_verdict one_of one_verdict table_at table_malformed sums_differ table_verdict open_verdict opened table_entry not_written pointer_at has block_malformed block_verdict item_verdict pointer_verdict sector_verdict place_of item_bytes outcome set_header created_index_at created_used created_bytes create_verdict create holds_sector on_disc among_stored step_for store_one store_all old_pointer or_else new_pointer new_pointers item_or_zero largest_item shift_from shift_for table_entry_bytes new_table kept_entry kept_entries new_block new_block_entry appended_for stored_for pointers_for appended table_start index_start used_after appended_bytes arguments_verdict any_outside other_than_21 sectors_verdict disc_verdict append commit_verdict commit less_than table_alignment table_negative entry_status entry_pointer offsets_with is_table kind_by kind_at extent_verdict payload_verdict opened_as displaced outside entry_number unwritten unknown unknown_status is_second writable_verdict rising_by entry_numbers gap_image second_three second_header second_image gives parent_refusal from_parent over disc_over read_over address_verdict read_verdict pointer_of read_at read pair_at with_sector written_from written_of addresses_of size_of sectors_of any_other verdict_of pair_verdict sizes_verdict lent_verdict flatten_verdict commit_all flatten joined
 flattened-order = tt
 
-pub flattened-sizes : T (allHold flattenedSizes)
-unfolding flattenedSizes allHold leaves refusedWith hasTable exports orLeaves and_then bufferVerdict crcOf part fromLe toLe field overwrite equal layout same differs below at_least ◌or◌ ◌and◌ choose pieces firstWith given row ◌then◌ firstRefusal answer tag lacks indexOffset headerBytes entryCount entry_at entriesFrom entries is_type isUserData entryBytes indexHeader indexBytes blockHeader blockBytes tableHeader tableBytes decode encode headerVerdict indexVerdict entryVerdict entriesVerdict one_of oneVerdict table_at tableMalformed sumsDiffer tableVerdict openVerdict opened tableEntry notWritten pointerAt has blockMalformed blockVerdict itemVerdict pointerVerdict sectorVerdict place_of itemBytes outcome setHeader createdIndexAt createdUsed createdBytes createVerdict create holdsSector onDisc amongStored stepFor storeOne storeAll oldPointer or_else newPointer newPointers itemOrZero largestItem shiftFrom shiftFor tableEntryBytes newTable keptEntry keptEntries newBlock newBlockEntry appendedFor storedFor pointersFor appended tableStart indexStart usedAfter appendedBytes argumentsVerdict anyOutside otherThan21 sectorsVerdict discVerdict append commitVerdict commit lessThan tableAlignment tableNegative entryStatus entryPointer offsetsWith isTable kindBy kind_at extentVerdict payloadVerdict openedAs displaced outside entryNumber unwritten unknown unknownStatus isSecond writableVerdict risingBy entryNumbers gapImage secondThree secondHeader secondImage gives parentRefusal fromParent over discOver readOver addressVerdict readVerdict pointerOf readAt read pair_at withSector writtenFrom written_of addressesOf size_of sectorsOf anyOther verdictOf pairVerdict sizesVerdict lentVerdict flattenVerdict commitAll flatten joined
+pub flattened-sizes : T (all_hold flattened_sizes)
+unfolding flattened_sizes all_hold leaves refused_with has_table exports or_leaves and_then buffer_verdict crc_of part from_le to_le field overwrite equal layout same differs below at_least ◌or◌ ◌and◌ choose pieces first_with given row ◌then◌ first_refusal answer tag lacks index_offset header_bytes entry_count entry_at entries_from entries is_type is_user_data entry_bytes index_header index_bytes block_header block_bytes table_header table_bytes decode encode header_verdict index_verdict entry_verdict entries_verdict one_of one_verdict table_at table_malformed sums_differ table_verdict open_verdict opened table_entry not_written pointer_at has block_malformed block_verdict item_verdict pointer_verdict sector_verdict place_of item_bytes outcome set_header created_index_at created_used created_bytes create_verdict create holds_sector on_disc among_stored step_for store_one store_all old_pointer or_else new_pointer new_pointers item_or_zero largest_item shift_from shift_for table_entry_bytes new_table kept_entry kept_entries new_block new_block_entry appended_for stored_for pointers_for appended table_start index_start used_after appended_bytes arguments_verdict any_outside other_than_21 sectors_verdict disc_verdict append commit_verdict commit less_than table_alignment table_negative entry_status entry_pointer offsets_with is_table kind_by kind_at extent_verdict payload_verdict opened_as displaced outside entry_number unwritten unknown unknown_status is_second writable_verdict rising_by entry_numbers gap_image second_three second_header second_image gives parent_refusal from_parent over disc_over read_over address_verdict read_verdict pointer_of read_at read pair_at with_sector written_from written_of addresses_of size_of sectors_of any_other verdict_of pair_verdict sizes_verdict lent_verdict flatten_verdict commit_all flatten joined
 flattened-sizes = tt

@@ -1,20 +1,20 @@
 -- Every test of the disc with a table of the second kind holds, by computing it.
 use mathlib.Core.List.{flatten}
 use lib.Dec.{T}
-use Rattle.crc64.specs.Crc.{crcOf}
-use Rattle.fields.specs.Bytes.{part, fromLe, toLe, field, overwrite, equal}
+use Rattle.crc64.specs.Crc.{crc_of}
+use Rattle.fields.specs.Bytes.{part, from_le, to_le, field, overwrite, equal}
 use Rattle.fields.specs.Layout.{layout}
-use Rattle.format.specs.Tests.{same, differs, below, at_least, lessThan, ◌or◌, ◌and◌, choose, allHold}
+use Rattle.format.specs.Tests.{same, differs, below, at_least, less_than, ◌or◌, ◌and◌, choose, all_hold}
 use Rattle.format.specs.Refusals.{row, ◌then◌, answer}
-use Rattle.format.specs.Layouts.{tag, indexOffset, headerBytes, entryCount, entry_at, entriesFrom, entries, entryBytes, indexHeader, indexBytes, blockHeader, blockBytes, tableAlignment, tableNegative, entryStatus, entryPointer, decode}
-use Rattle.format.specs.Opening.{lacks, is_type, isUserData, headerVerdict, indexVerdict, entryVerdict, entriesVerdict, offsetsWith, isTable, one_of, oneVerdict, table_at, kindBy, kind_at, extentVerdict, tableMalformed, sumsDiffer, payloadVerdict, tableVerdict, openVerdict, openedAs, opened, opening, sectorCount, range_of}
-use Rattle.format.specs.Reading.{displaced, outside, entryNumber, tableEntry, unwritten, notWritten, unknown, unknownStatus, pointerAt, has, blockMalformed, blockVerdict, itemVerdict, pointerVerdict, sectorVerdict, place_of, itemBytes, addressVerdict, readVerdict, pointerOf, readAt, read, locate}
-use Rattle.format.specs.Writing.{bufferVerdict, isSecond, writableVerdict, outcome}
-use Rattle.format.specs.Committing.{risingBy, argumentsVerdict, discVerdict, append, commitVerdict, commit}
-use Rattle.format.specs.RollingBack.{rollbackVerdict, rollback}
-use Rattle.worked_disc.specs.WorkedDisc.{refusedWith, gives, lies_at}
-use Rattle.worked_disc.specs.SecondDisc.{isMinus, ranges, secondHeader, secondImage, openedWith, secondDisc}
+use Rattle.format.specs.Layouts.{tag, index_offset, header_bytes, entry_count, entry_at, entries_from, entries, entry_bytes, index_header, index_bytes, block_header, block_bytes, table_alignment, table_negative, entry_status, entry_pointer, decode}
+use Rattle.format.specs.Opening.{lacks, is_type, is_user_data, header_verdict, index_verdict, entry_verdict, entries_verdict, offsets_with, is_table, one_of, one_verdict, table_at, kind_by, kind_at, extent_verdict, table_malformed, sums_differ, payload_verdict, table_verdict, open_verdict, opened_as, opened, opening, sector_count, range_of}
+use Rattle.format.specs.Reading.{displaced, outside, entry_number, table_entry, unwritten, not_written, unknown, unknown_status, pointer_at, has, block_malformed, block_verdict, item_verdict, pointer_verdict, sector_verdict, place_of, item_bytes, address_verdict, read_verdict, pointer_of, read_at, read, locate}
+use Rattle.format.specs.Writing.{buffer_verdict, is_second, writable_verdict, outcome}
+use Rattle.format.specs.Committing.{rising_by, arguments_verdict, disc_verdict, append, commit_verdict, commit}
+use Rattle.format.specs.RollingBack.{rollback_verdict, rollback}
+use Rattle.worked_disc.specs.WorkedDisc.{refused_with, gives, lies_at}
+use Rattle.worked_disc.specs.SecondDisc.{is_minus, ranges, second_header, second_image, opened_with, second_disc}
 
-pub second-disc : T (allHold secondDisc)
-unfolding allHold refusedWith gives lies_at bufferVerdict isMinus ranges secondHeader secondImage openedWith secondDisc crcOf part fromLe toLe field overwrite equal layout same differs below at_least ◌or◌ ◌and◌ choose flatten row ◌then◌ answer tag lacks indexOffset headerBytes entryCount entry_at entriesFrom entries is_type isUserData entryBytes indexHeader indexBytes blockHeader blockBytes decode headerVerdict indexVerdict entryVerdict entriesVerdict one_of oneVerdict table_at tableMalformed sumsDiffer tableVerdict openVerdict opened opening tableEntry notWritten pointerAt has blockMalformed blockVerdict itemVerdict pointerVerdict sectorVerdict place_of itemBytes readVerdict readAt read locate outcome argumentsVerdict discVerdict append commitVerdict commit rollbackVerdict rollback lessThan tableAlignment tableNegative entryStatus entryPointer offsetsWith isTable kindBy kind_at extentVerdict payloadVerdict openedAs displaced outside entryNumber unwritten unknown unknownStatus addressVerdict pointerOf isSecond writableVerdict risingBy sectorCount range_of
+pub second-disc : T (all_hold second_disc)
+unfolding all_hold refused_with gives lies_at buffer_verdict is_minus ranges second_header second_image opened_with second_disc crc_of part from_le to_le field overwrite equal layout same differs below at_least ◌or◌ ◌and◌ choose flatten row ◌then◌ answer tag lacks index_offset header_bytes entry_count entry_at entries_from entries is_type is_user_data entry_bytes index_header index_bytes block_header block_bytes decode header_verdict index_verdict entry_verdict entries_verdict one_of one_verdict table_at table_malformed sums_differ table_verdict open_verdict opened opening table_entry not_written pointer_at has block_malformed block_verdict item_verdict pointer_verdict sector_verdict place_of item_bytes read_verdict read_at read locate outcome arguments_verdict disc_verdict append commit_verdict commit rollback_verdict rollback less_than table_alignment table_negative entry_status entry_pointer offsets_with is_table kind_by kind_at extent_verdict payload_verdict opened_as displaced outside entry_number unwritten unknown unknown_status address_verdict pointer_of is_second writable_verdict rising_by sector_count range_of
 second-disc = tt

@@ -2,20 +2,20 @@
 use mathlib.Core.List.{flatten}
 use mathlib.Core.Option.{or_else}
 use lib.Dec.{T}
-use Rattle.crc64.specs.Crc.{crcOf}
-use Rattle.fields.specs.Bytes.{part, fromLe, toLe, field, overwrite, equal}
+use Rattle.crc64.specs.Crc.{crc_of}
+use Rattle.fields.specs.Bytes.{part, from_le, to_le, field, overwrite, equal}
 use Rattle.fields.specs.Layout.{layout}
-use Rattle.format.specs.Tests.{same, differs, below, at_least, lessThan, ◌or◌, ◌and◌, choose, allHold}
-use Rattle.format.specs.Refusals.{row, ◌then◌, firstRefusal, answer}
-use Rattle.format.specs.Layouts.{tag, indexOffset, headerBytes, entryCount, entry_at, entriesFrom, entries, entryBytes, indexHeader, indexBytes, blockHeader, blockBytes, tableHeader, tableBytes, tableAlignment, tableNegative, entryStatus, entryPointer, decode, encode}
-use Rattle.format.specs.Opening.{lacks, is_type, isUserData, headerVerdict, indexVerdict, entryVerdict, entriesVerdict, offsetsWith, isTable, one_of, oneVerdict, table_at, kindBy, kind_at, extentVerdict, tableMalformed, sumsDiffer, payloadVerdict, tableVerdict, openVerdict, openedAs, opened, opening}
-use Rattle.format.specs.Reading.{displaced, outside, entryNumber, tableEntry, unwritten, notWritten, unknown, unknownStatus, pointerAt, has, blockMalformed, blockVerdict, itemVerdict, pointerVerdict, sectorVerdict, place_of, itemBytes, addressVerdict, readVerdict, pointerOf, readAt, read, locate}
-use Rattle.format.specs.Writing.{bufferVerdict, isSecond, writableVerdict, outcome, setHeader}
-use Rattle.format.specs.Creating.{createdIndexAt, createdUsed, createdBytes, createVerdict, create}
-use Rattle.format.specs.Committing.{pieces, firstWith, given, holdsSector, onDisc, amongStored, stepFor, storeOne, storeAll, oldPointer, newPointer, newPointers, itemOrZero, largestItem, shiftFrom, shiftFor, tableEntryBytes, newTable, keptEntry, keptEntries, newBlock, newBlockEntry, appendedFor, storedFor, pointersFor, appended, tableStart, indexStart, usedAfter, appendedBytes, risingBy, argumentsVerdict, anyOutside, entryNumbers, otherThan21, sectorsVerdict, discVerdict, append, commitVerdict, commit}
-use Rattle.format.specs.RollingBack.{rollbackVerdict, rollback}
-use Rattle.worked_disc.specs.WorkedDisc.{leaves, refusedWith, gives, lies_at, hasTable, shortP3, workedDisc}
+use Rattle.format.specs.Tests.{same, differs, below, at_least, less_than, ◌or◌, ◌and◌, choose, all_hold}
+use Rattle.format.specs.Refusals.{row, ◌then◌, first_refusal, answer}
+use Rattle.format.specs.Layouts.{tag, index_offset, header_bytes, entry_count, entry_at, entries_from, entries, entry_bytes, index_header, index_bytes, block_header, block_bytes, table_header, table_bytes, table_alignment, table_negative, entry_status, entry_pointer, decode, encode}
+use Rattle.format.specs.Opening.{lacks, is_type, is_user_data, header_verdict, index_verdict, entry_verdict, entries_verdict, offsets_with, is_table, one_of, one_verdict, table_at, kind_by, kind_at, extent_verdict, table_malformed, sums_differ, payload_verdict, table_verdict, open_verdict, opened_as, opened, opening}
+use Rattle.format.specs.Reading.{displaced, outside, entry_number, table_entry, unwritten, not_written, unknown, unknown_status, pointer_at, has, block_malformed, block_verdict, item_verdict, pointer_verdict, sector_verdict, place_of, item_bytes, address_verdict, read_verdict, pointer_of, read_at, read, locate}
+use Rattle.format.specs.Writing.{buffer_verdict, is_second, writable_verdict, outcome, set_header}
+use Rattle.format.specs.Creating.{created_index_at, created_used, created_bytes, create_verdict, create}
+use Rattle.format.specs.Committing.{pieces, first_with, given, holds_sector, on_disc, among_stored, step_for, store_one, store_all, old_pointer, new_pointer, new_pointers, item_or_zero, largest_item, shift_from, shift_for, table_entry_bytes, new_table, kept_entry, kept_entries, new_block, new_block_entry, appended_for, stored_for, pointers_for, appended, table_start, index_start, used_after, appended_bytes, rising_by, arguments_verdict, any_outside, entry_numbers, other_than_21, sectors_verdict, disc_verdict, append, commit_verdict, commit}
+use Rattle.format.specs.RollingBack.{rollback_verdict, rollback}
+use Rattle.worked_disc.specs.WorkedDisc.{leaves, refused_with, gives, lies_at, has_table, short_p3, worked_disc}
 
-pub worked-disc : T (allHold workedDisc)
-unfolding allHold leaves refusedWith gives lies_at hasTable bufferVerdict shortP3 workedDisc crcOf part fromLe toLe field overwrite equal layout same differs below at_least ◌or◌ ◌and◌ choose flatten pieces firstWith given row ◌then◌ firstRefusal answer tag lacks indexOffset headerBytes entryCount entry_at entriesFrom entries is_type isUserData entryBytes indexHeader indexBytes blockHeader blockBytes tableHeader tableBytes decode encode headerVerdict indexVerdict entryVerdict entriesVerdict one_of oneVerdict table_at tableMalformed sumsDiffer tableVerdict openVerdict opened opening tableEntry notWritten pointerAt has blockMalformed blockVerdict itemVerdict pointerVerdict sectorVerdict place_of itemBytes readVerdict readAt read locate outcome setHeader createdIndexAt createdUsed createdBytes createVerdict create holdsSector onDisc amongStored stepFor storeOne storeAll oldPointer or_else newPointer newPointers itemOrZero largestItem shiftFrom shiftFor tableEntryBytes newTable keptEntry keptEntries newBlock newBlockEntry appendedFor storedFor pointersFor appended tableStart indexStart usedAfter appendedBytes argumentsVerdict anyOutside otherThan21 sectorsVerdict discVerdict append commitVerdict commit rollbackVerdict rollback lessThan tableAlignment tableNegative entryStatus entryPointer offsetsWith isTable kindBy kind_at extentVerdict payloadVerdict openedAs displaced outside entryNumber unwritten unknown unknownStatus addressVerdict pointerOf isSecond writableVerdict risingBy entryNumbers
+pub worked-disc : T (all_hold worked_disc)
+unfolding all_hold leaves refused_with gives lies_at has_table buffer_verdict short_p3 worked_disc crc_of part from_le to_le field overwrite equal layout same differs below at_least ◌or◌ ◌and◌ choose flatten pieces first_with given row ◌then◌ first_refusal answer tag lacks index_offset header_bytes entry_count entry_at entries_from entries is_type is_user_data entry_bytes index_header index_bytes block_header block_bytes table_header table_bytes decode encode header_verdict index_verdict entry_verdict entries_verdict one_of one_verdict table_at table_malformed sums_differ table_verdict open_verdict opened opening table_entry not_written pointer_at has block_malformed block_verdict item_verdict pointer_verdict sector_verdict place_of item_bytes read_verdict read_at read locate outcome set_header created_index_at created_used created_bytes create_verdict create holds_sector on_disc among_stored step_for store_one store_all old_pointer or_else new_pointer new_pointers item_or_zero largest_item shift_from shift_for table_entry_bytes new_table kept_entry kept_entries new_block new_block_entry appended_for stored_for pointers_for appended table_start index_start used_after appended_bytes arguments_verdict any_outside other_than_21 sectors_verdict disc_verdict append commit_verdict commit rollback_verdict rollback less_than table_alignment table_negative entry_status entry_pointer offsets_with is_table kind_by kind_at extent_verdict payload_verdict opened_as displaced outside entry_number unwritten unknown unknown_status address_verdict pointer_of is_second writable_verdict rising_by entry_numbers
 worked-disc = tt

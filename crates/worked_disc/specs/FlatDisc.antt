@@ -8,9 +8,9 @@ use Rattle.format.specs.Refusals.{Answer, refused, accepted}
 use Rattle.format.specs.Writing.{Outcome}
 use Rattle.format.specs.Creating.{create}
 use Rattle.format.specs.Committing.{commit}
-use Rattle.format.specs.Exporting.{exportExact}
+use Rattle.format.specs.Exporting.{export_exact}
 use Rattle.format.specs.Importing.{import}
-use Rattle.worked_disc.specs.WorkedDisc.{leaves, refusedWith, hasTable, AAAA, BBBB}
+use Rattle.worked_disc.specs.WorkedDisc.{leaves, refused_with, has_table, AAAA, BBBB}
 
 -- accepted with so many bytes
 unfoldable pub exports : ℕ → Answer ℕ → Bool
@@ -24,22 +24,22 @@ file = AAAA ++ (BBBB ++ AAAA)
 abbrev pub imports : ℕ → List ℕ → ℕ → ℕ → Outcome Placed
 imports n l size name = import (replicate n 238) l size (replicate name 7) 1 2 3 4 5
 
-unfoldable pub flatDisc : List Bool
-flatDisc =
+unfoldable pub flat_disc : List Bool
+flat_disc =
     let f = imports 400 file 4 64 in
     let i = take 382 f.buffer in
-    let e = exportExact i (replicate 14 238) in
+    let e = export_exact i (replicate 14 238) in
     let b1 = (create (replicate 600 238) 3 (replicate 64 7) 1 2 3 4 5).buffer in
     let b2 = (commit b1 213 (pos 0 ∷ pos 2 ∷ []) 4 (AAAA ++ BBBB) 6).buffer in
     let b3 = (commit b2 382 (pos 1 ∷ []) 5 (45 ∷ AAAA) 7).buffer in
     -- as P2's, the third sector stored once: its entry is the first one's; creating's times, the last of them the commit's too
-    leaves 382 330 f.result ∷ hasTable i 257 1 (426 ∷ 427 ∷ 426 ∷ []) ∷ same (field i 88 8) 4 ∷ same (field i 96 8) 5
+    leaves 382 330 f.result ∷ has_table i 257 1 (426 ∷ 427 ∷ 426 ∷ []) ∷ same (field i 88 8) 4 ∷ same (field i 96 8) 5
     -- exported: the same bytes, later ones stay; a buffer that is just long enough, and one byte too short
-    ∷ exports 12 e.result ∷ equal e.buffer (file ++ (238 ∷ 238 ∷ [])) ∷ exports 12 (exportExact i (replicate 12 238)).result ∷ refusedWith 41 0 (exportExact i (replicate 11 238)).result
+    ∷ exports 12 e.result ∷ equal e.buffer (file ++ (238 ∷ 238 ∷ [])) ∷ exports 12 (export_exact i (replicate 12 238)).result ∷ refused_with 41 0 (export_exact i (replicate 11 238)).result
     -- P2's disc, address 1 not written: 21, whatever the buffer; with a sector of five bytes there: 40, also before 41
-    ∷ refusedWith 21 0 (exportExact (take 382 b2) []).result ∷ refusedWith 40 0 (exportExact (take 564 b3) (replicate 13 238)).result ∷ refusedWith 40 0 (exportExact (take 564 b3) []).result
+    ∷ refused_with 21 0 (export_exact (take 382 b2) []).result ∷ refused_with 40 0 (export_exact (take 564 b3) (replicate 13 238)).result ∷ refused_with 40 0 (export_exact (take 564 b3) []).result
     -- an import's checks, each before the next: 30, 42, 33, 35; nothing is written; one byte less than it takes
-    ∷ refusedWith 30 0 (imports 400 [] 4 63).result ∷ refusedWith 30 0 (imports 400 file 0 63).result ∷ refusedWith 30 0 (imports 400 file 65537 63).result
-    ∷ refusedWith 42 0 (imports 20 file 5 63).result ∷ refusedWith 33 0 (imports 20 file 4 63).result ∷ refusedWith 35 0 (imports 20 file 4 64).result
-    ∷ refusedWith 35 0 (imports 381 file 4 64).result ∷ equal (imports 381 file 4 64).buffer (replicate 381 238) ∷ leaves 382 330 (imports 382 file 4 64).result
+    ∷ refused_with 30 0 (imports 400 [] 4 63).result ∷ refused_with 30 0 (imports 400 file 0 63).result ∷ refused_with 30 0 (imports 400 file 65537 63).result
+    ∷ refused_with 42 0 (imports 20 file 5 63).result ∷ refused_with 33 0 (imports 20 file 4 63).result ∷ refused_with 35 0 (imports 20 file 4 64).result
+    ∷ refused_with 35 0 (imports 381 file 4 64).result ∷ equal (imports 381 file 4 64).buffer (replicate 381 238) ∷ leaves 382 330 (imports 382 file 4 64).result
     ∷ []

@@ -1,18 +1,18 @@
 -- "A small disc, worked out": P1 to P12, with the numbers of 2/13, as one table of tests. proofs/WorkedDisc proves that all hold.
 use Rattle.std.specs.Prelude.{Bool, false, List, [], ◌∷◌, ◌++◌, map, ℕ, length, take, replicate, pos}
-use Rattle.crc64.specs.Crc.{crcOf}
-use Rattle.fields.specs.Bytes.{part, field, toLe, overwrite, equal}
+use Rattle.crc64.specs.Crc.{crc_of}
+use Rattle.fields.specs.Bytes.{part, field, to_le, overwrite, equal}
 use Rattle.format.specs.declared.Place.{Place}
 use Rattle.format.specs.declared.Placed.{Placed}
 use Rattle.format.specs.Tests.{same, ◌and◌}
 use Rattle.format.specs.Refusals.{Answer, refused, accepted}
-use Rattle.format.specs.Layouts.{ascii, DBLK, DDT*, indexOffset, headerBytes, userDataEntry, indexBytes, blockBytes, tableBytes, decode}
+use Rattle.format.specs.Layouts.{ascii, DBLK, DDT*, index_offset, header_bytes, user_data_entry, index_bytes, block_bytes, table_bytes, decode}
 use Rattle.format.specs.Opening.{opening, opened}
-use Rattle.format.specs.Reading.{tableEntry, read, locate}
+use Rattle.format.specs.Reading.{table_entry, read, locate}
 use Rattle.format.specs.Creating.{create}
-use Rattle.format.specs.Committing.{shiftFor, commit}
+use Rattle.format.specs.Committing.{shift_for, commit}
 use Rattle.format.specs.RollingBack.{rollback}
-use Rattle.format.specs.Examples.{p1Header}
+use Rattle.format.specs.Examples.{p1_header}
 
 -- accepted, with this `used` and this index offset
 unfoldable pub leaves : ℕ → ℕ → Answer Placed → Bool
@@ -20,9 +20,9 @@ leaves used index (refused r) = false
 leaves used index (accepted p) = same p.used used and same p.index.0 index
 
 -- refused with this number at this place
-unfoldable pub refusedWith : {A : Type 0} → ℕ → ℕ → Answer A → Bool
-refusedWith n place (refused r) = same r.number n and same r.place.0 place
-refusedWith n place (accepted a) = false
+unfoldable pub refused_with : {A : Type 0} → ℕ → ℕ → Answer A → Bool
+refused_with n place (refused r) = same r.number n and same r.place.0 place
+refused_with n place (accepted a) = false
 
 -- accepted with these bytes
 unfoldable pub gives : List ℕ → Answer (List ℕ) → Bool
@@ -35,11 +35,11 @@ lies_at start size (refused r) = false
 lies_at start size (accepted p) = same p.start.0 start and same p.size size
 
 -- the image's table has this place, this shift and these three entries
-unfoldable pub hasTable : List ℕ → ℕ → ℕ → List ℕ → Bool
-hasTable img place shift es =
-    let t = opened img (indexOffset img) in
+unfoldable pub has_table : List ℕ → ℕ → ℕ → List ℕ → Bool
+has_table img place shift es =
+    let t = opened img (index_offset img) in
     same t.table place and same t.shift shift and same t.count 3
-    and equal (tableEntry img t 0 ∷ tableEntry img t 1 ∷ tableEntry img t 2 ∷ []) es
+    and equal (table_entry img t 0 ∷ table_entry img t 1 ∷ table_entry img t 2 ∷ []) es
 
 abbrev pub AAAA : List ℕ
 AAAA = ascii "AAAA"
@@ -47,20 +47,20 @@ AAAA = ascii "AAAA"
 abbrev pub BBBB : List ℕ
 BBBB = ascii "BBBB"
 
-abbrev threeEntries : ℕ → ℕ → ℕ → List ℕ
-threeEntries a b c = toLe 8 a ++ (toLe 8 b ++ toLe 8 c)
+abbrev three_entries : ℕ → ℕ → ℕ → List ℕ
+three_entries a b c = to_le 8 a ++ (to_le 8 b ++ to_le 8 c)
 
 -- P3's bytes by 01's own table, which 2/13 does not keep: the header has 72 bytes, the name in it 32
-unfoldable pub shortP3 : List ℕ
-shortP3 =
-    headerBytes (replicate 32 7) 1 2 3 423 4 7
-    ++ (tableBytes 0 3 (threeEntries 0 0 0) ++ (indexBytes (userDataEntry DDT* 72 ∷ [])
-    ++ (blockBytes 4 (AAAA ++ BBBB)
-    ++ (tableBytes 1 3 (threeEntries 362 0 363) ++ (indexBytes (userDataEntry DDT* 225 ∷ userDataEntry DBLK 181 ∷ [])
-    ++ (tableBytes 1 3 (threeEntries 362 362 363) ++ indexBytes (userDataEntry DDT* 350 ∷ userDataEntry DBLK 181 ∷ [])))))))
+unfoldable pub short_p3 : List ℕ
+short_p3 =
+    header_bytes (replicate 32 7) 1 2 3 423 4 7
+    ++ (table_bytes 0 3 (three_entries 0 0 0) ++ (index_bytes (user_data_entry DDT* 72 ∷ [])
+    ++ (block_bytes 4 (AAAA ++ BBBB)
+    ++ (table_bytes 1 3 (three_entries 362 0 363) ++ (index_bytes (user_data_entry DDT* 225 ∷ user_data_entry DBLK 181 ∷ [])
+    ++ (table_bytes 1 3 (three_entries 362 362 363) ++ index_bytes (user_data_entry DDT* 350 ∷ user_data_entry DBLK 181 ∷ [])))))))
 
-unfoldable pub workedDisc : List Bool
-workedDisc =
+unfoldable pub worked_disc : List Bool
+worked_disc =
     let p1 = create (replicate 700 238) 3 (replicate 64 7) 1 2 3 4 5 in
     let b1 = p1.buffer in
     let i1 = take 213 b1 in
@@ -80,32 +80,32 @@ workedDisc =
     let p7 = commit b1 213 [] 4 [] 11 in
     let i7 = take 322 p7.buffer in
     -- P1: "Create, E = 3": table 104, index 177, used 213
-    leaves 213 177 p1.result ∷ hasTable i1 104 0 (0 ∷ 0 ∷ 0 ∷ [])
+    leaves 213 177 p1.result ∷ has_table i1 104 0 (0 ∷ 0 ∷ 0 ∷ [])
     -- P2: "Commit addresses 0, 2, size 4, "AAAABBBB"": block 213, table 257, index 330, used 382, shift 1, entries 426, 0, 427
-    ∷ leaves 382 330 p2.result ∷ hasTable i2 257 1 (426 ∷ 0 ∷ 427 ∷ []) ∷ equal (part i2 213 4) DBLK
+    ∷ leaves 382 330 p2.result ∷ has_table i2 257 1 (426 ∷ 0 ∷ 427 ∷ []) ∷ equal (part i2 213 4) DBLK
     -- P3: "Then commit address 1 "AAAA": no block", table 382, index 455, used 507, entries 426, 426, 427. And the listing's lines
-    ∷ leaves 507 455 p3.result ∷ hasTable i3 382 1 (426 ∷ 426 ∷ 427 ∷ [])
+    ∷ leaves 507 455 p3.result ∷ has_table i3 382 1 (426 ∷ 426 ∷ 427 ∷ [])
     ∷ lies_at 249 4 (locate i3 (pos 0)) ∷ lies_at 249 4 (locate i3 (pos 1)) ∷ lies_at 253 4 (locate i3 (pos 2))
     -- P4: roll back to 330: "address 1 is 21", which has no place; used stays 507. P5: back to 455: "address 1 reads "AAAA"", at 249
-    ∷ leaves 507 330 p4.result ∷ refusedWith 21 0 (read i4 (pos 1))
+    ∷ leaves 507 330 p4.result ∷ refused_with 21 0 (read i4 (pos 1))
     ∷ leaves 507 455 p5.result ∷ gives AAAA (read i5 (pos 1)) ∷ lies_at 249 4 (locate i5 (pos 1))
     -- P6: "After P4, commit 1 "BBBB"": table 507, index 580, used 632, entries 426, 427, 427
-    ∷ leaves 632 580 p6.result ∷ hasTable i6 507 1 (426 ∷ 427 ∷ 427 ∷ [])
+    ∷ leaves 632 580 p6.result ∷ has_table i6 507 1 (426 ∷ 427 ∷ 427 ∷ [])
     -- P7: "Empty commit after P1": table 213, index 286, used 322
-    ∷ leaves 322 286 p7.result ∷ hasTable i7 213 0 (0 ∷ 0 ∷ 0 ∷ [])
+    ∷ leaves 322 286 p7.result ∷ has_table i7 213 0 (0 ∷ 0 ∷ 0 ∷ [])
     -- P8: "Largest item 0, 1, 2, 3, 4: shift 0, 1, 2, 2, 3."
-    ∷ equal (map shiftFor (0 ∷ 1 ∷ 2 ∷ 3 ∷ 4 ∷ [])) (0 ∷ 1 ∷ 2 ∷ 2 ∷ 3 ∷ [])
+    ∷ equal (map shift_for (0 ∷ 1 ∷ 2 ∷ 3 ∷ 4 ∷ [])) (0 ∷ 1 ∷ 2 ∷ 2 ∷ 3 ∷ [])
     -- P9: in P1's bytes indexOffset, the field at 80, 4,294,967,295 "gives 4 (a 32-bit sum gives 19)"; 194 and 103 give 4; 193 gives 5.
     -- Each at that offset
-    ∷ refusedWith 4 4294967295 (opening (overwrite i1 80 (toLe 8 4294967295)))
-    ∷ refusedWith 4 194 (opening (overwrite i1 80 (toLe 8 194))) ∷ refusedWith 4 103 (opening (overwrite i1 80 (toLe 8 103)))
-    ∷ refusedWith 5 193 (opening (overwrite i1 80 (toLe 8 193)))
+    ∷ refused_with 4 4294967295 (opening (overwrite i1 80 (to_le 8 4294967295)))
+    ∷ refused_with 4 194 (opening (overwrite i1 80 (to_le 8 194))) ∷ refused_with 4 103 (opening (overwrite i1 80 (to_le 8 103)))
+    ∷ refused_with 5 193 (opening (overwrite i1 80 (to_le 8 193)))
     -- P10: "In P2's block both lengths", the fields at 225 and 229, "4,294,967,292: 23 for address 0 (a 32-bit sum gives" 245). At the block
-    ∷ refusedWith 23 213 (read (overwrite i2 225 (toLe 4 4294967292 ++ toLe 4 4294967292)) (pos 0))
+    ∷ refused_with 23 213 (read (overwrite i2 225 (to_le 4 4294967292 ++ to_le 4 4294967292)) (pos 0))
     -- P11: "Checksum of no bytes is 0." P12: "0x8003 with shift 5 is offset 1024, item 3."
-    ∷ same (crcOf []) 0 ∷ same (decode 5 0 0x8003).block.0 1024 ∷ same (decode 5 0 0x8003).item.0 3
+    ∷ same (crc_of []) 0 ∷ same (decode 5 0 0x8003).block.0 1024 ∷ same (decode 5 0 0x8003).item.0 3
     -- beyond the P cases: the lowest offset passes check 4 (a table is there, no index); the short header is not kept
-    ∷ refusedWith 5 104 (opening (overwrite i1 80 (toLe 8 104))) ∷ same (length shortP3) 475 ∷ refusedWith 3 0 (opening shortP3)
+    ∷ refused_with 5 104 (opening (overwrite i1 80 (to_le 8 104))) ∷ same (length short_p3) 475 ∷ refused_with 3 0 (opening short_p3)
     -- and the header as creating (times 4 and 5), a commit (6) and a rollback (8) leave it
-    ∷ equal (take 104 b1) p1Header ∷ same (field i2 88 8) 4 ∷ same (field i2 96 8) 6 ∷ same (field i4 88 8) 4 ∷ same (field i4 96 8) 8
+    ∷ equal (take 104 b1) p1_header ∷ same (field i2 88 8) 4 ∷ same (field i2 96 8) 6 ∷ same (field i4 88 8) 4 ∷ same (field i4 96 8) 8
     ∷ []

@@ -5,8 +5,8 @@ use mathlib.Core.Path.{◌≡◌, sym, ap, ◌∙◌}
 use Rattle.fields.specs.Bytes.{part}
 use Rattle.format.specs.declared.Verdict.TheVariants.{Passes}
 use Rattle.format.specs.Opening.{opening}
-use Rattle.format.specs.Writing.{writableVerdict}
-use Rattle.format.specs.Committing.{argumentsVerdict, discVerdict, commitVerdict, append, commit}
+use Rattle.format.specs.Writing.{writable_verdict}
+use Rattle.format.specs.Committing.{arguments_verdict, disc_verdict, commit_verdict, append, commit}
 use Rattle.format.specs.Answers.{updated}
 use Rattle.format.proofs.Refusals.{answer-refused}
 use Rattle.format.proofs.Checks.{arguments-ok}
@@ -16,15 +16,15 @@ use Rattle.opening.specs.Answers.{outcome}
 use Rattle.aaru.proofs.commit.Statement.{statement}
 use Rattle.aaru.proofs.commit.Tie as tie
 
-passes : (c : tie.After-enum-told) → let a = c.before.before.before.before.before.before.args in Passes ≡ argumentsVerdict a.buffer.now a.used a.addresses.now a.size a.sectors.now
+passes : (c : tie.After-enum-told) → let a = c.before.before.before.before.before.before.args in Passes ≡ arguments_verdict a.buffer.now a.used a.addresses.now a.size a.sectors.now
 passes c = by c.enum_told.given.1 c.before.before.commit-verdict.ensures
 
 returns : tie.Need-returns
-unfolding commit append commitVerdict updated
+unfolding commit append commit_verdict updated
 returns c = outcome-stops _ _ _ (stops _ (by c.before.v.given.1 c.before.before.before.commit-verdict.ensures))
 
 part-requires : tie.Need-part-requires
-part-requires c κs = let k = ((arguments-ok _ _ _ _ _).0 (sym (passes c.before))).bufferOk.inside in omega arith
+part-requires c κs = let k = ((arguments-ok _ _ _ _ _).0 (sym (passes c.before))).buffer_ok.inside in omega arith
 
 commit-requires : tie.Need-commit-requires
 unfolding outcome part
@@ -34,7 +34,7 @@ commit-requires c κs = (
 )
 
 returns-2 : tie.Need-returns-2
-unfolding commit append commitVerdict discVerdict writableVerdict opening outcome part updated
+unfolding commit append commit_verdict disc_verdict writable_verdict opening outcome part updated
 returns-2 c =
     outcome-stops _ _ _
     (goes (passes c.before.before.before.before.before.before)

@@ -2,7 +2,7 @@
 use native.Mathlib.Omega.{arith}
 use borrow.Author.Rules.{rules}
 use mathlib.Core.Path.{refl, sym}
-use Rattle.format.specs.Creating.{createdIndexAt, createdUsed, create}
+use Rattle.format.specs.Creating.{created_index_at, created_used, create}
 use Rattle.format.specs.Answers.{updated}
 use Rattle.format.specs.Facts.{CreateOk}
 use Rattle.format.proofs.Checks.{created-used, create-ok}
@@ -34,7 +34,7 @@ add-used-2 : tie.Need-overflow-add-used-2
 add-used-2 c = let k = ok c.before.before.before.before in omega arith
 
 returns-2 : tie.Need-returns-2
-unfolding create createdUsed createdIndexAt updated
+unfolding create created_used created_index_at updated
 returns-2 c =
     let d = c.before.before.before.before in
     outcome-done _ (by d.enum_told.given.1 d.before.before.create-verdict.ensures) refl c.before.before.put-image.ensures

@@ -3,13 +3,13 @@ use native.Mathlib.Omega.{arith}
 use mathlib.Core.Path.{sym}
 use Prim.Native.Nat.{◌*◌, ◌≤◌}
 use native.Mathlib.Nat.{mul-le-mul}
-use Rattle.format.specs.Writing.{longestBuffer}
+use Rattle.format.specs.Writing.{longest_buffer}
 use Rattle.format.proofs.Ends.{length_none, length_some}
 use Rattle.appending.proofs.block_length.Statement.{statement}
 use Rattle.appending.proofs.block_length.Tie as tie
 
 -- the sectors are not too long for a buffer
-small : (c : tie.Else1) → c.before.args.stored * c.before.args.size ≤ longestBuffer
+small : (c : tie.Else1) → c.before.args.stored * c.before.args.size ≤ longest_buffer
 small c = mul-le-mul c.before.requires.0 c.before.requires.1
 
 returns : tie.Need-returns

@@ -3,7 +3,7 @@ use native.Mathlib.Omega.{arith}
 use borrow.Author.Rules.{rules}
 use mathlib.Core.Path.{sym}
 use Rattle.fields.specs.Bytes.{part}
-use Rattle.format.specs.Committing.{commitVerdict, append, commit}
+use Rattle.format.specs.Committing.{commit_verdict, append, commit}
 use Rattle.format.specs.Answers.{updated}
 use Rattle.format.proofs.Checks.{arguments-ok}
 use Rattle.format.proofs.Chains.{stops, goes, by}
@@ -12,14 +12,14 @@ use Rattle.appending.proofs.commit.Statement.{statement}
 use Rattle.appending.proofs.commit.Tie as tie
 
 part-requires : tie.Need-part-requires
-part-requires c κs = omega (arith, ((arguments-ok _ _ _ _ _).0 c.before.before.before.requires.0).bufferOk.inside)
+part-requires c κs = omega (arith, ((arguments-ok _ _ _ _ _).0 c.before.before.before.requires.0).buffer_ok.inside)
 
 disc-verdict-of-requires : tie.Need-disc-verdict-of-requires
 unfolding part
 disc-verdict-of-requires c κs = rw c.part.ensures c.before.before.before.before.requires.1
 
 returns : tie.Need-returns
-unfolding commit append commitVerdict part updated
+unfolding commit append commit_verdict part updated
 returns c =
     let p = c.before.before.before.before.before.before.before.before.requires in
     outcome-stops _ _ _

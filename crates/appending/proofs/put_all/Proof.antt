@@ -2,7 +2,7 @@
 use native.Mathlib.Omega.{arith}
 use borrow.Author.Rules.{rules}
 use Rattle.fields.specs.Bytes.{part}
-use Rattle.format.specs.Layouts.{indexOffset}
+use Rattle.format.specs.Layouts.{index_offset}
 use Rattle.appending.proofs.Appended.{inside, length-img, image-inside, image-low, fits-data, fits-index, fits-written}
 use Rattle.appending.proofs.put_all.Statement.{statement}
 use Rattle.appending.proofs.put_all.Tie as tie
@@ -18,7 +18,7 @@ put-data-requires : tie.Need-put-data-requires
 put-data-requires c κs = let f = c.before.before.before.before.before.before.before.before.before.requires in (fits-data f c.before.shift-for.ensures, inside _ _ _ _ _ _ f.passed)
 
 put-index-requires : tie.Need-put-index-requires
-unfolding part indexOffset
+unfolding part index_offset
 put-index-requires c κs =
     fits-index c.before.before.before.before.before.before.before.before.before.before.before.before.before.requires (rw c.before.before.before.before.before.before.before.before.before.part.ensures at c.before.before.before.before.before.before.before.before.get.ensures) c.before.before.before.put-data.ensures
 
@@ -26,7 +26,7 @@ set-header-requires : tie.Need-set-header-requires
 set-header-requires c κs = let f = c.before.before.before.before.before.before.before.before.before.before.before.before.before.before.before.before.before.requires.passed in omega (arith, image-inside _ _ _ _ _ _ f, image-low _ _ _ _ _ _ f)
 
 returns : tie.Need-returns
-unfolding part indexOffset
+unfolding part index_offset
 returns c =
     fits-written c.before.before.before.before.before.before.before.before.before.before.before.before.before.before.before.before.before.before.before.before.requires _ (rw c.before.before.before.before.before.before.before.before.before.before.before.before.before.before.before.before.part.ensures at c.before.before.before.before.before.before.before.before.before.before.before.before.before.before.before.get.ensures) c.before.before.before.before.before.before.before.before.before.before.put-data.ensures
     c.before.before.before.before.before.before.put-index.ensures c.before.before.set-header.ensures

@@ -2,27 +2,27 @@
 use native.Mathlib.Omega.{arith}
 use Rattle.format.proofs.Tests.{below_true, below-iff, same-iff, or-iff}
 use Rattle.format.proofs.Chains.{stop, on, stop-last, on-last, by}
-use Rattle.format.specs.Creating.{createdUsed, createdIndexAt, createVerdict}
+use Rattle.format.specs.Creating.{created_used, created_index_at, create_verdict}
 use Prim.Native.Nat.{◌≤◌}
-use Rattle.format.specs.Writing.{mostSectors}
+use Rattle.format.specs.Writing.{most_sectors}
 use borrow.Author.Rules.{rules}
 use Rattle.arguments.proofs.create_verdict.Statement.{statement}
 use Rattle.arguments.proofs.create_verdict.Tie as tie
 
 -- a count that check 30 lets pass
-few : (c : tie.Else2) → c.before.before.before.before.before.args.count ≤ mostSectors
+few : (c : tie.Else2) → c.before.before.before.before.before.args.count ≤ most_sectors
 few c = ((or-iff same-iff below-iff).0 (by c.before.count-refused.ensures c.if2.false)).1
 
 returns : tie.Need-returns
-unfolding createVerdict
+unfolding create_verdict
 returns c = stop _ (below_true _ _ (omega arith))
 
 returns-2 : tie.Need-returns-2
-unfolding createVerdict
+unfolding create_verdict
 returns-2 c = on _ (below-iff.1 (omega arith)) (stop _ (by c.before.count-refused.ensures c.if2.true))
 
 returns-3 : tie.Need-returns-3
-unfolding createVerdict
+unfolding create_verdict
 returns-3 c =
     let m = c.before.before in
     on _ (below-iff.1 (omega arith)) (on _ (by m.before.count-refused.ensures m.if2.false) (stop _ (by c.before.name-refused.ensures c.if3.true)))
@@ -34,7 +34,7 @@ add-if4 : tie.Need-overflow-add-if4
 add-if4 c = omega (arith, few c.before.before)
 
 returns-4 : tie.Need-returns-4
-unfolding createVerdict createdUsed createdIndexAt
+unfolding create_verdict created_used created_index_at
 returns-4 c =
     let n = c.before in
     let m = n.before.before in
@@ -42,7 +42,7 @@ returns-4 c =
     (on _ (by n.before.name-refused.ensures n.if3.false) (stop-last (below_true _ _ (omega arith)))))
 
 returns-5 : tie.Need-returns-5
-unfolding createVerdict createdUsed createdIndexAt
+unfolding create_verdict created_used created_index_at
 returns-5 c =
     let n = c.before in
     let m = n.before.before in

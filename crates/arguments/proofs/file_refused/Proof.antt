@@ -3,7 +3,7 @@ use borrow.Author.Rules.{rules}
 use native.Mathlib.Omega.{arith}
 use mathlib.Core.Path.{sym, ◌∙◌}
 use Rattle.format.specs.Tests.{below}
-use Rattle.format.specs.Writing.{largestSize}
+use Rattle.format.specs.Writing.{largest_size}
 use Rattle.format.proofs.Tests.{same_true, same-iff, below_true, below-iff, or-true-left, or_true_right, or-rest}
 use Rattle.arguments.proofs.file_refused.Statement.{statement}
 use Rattle.arguments.proofs.file_refused.Tie as tie
@@ -19,7 +19,7 @@ returns-3 c = sym (or_true_right _ _ (or_true_right _ _ (or-true-left _ _ (same_
 
 returns-4 : tie.Need-returns-4
 unfolding below
-returns-4 c = sym (or-rest _ (same-iff.1 (λ e. omega arith)) ∙ or-rest _ ((below-iff {a = largestSize} {b = c.before.before.before.args.size}).1 (omega arith)) ∙ or-rest _ (same-iff.1 (λ e. omega arith)))
+returns-4 c = sym (or-rest _ (same-iff.1 (λ e. omega arith)) ∙ or-rest _ ((below-iff {a = largest_size} {b = c.before.before.before.args.size}).1 (omega arith)) ∙ or-rest _ (same-iff.1 (λ e. omega arith)))
 
 pub file-refused-spec : {M : Type 1} → statement M
 file-refused-spec =

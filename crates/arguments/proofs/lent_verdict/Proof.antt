@@ -1,22 +1,22 @@
 -- `arguments::lent_verdict` meets its contract. Assumes nothing.
 use borrow.Author.Rules.{rules}
 use native.Mathlib.Omega.{arith}
-use Rattle.format.specs.Flattening.{lentVerdict}
+use Rattle.format.specs.Flattening.{lent_verdict}
 use Rattle.format.proofs.Tests.{below_true, below-iff}
 use Rattle.format.proofs.Chains.{stop, on, stop-last, on-last, by}
 use Rattle.arguments.proofs.lent_verdict.Statement.{statement}
 use Rattle.arguments.proofs.lent_verdict.Tie as tie
 
 returns : tie.Need-returns
-unfolding lentVerdict
+unfolding lent_verdict
 returns c = stop _ (below_true _ _ (omega arith))
 
 returns-2 : tie.Need-returns-2
-unfolding lentVerdict
+unfolding lent_verdict
 returns-2 c = on _ (below-iff.1 (omega arith)) (stop-last (by c.before.name-refused.ensures c.if2.true))
 
 returns-3 : tie.Need-returns-3
-unfolding lentVerdict
+unfolding lent_verdict
 returns-3 c = on _ (below-iff.1 (omega arith)) (on-last _ (by c.before.name-refused.ensures c.if2.false))
 
 pub lent-verdict-spec : {M : Type 1} → statement M

@@ -3,7 +3,7 @@ use native.Mathlib.Omega.{arith}
 use Rattle.format.proofs.Tests.{same_true, same-iff, below_true, below-iff, or-true-left, or_true_right, or-rest}
 use mathlib.Core.Path.{sym, ◌∙◌}
 use Rattle.format.specs.Tests.{below}
-use Rattle.format.specs.Writing.{largestSize}
+use Rattle.format.specs.Writing.{largest_size}
 use Rattle.arguments.proofs.size_refused.Statement.{statement}
 use Rattle.arguments.proofs.size_refused.Tie as tie
 
@@ -15,7 +15,7 @@ returns-2 c = sym (or_true_right _ _ (or-true-left _ _ (below_true _ _ (omega ar
 
 returns-3 : tie.Need-returns-3
 unfolding below
-returns-3 c = sym (or-rest _ (same-iff.1 (λ e. omega arith)) ∙ or-rest _ ((below-iff {a = largestSize} {b = c.before.before.args.size}).1 (omega arith)))
+returns-3 c = sym (or-rest _ (same-iff.1 (λ e. omega arith)) ∙ or-rest _ ((below-iff {a = largest_size} {b = c.before.before.args.size}).1 (omega arith)))
 
 pub size-refused-spec : {M : Type 1} → statement M
 size-refused-spec = tie.close (tie.spec returns returns-2 returns-3)

@@ -4,15 +4,15 @@ use Prim.Native.Nat.{◌-◌}
 use native.Mathlib.Omega.{arith}
 use borrow.Author.Rules.{rules}
 use lib.ListN.{length}
-use Rattle.format.specs.Committing.{anyOutside}
+use Rattle.format.specs.Committing.{any_outside}
 use Rattle.format.proofs.Chains.{by}
 use Rattle.opening.specs.Answers.{contents}
-use Rattle.checking.proofs.Outside.{outsideFrom, outside-start, outside-found, outside-goes, outside-done}
+use Rattle.checking.proofs.Outside.{outside_from, outside-start, outside-found, outside-goes, outside-done}
 use Rattle.checking.proofs.any_outside.Statement.{statement}
 use Rattle.checking.proofs.any_outside.Tie as tie
 
 abbrev invariant-loop : tie.invariant-loop
-invariant-loop t addresses k₀ k = outsideFrom (contents t) addresses k ≡ anyOutside (contents t) addresses
+invariant-loop t addresses k₀ k = outside_from (contents t) addresses k ≡ any_outside (contents t) addresses
 
 abbrev decreases-loop : tie.decreases-loop
 decreases-loop t addresses k₀ k = length addresses - k

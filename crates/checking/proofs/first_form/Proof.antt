@@ -10,7 +10,7 @@ use Rattle.format.proofs.Chains.{by}
 use Rattle.opening.specs.Answers.{contents}
 use Rattle.opening.proofs.Accepted.{few, decodes}
 use Rattle.opening.proofs.Entries.{pointer_is}
-use Rattle.checking.specs.Checked.{lookedAt, indexed, Formed, lookedVerdict}
+use Rattle.checking.specs.Checked.{looked_at, indexed, Formed, looked_verdict}
 use Rattle.checking.proofs.Firsts.{first-at, first-none}
 use Rattle.checking.proofs.Forms.{entry-form-ok, passed_over, form-only}
 use Rattle.checking.proofs.Scopes.{looked-is}
@@ -19,7 +19,7 @@ use Rattle.checking.proofs.first_form.Tie as tie
 
 abbrev invariant-loop : tie.invariant-loop
 invariant-loop s t child scope count known₀ a₀ known a =
-    (a ≤ (contents t).count) × ((i : ℕ) → i < a → lookedVerdict s (contents t) (lookedAt s (contents t) child scope) (indexed s) i ≡ Passes) × Formed s known.0
+    (a ≤ (contents t).count) × ((i : ℕ) → i < a → looked_verdict s (contents t) (looked_at s (contents t) child scope) (indexed s) i ≡ Passes) × Formed s known.0
 
 abbrev decreases-loop : tie.decreases-loop
 decreases-loop s t child scope count known₀ a₀ known a = (contents t).count - a
@@ -47,14 +47,14 @@ entry-form-requires c κs =
 looks : (c : tie.After-is-looked-at invariant-loop decreases-loop)
     → let l = c.before.before.before in
     let r = l.before.before.before.before.args in
-    c.is-looked-at.result ≡ lookedAt r.s.now (contents r.t) r.child.now r.scope l.loop.a
+    c.is-looked-at.result ≡ looked_at r.s.now (contents r.t) r.child.now r.scope l.loop.a
 looks c = looked-is _ _ _ _ _ c.before.table-entry.ensures c.is-looked-at.ensures
 
 -- an address that is looked at, by its form
 form-is : (c : tie.After-entry-form invariant-loop decreases-loop)
     → let l = c.before.before.before.before.before.before in
     let r = l.before.before.before.before.args in
-    lookedVerdict r.s.now (contents r.t) (lookedAt r.s.now (contents r.t) r.child.now r.scope) (indexed r.s.now) l.loop.a ≡ c.entry-form.result
+    looked_verdict r.s.now (contents r.t) (looked_at r.s.now (contents r.t) r.child.now r.scope) (indexed r.s.now) l.loop.a ≡ c.entry-form.result
 form-is c = let i = c.before.before in form-only _ _ _ _ (by (looks i.before) i.if1.true) ∙ sym c.entry-form.ensures
 
 returns : tie.Need-returns invariant-loop decreases-loop

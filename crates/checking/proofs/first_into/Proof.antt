@@ -4,20 +4,20 @@ use borrow.Author.Count.{below_more}
 use mathlib.Core.Path.{◌≡◌, ap, ◌∙◌}
 use Prim.Native.Nat.{ℕ, ◌-◌, ◌≤◌, ◌<◌}
 use Rattle.format.specs.declared.Pointer.{Pointer}
-use Rattle.format.specs.Reading.{pointerAt}
+use Rattle.format.specs.Reading.{pointer_at}
 use Rattle.format.proofs.Tests.{never}
 use Rattle.format.proofs.Chains.{by}
 use Rattle.opening.specs.Answers.{contents}
 use Rattle.opening.proofs.Accepted.{few, decodes}
 use Rattle.opening.proofs.Entries.{pointer_is}
-use Rattle.checking.specs.Checked.{lookedAt}
+use Rattle.checking.specs.Checked.{looked_at}
 use Rattle.checking.proofs.Looked.{Into, found, stays}
 use Rattle.checking.proofs.Scopes.{looked-is}
 use Rattle.checking.proofs.first_into.Statement.{statement}
 use Rattle.checking.proofs.first_into.Tie as tie
 
 abbrev invariant-loop : tie.invariant-loop
-invariant-loop s t child scope b first limit a₀ a = (a ≤ first.number.0) × ((i : ℕ) → i < a → ¬ Into s (contents t) (lookedAt s (contents t) child scope) b.0 i)
+invariant-loop s t child scope b first limit a₀ a = (a ≤ first.number.0) × ((i : ℕ) → i < a → ¬ Into s (contents t) (looked_at s (contents t) child scope) b.0 i)
 
 abbrev decreases-loop : tie.decreases-loop
 decreases-loop s t child scope b first limit a₀ a = first.number.0 - a
@@ -40,13 +40,13 @@ entry-decoded-requires c κs = decodes _ _ c.before.before.before.before.before.
 looks : (c : tie.After-is-looked-at invariant-loop decreases-loop)
     → let l = c.before.before.before.before in
     let r = l.before.before.before.before.args in
-    c.is-looked-at.result ≡ lookedAt r.s.now (contents r.t) r.child.now r.scope l.loop.a
+    c.is-looked-at.result ≡ looked_at r.s.now (contents r.t) r.child.now r.scope l.loop.a
 looks c = looked-is _ _ _ _ _ c.before.table-entry.ensures c.is-looked-at.ensures
 
 block-is : (c : tie.After-entry-decoded invariant-loop decreases-loop)
     → let l = c.before.before.before.before.before.before in
     let r = l.before.before.before.before.args in
-    c.entry-decoded.result.block.0 ≡ (pointerAt r.s.now (contents r.t) l.loop.a).block.0
+    c.entry-decoded.result.block.0 ≡ (pointer_at r.s.now (contents r.t) l.loop.a).block.0
 block-is c = ap (λ (q : Pointer). q.block.0) (pointer_is _ _ _ c.before.before.before.table-entry.ensures c.entry-decoded.ensures)
 
 returns : tie.Need-returns invariant-loop decreases-loop

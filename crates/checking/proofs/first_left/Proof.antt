@@ -1,5 +1,5 @@
 -- `checking::first_left` meets its contract. Assumes nothing.
-use Rattle.checking.specs.Checked.{inScope, Lent}
+use Rattle.checking.specs.Checked.{in_scope, Lent}
 use Rattle.checking.proofs.first_left.Statement.{statement}
 use Rattle.checking.proofs.first_left.Tie as tie
 
@@ -8,7 +8,7 @@ unfolding Lent
 first-within-requires c κs = c.before.before.requires
 
 returns : tie.Need-returns
-unfolding inScope
+unfolding in_scope
 returns c = c.first-within.ensures
 
 pub first-left-spec : {M : Type 1} → statement M

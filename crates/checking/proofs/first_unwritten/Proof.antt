@@ -5,7 +5,7 @@ use Prim.Native.Nat.{ℕ, ◌-◌, ◌≤◌, ◌<◌}
 use native.Mathlib.Omega.{arith}
 use borrow.Author.Count.{below_more}
 use borrow.Author.Rules.{rules}
-use Rattle.format.specs.Reading.{notWritten}
+use Rattle.format.specs.Reading.{not_written}
 use Rattle.format.proofs.Chains.{by}
 use Rattle.opening.specs.Answers.{contents}
 use Rattle.opening.proofs.Entries.{written_is}
@@ -14,7 +14,7 @@ use Rattle.checking.proofs.first_unwritten.Statement.{statement}
 use Rattle.checking.proofs.first_unwritten.Tie as tie
 
 abbrev invariant-loop : tie.invariant-loop
-invariant-loop s t first limit n₀ n = (n ≤ first.number.0) × ((i : ℕ) → i < n → notWritten s (contents t) i ≡ false)
+invariant-loop s t first limit n₀ n = (n ≤ first.number.0) × ((i : ℕ) → i < n → not_written s (contents t) i ≡ false)
 
 abbrev decreases-loop : tie.decreases-loop
 decreases-loop s t first limit n₀ n = first.number.0 - n
@@ -28,7 +28,7 @@ table-entry-requires c κs = let k = c.before.before.before.before.before.requir
 gap : (c : tie.After-is-unwritten invariant-loop decreases-loop)
     → let l = c.before.before.before.before in
     let r = l.before.before.before.args in
-    c.is-unwritten.result ≡ notWritten r.s.now (contents r.t) l.loop.n
+    c.is-unwritten.result ≡ not_written r.s.now (contents r.t) l.loop.n
 gap c = written_is _ _ _ c.before.table-entry.ensures c.is-unwritten.ensures
 
 returns : tie.Need-returns invariant-loop decreases-loop

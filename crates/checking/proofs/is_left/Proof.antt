@@ -3,7 +3,7 @@ use borrow.Author.Rules.{rules}
 use mathlib.Core.Bool.{false}
 use mathlib.Core.Path.{◌≡◌, subst}
 use Prim.Native.Nat.{◌<◌}
-use Rattle.format.specs.Reading.{outside, entryNumber}
+use Rattle.format.specs.Reading.{outside, entry_number}
 use Rattle.opening.specs.Answers.{contents, IsNumbered}
 use Rattle.checking.proofs.Scopes.{not_there, past-limit, left_is}
 use Rattle.checking.proofs.is_left.Statement.{statement}
@@ -14,7 +14,7 @@ there : (c : tie.After-numbered)
     → let u = contents c.before.before.before.before.before.before.args.c.opened in
     let a = c.before.before.before.address.result.0 in
     let m = c.numbered.given.0.0 in
-    (outside u a ≡ false) × (entryNumber u a ≡ m.0) × (m.0 < u.count)
+    (outside u a ≡ false) × (entry_number u a ≡ m.0) × (m.0 < u.count)
 unfolding IsNumbered
 there c = subst (IsNumbered _ _) c.numbered.given.1 c.before.before.entry-number.ensures
 

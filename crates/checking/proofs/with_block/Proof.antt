@@ -7,25 +7,25 @@ use mathlib.Core.Logic.Iff
 use mathlib.Core.Logic.{inl, inr}
 use mathlib.Core.Path.{◌≡◌}
 use Prim.Native.Nat.{◌+◌, ◌-◌}
-use Rattle.format.specs.Layouts.{DBLK, entryLength, entry_at, entriesFrom}
-use Rattle.format.specs.Opening.{isUserData, offsetsOf}
+use Rattle.format.specs.Layouts.{DBLK, entry_length, entry_at, entries_from}
+use Rattle.format.specs.Opening.{is_user_data, offsets_of}
 use Rattle.format.proofs.Tests.{not_iff, and-iff}
 use Rattle.format.proofs.Chains.{by}
 use Rattle.opening.specs.Answers.{contents}
-use Rattle.checking.specs.Checked.{lookedAt, FirstLeft}
+use Rattle.checking.specs.Checked.{looked_at, FirstLeft}
 use Rattle.checking.proofs.Looked.{not-marked, other-entry, block-entry}
 use Rattle.checking.proofs.with_block.Statement.{statement}
 use Rattle.checking.proofs.with_block.Tie as tie
 
 -- what the entry is for
 kind : (c : tie.After-is-user-data)
-    → c.is-user-data.result ≡ isUserData DBLK (entry_at c.before.before.before.before.before.args.s.now c.before.before.before.before.before.args.p.0)
+    → c.is-user-data.result ≡ is_user_data DBLK (entry_at c.before.before.before.before.before.args.s.now c.before.before.before.before.before.args.p.0)
 kind c = rw c.before.before.entry.ensures at c.is-user-data.ensures
 
 -- its block is the next to be looked at
 next : (c : tie.After-is-user-data) → c.is-user-data.result ≡ true
     → let a = c.before.before.before.before.before.args in
-    FirstLeft a.s.now (contents a.t) (lookedAt a.s.now (contents a.t) a.child.now a.scope) (c.before.before.entry.result.offset.0 ∷ offsetsOf DBLK (entriesFrom a.s.now (a.left - 1) (a.p.0 + entryLength))) a.first
+    FirstLeft a.s.now (contents a.t) (looked_at a.s.now (contents a.t) a.child.now a.scope) (c.before.before.entry.result.offset.0 ∷ offsets_of DBLK (entries_from a.s.now (a.left - 1) (a.p.0 + entry_length))) a.first
 next c e =
     let k = c.before.before.before.before.before.requires in
     rw c.before.before.entry.ensures (block-entry _ _ _ _ _ k.2 k.4 (by (kind c) e))

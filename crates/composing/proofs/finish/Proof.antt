@@ -1,7 +1,7 @@
 -- `composing::finish` meets its contract. Assumes nothing.
 use borrow.Author.Rules.{rules}
 use native.Mathlib.Omega.{arith}
-use Rattle.format.specs.Creating.{createdUsed, createdIndexAt}
+use Rattle.format.specs.Creating.{created_used, created_index_at}
 use Rattle.composing.proofs.Laid.{stands, fits_all, filled-long, fits-indexes, fits-written}
 use Rattle.composing.proofs.finish.Statement.{statement}
 use Rattle.composing.proofs.finish.Tie as tie
@@ -23,7 +23,7 @@ put-index-requires c κs =
     fits-indexes h.fits h.is c.before.before.before.before.before.before.before.seal-block.ensures c.before.before.before.seal-table.ensures
 
 set-header-requires : tie.Need-set-header-requires
-unfolding createdUsed createdIndexAt
+unfolding created_used created_index_at
 set-header-requires c κs =
     let h = c.before.before.before.before.before.before.before.before.before.before.before.before.before.before.before.before.before.requires in
     omega (arith, fits_all h.fits, filled-long h.fits h.is, c.before.before.before.before.before.before.before.before.before.before.before.seal-block.auto.0, c.before.before.before.before.before.before.before.seal-table.auto.0, c.before.before.before.put-index.auto.0)

@@ -4,14 +4,14 @@ use native.Mathlib.Omega.{arith}
 use mathlib.Core.Path.{refl}
 use Prim.Native.Nat.{◌*◌, ◌≤◌}
 use native.Mathlib.Nat.{mul-le-mul}
-use Rattle.format.specs.Writing.{longestBuffer}
-use Rattle.format.specs.Creating.{createdUsed, createdIndexAt}
+use Rattle.format.specs.Writing.{longest_buffer}
+use Rattle.format.specs.Creating.{created_used, created_index_at}
 use Rattle.composing.specs.Composes.{layout_of}
 use Rattle.composing.proofs.lay_out.Statement.{statement}
 use Rattle.composing.proofs.lay_out.Tie as tie
 
 -- the sectors are not too long for a buffer
-small : (c : tie.Start) → c.args.stored * c.args.size ≤ longestBuffer
+small : (c : tie.Start) → c.args.stored * c.args.size ≤ longest_buffer
 small c = mul-le-mul c.requires.2 c.requires.1
 
 mul-table : tie.Need-overflow-mul-table
@@ -30,7 +30,7 @@ add-end-2 : tie.Need-overflow-add-end-2
 add-end-2 c = omega (arith, small c, c.requires.0)
 
 returns : tie.Need-returns
-unfolding layout_of createdUsed createdIndexAt
+unfolding layout_of created_used created_index_at
 returns c = rw c.shift-for.ensures refl
 
 pub lay-out-spec : {M : Type 1} → statement M

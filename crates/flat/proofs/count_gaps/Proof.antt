@@ -2,8 +2,8 @@
 use Prim.Native.Nat.{◌-◌}
 use native.Mathlib.Omega.{arith}
 use borrow.Author.Rules.{rules}
-use Rattle.format.specs.Reading.{notWritten}
-use Rattle.format.specs.Exporting.{gapCount}
+use Rattle.format.specs.Reading.{not_written}
+use Rattle.format.specs.Exporting.{gap_count}
 use Rattle.format.proofs.Chains.{by}
 use Rattle.opening.specs.Answers.{contents}
 use Rattle.opening.proofs.Entries.{written_is}
@@ -12,7 +12,7 @@ use Rattle.flat.proofs.count_gaps.Statement.{statement}
 use Rattle.flat.proofs.count_gaps.Tie as tie
 
 abbrev invariant-loop : tie.invariant-loop
-invariant-loop s t count gaps₀ n₀ gaps n = Counting (notWritten s (contents t)) (contents t).count n gaps
+invariant-loop s t count gaps₀ n₀ gaps n = Counting (not_written s (contents t)) (contents t).count n gaps
 
 abbrev decreases-loop : tie.decreases-loop
 decreases-loop s t count gaps₀ n₀ gaps n = (contents t).count - n
@@ -37,7 +37,7 @@ loop-again-2 c =
     counting-no _ _ d.loop.invariant (omega arith) (by (written_is _ _ _ c.before.before.table-entry.ensures c.before.is-unwritten.ensures) c.if1.false)
 
 returns : tie.Need-returns invariant-loop decreases-loop
-unfolding gapCount
+unfolding gap_count
 returns c = counting-done _ _ c.before.loop.invariant (omega arith)
 
 pub count-gaps-spec : {M : Type 1} → statement M

@@ -4,10 +4,10 @@ use borrow.Author.Rules.{rules}
 use Rattle.format.specs.declared.Verdict.TheVariants.{Passes}
 use Rattle.format.specs.Tests.{same, differs, ◌and◌}
 use Rattle.format.specs.Refusals.{refusal}
-use Rattle.format.specs.Layouts.{indexOffset, entries}
-use Rattle.format.specs.Committing.{sectorsVerdict}
-use Rattle.format.specs.Exporting.{gapCount}
-use Rattle.format.specs.Answers.{exported, exportedExact}
+use Rattle.format.specs.Layouts.{index_offset, entries}
+use Rattle.format.specs.Committing.{sectors_verdict}
+use Rattle.format.specs.Exporting.{gap_count}
+use Rattle.format.specs.Answers.{exported, exported_exact}
 use Rattle.format.proofs.Chains.{by, stop, stops, goes, on-last}
 use Rattle.format.proofs.Answers.{outcome-stops}
 use Rattle.opening.specs.Answers.{contents}
@@ -18,13 +18,13 @@ use Rattle.flat.proofs.export_at.Tie as tie
 -- the sectors pass, but for 21
 sectors : (c : tie.After-enum-told)
     → let a = c.before.before.before.before.before.args in
-    Passes ≡ sectorsVerdict a.s.now (entries a.s.now (indexOffset a.s.now)) (contents a.t)
+    Passes ≡ sectors_verdict a.s.now (entries a.s.now (index_offset a.s.now)) (contents a.t)
 sectors c = by c.enum_told.given.1 c.before.before.sectors-verdict.ensures
 
 -- what the test of 21 asks
 blank : (c : tie.After-is-blank)
     → let a = c.before.before.before.before.before.before.before.before.args in
-    c.is-blank.result ≡ (differs (contents a.t).count 0 and same (gapCount a.s.now (contents a.t)) (contents a.t).count)
+    c.is-blank.result ≡ (differs (contents a.t).count 0 and same (gap_count a.s.now (contents a.t)) (contents a.t).count)
 blank c = rw (← c.before.before.count-gaps.ensures, ← c.before.count.ensures) c.is-blank.ensures
 
 returns : tie.Need-returns
@@ -39,13 +39,13 @@ export-file-requires : tie.Need-export-file-requires
 export-file-requires c κs = (c.before.before.before.before.before.before.before.before.before.before.requires, sym (sectors c.before.before.before.before.before))
 
 returns-3 : tie.Need-returns-3
-unfolding exported exportedExact
+unfolding exported exported_exact
 returns-3 c =
     file-refused _ _ c.before.before.before.before.before.before.before.before.before.before.before.before.before.before.before.before.requires _ (sectors c.before.before.before.before.before.before.before.before.before.before.before) (on-last (refusal 21 0) (by (blank c.before.before.before.before.before.before.before.before) c.before.before.before.before.before.before.before.if1.false)) _ _
     (rw c.before.answer.given.1 at c.before.before.before.before.before.export-file.ensures)
 
 returns-4 : tie.Need-returns-4
-unfolding exported exportedExact
+unfolding exported exported_exact
 returns-4 c =
     file-exported _ _ c.before.before.before.before.before.before.before.before.before.before.before.before.before.before.before.before.requires _ (sectors c.before.before.before.before.before.before.before.before.before.before.before) (on-last (refusal 21 0) (by (blank c.before.before.before.before.before.before.before.before) c.before.before.before.before.before.before.before.if1.false)) _ _ c.before.before.before.before.before.before.before.before.before.before.count-gaps.ensures
     (rw c.before.answer2.given.1 at c.before.before.before.before.before.export-file.ensures)

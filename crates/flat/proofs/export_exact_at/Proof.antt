@@ -1,7 +1,7 @@
 -- `flat::export_exact_at` meets its contract. Assumes nothing.
 use mathlib.Core.Path.{◌∙◌}
 use borrow.Author.Rules.{rules}
-use Rattle.format.specs.Answers.{exportedExact}
+use Rattle.format.specs.Answers.{exported_exact}
 use Rattle.format.proofs.Chains.{by, stops}
 use Rattle.format.proofs.Answers.{outcome-stops}
 use Rattle.flat.proofs.Whole.{outcome-rest, every-checked, exact-opened}
@@ -9,7 +9,7 @@ use Rattle.flat.proofs.export_exact_at.Statement.{statement}
 use Rattle.flat.proofs.export_exact_at.Tie as tie
 
 returns : tie.Need-returns
-unfolding exportedExact
+unfolding exported_exact
 returns c = outcome-stops _ _ _ (stops _ (by c.before.v.given.1 c.before.before.before.every-verdict.ensures)) ∙ exact-opened _ _ c.before.before.before.before.before.before.requires _
 
 export-file-requires : tie.Need-export-file-requires

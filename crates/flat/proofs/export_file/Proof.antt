@@ -1,8 +1,8 @@
 -- `flat::export_file` meets its contract. Assumes nothing.
 use mathlib.Core.Path.{sym}
 use borrow.Author.Rules.{rules}
-use Rattle.format.specs.Exporting.{fileVerdict}
-use Rattle.format.specs.Answers.{exportedExact}
+use Rattle.format.specs.Exporting.{file_verdict}
+use Rattle.format.specs.Answers.{exported_exact}
 use Rattle.format.proofs.Chains.{by, stops}
 use Rattle.format.proofs.Answers.{outcome-stops, outcome-done}
 use Rattle.opening.specs.Answers.{contents}
@@ -18,16 +18,16 @@ uniform : (c : tie.After-enum-told)
 uniform c =
     record {
       checked = c.before.before.before.before.before.before.requires;
-      sizeIs = c.before.before.before.flat-size.ensures;
+      size_is = c.before.before.before.flat-size.ensures;
       sizes = sym (by c.enum_told.given.1 c.before.before.sizes-verdict.ensures);
     }
 
 returns : tie.Need-returns
-unfolding exportedExact fileVerdict
+unfolding exported_exact file_verdict
 returns c = outcome-stops _ _ _ (stops _ (by c.before.v.given.1 c.before.before.before.sizes-verdict.ensures))
 
 returns-2 : tie.Need-returns-2
-unfolding exportedExact
+unfolding exported_exact
 returns-2 c =
     let d = c.before.before.before.before.before.before in
     outcome-stops _ _ _ (room-is _ _ (uniform d) c.before.before.before.before.before.count.ensures _ (by c.before.w.given.1 c.before.before.before.room-verdict.ensures))
@@ -38,7 +38,7 @@ put-file-requires c κs =
     (uniform d, fits _ _ (uniform d) c.before.before.before.before.before.count.ensures _ (by c.before.enum-told2.given.1 c.before.before.before.room-verdict.ensures))
 
 returns-3 : tie.Need-returns-3
-unfolding exportedExact
+unfolding exported_exact
 returns-3 c =
     let d = c.before.before.before.before.before.before.before.before.before in
     let n = c.before.before.before.before.before.before.before.before.count.ensures in

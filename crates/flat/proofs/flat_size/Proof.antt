@@ -3,7 +3,7 @@ use mathlib.Core.Path.{◌≡◌}
 use Prim.Native.Nat.{◌-◌, ◌≤◌}
 use native.Mathlib.Omega.{arith}
 use borrow.Author.Rules.{rules}
-use Rattle.format.specs.Exporting.{sizeFrom, flatSize}
+use Rattle.format.specs.Exporting.{size_from, flat_size}
 use Rattle.format.proofs.Chains.{by}
 use Rattle.opening.specs.Answers.{contents}
 use Rattle.flat.proofs.Sectors.{sizing-starts, sizing-goes, sizing-found, sizing-none}
@@ -11,7 +11,7 @@ use Rattle.flat.proofs.flat_size.Statement.{statement}
 use Rattle.flat.proofs.flat_size.Tie as tie
 
 abbrev invariant-loop : tie.invariant-loop
-invariant-loop s t count n₀ n = (n ≤ (contents t).count) × (sizeFrom s (contents t) ((contents t).count - n) n ≡ flatSize s (contents t))
+invariant-loop s t count n₀ n = (n ≤ (contents t).count) × (size_from s (contents t) ((contents t).count - n) n ≡ flat_size s (contents t))
 
 abbrev decreases-loop : tie.decreases-loop
 decreases-loop s t count n₀ n = (contents t).count - n

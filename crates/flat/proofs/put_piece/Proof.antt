@@ -22,7 +22,7 @@ returns : tie.Need-returns
 returns c =
     let d = c.before.before.before.before in
     c.before.before.clear.ensures
-    ∙ ap (overwrite _ _) (piece-gap _ _ _ (by d.enum_told.given.1 d.before.before.slot_at.ensures) d.before.before.before.before.before.requires.0.sizeIs)
+    ∙ ap (overwrite _ _) (piece-gap _ _ _ (by d.enum_told.given.1 d.before.before.slot_at.ensures) d.before.before.before.before.before.requires.0.size_is)
 
 returns-2 : tie.Need-returns-2
 returns-2 c =

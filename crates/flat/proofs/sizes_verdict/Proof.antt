@@ -5,7 +5,7 @@ use native.Mathlib.Omega.{arith}
 use borrow.Author.Count.{below_more}
 use borrow.Author.Rules.{rules}
 use Rattle.format.specs.declared.Verdict.TheVariants.{Passes}
-use Rattle.format.specs.Exporting.{sizeVerdict}
+use Rattle.format.specs.Exporting.{size_verdict}
 use Rattle.format.proofs.Chains.{by}
 use Rattle.opening.specs.Answers.{contents}
 use Rattle.checking.proofs.Firsts.{refused-at, refused_none}
@@ -14,7 +14,7 @@ use Rattle.flat.proofs.sizes_verdict.Statement.{statement}
 use Rattle.flat.proofs.sizes_verdict.Tie as tie
 
 abbrev invariant-loop : tie.invariant-loop
-invariant-loop s t size count n₀ n = (n ≤ (contents t).count) × ((i : ℕ) → i < n → sizeVerdict s (contents t) i ≡ Passes)
+invariant-loop s t size count n₀ n = (n ≤ (contents t).count) × ((i : ℕ) → i < n → size_verdict s (contents t) i ≡ Passes)
 
 abbrev decreases-loop : tie.decreases-loop
 decreases-loop s t size count n₀ n = (contents t).count - n

@@ -5,8 +5,8 @@ use mathlib.Core.Path.{◌≡◌, sym, ap, ◌∙◌}
 use Prim.Native.Nat.{ℕ, ◌-◌, ◌≤◌}
 use lib.ListN.{length}
 use Rattle.opening.specs.Answers.{contents}
-use Rattle.pairs.specs.Pairs.{sectorAt}
-use Rattle.composing.specs.Composes.{storedOf}
+use Rattle.pairs.specs.Pairs.{sector_at}
+use Rattle.composing.specs.Composes.{stored_of}
 use Rattle.composing.proofs.Handed.{items-few}
 use Rattle.composing.proofs.Counting.{counting-starts, counting-none}
 use Rattle.flattening.proofs.Sectors.{pair-new, pair-old}
@@ -15,7 +15,7 @@ use Rattle.flattening.proofs.count_stored.Tie as tie
 
 abbrev invariant-loop : tie.invariant-loop
 invariant-loop child t parent p count stored₀ n₀ stored n =
-    (n ≤ (contents t).count) × ((block : ℕ) → stored ≡ length (storedOf block (sectorAt child parent) n).items)
+    (n ≤ (contents t).count) × ((block : ℕ) → stored ≡ length (stored_of block (sector_at child parent) n).items)
 
 abbrev decreases-loop : tie.decreases-loop
 decreases-loop child t parent p count stored₀ n₀ stored n = (contents t).count - n
@@ -33,7 +33,7 @@ add-stored : tie.Need-overflow-add-stored invariant-loop decreases-loop
 add-stored c =
     let d = c.before.before.before.before.before in
     let s = d.before.before.before.before in
-    omega (arith, d.loop.invariant.1 0, items-few 0 (sectorAt s.args.child.now s.args.parent.now) d.loop.n)
+    omega (arith, d.loop.invariant.1 0, items-few 0 (sector_at s.args.child.now s.args.parent.now) d.loop.n)
 
 -- in what follows d is the place at the loop's head
 loop-again : tie.Need-loop-preserved invariant-loop decreases-loop
@@ -58,7 +58,7 @@ returns c block =
     let d = c.before in
     let s = d.before.before.before.before in
     let e : d.loop.n ≡ (contents s.args.t).count = omega arith in
-    d.loop.invariant.1 block ∙ ap (λ n. length (storedOf block (sectorAt s.args.child.now s.args.parent.now) n).items) e
+    d.loop.invariant.1 block ∙ ap (λ n. length (stored_of block (sector_at s.args.child.now s.args.parent.now) n).items) e
 
 pub count-stored-spec : {M : Type 1} → statement M
 count-stored-spec =

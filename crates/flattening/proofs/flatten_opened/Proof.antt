@@ -6,7 +6,7 @@ use mathlib.Core.Path.{◌≡◌, sym, ap, ◌∙◌}
 use lib.ListN.{length}
 use Rattle.format.specs.declared.Verdict.TheVariants.{Passes}
 use Rattle.format.specs.Answers.{updated}
-use Rattle.format.specs.Flattening.{Written, flattenVerdict}
+use Rattle.format.specs.Flattening.{Written, flatten_verdict}
 use Rattle.format.proofs.Chains.{stops, goes, by}
 use Rattle.format.proofs.Flattening.{flattenable, flatten-created}
 use Rattle.opening.specs.Answers.{contents, outcome}
@@ -35,7 +35,7 @@ pair : (c : tie.After-enum-told)
 pair c =
     let g = c.before.before in
     let s = g.before.before.before.before.before.before in
-    record { opens = s.requires.0; first = s.requires.1; opensParent = sym g.before.«open».ensures; passes = sym (by c.enum_told.given.1 g.pair-verdict.ensures) }
+    record { opens = s.requires.0; first = s.requires.1; opens_parent = sym g.before.«open».ensures; passes = sym (by c.enum_told.given.1 g.pair-verdict.ensures) }
 
 size-of-requires : tie.Need-size-of-requires
 size-of-requires c κs = pair c
@@ -59,7 +59,7 @@ returns-2 c =
 -- all checks but 35 have
 checked : (c : tie.After-enum-told2)
     → (let a = c.before.before.before.before.before.before.before.before.before.before.before.before.before.args in
-    flattenVerdict a.buffer.now a.child.now a.parent.now a.application.now ≡ Passes)
+    flatten_verdict a.buffer.now a.child.now a.parent.now a.application.now ≡ Passes)
 checked c =
     let w = c.before.before in
     let e = w.before.before.before in

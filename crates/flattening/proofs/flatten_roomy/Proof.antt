@@ -6,13 +6,13 @@ use mathlib.Core.Path.{◌≡◌, ◌∙◌}
 use Prim.Native.Nat.{◌+◌, ◌≤◌}
 use lib.ListN.{length}
 use Rattle.fields.specs.Bytes.{overwrite}
-use Rattle.format.specs.Layouts.{blockHeaderLength}
+use Rattle.format.specs.Layouts.{block_header_length}
 use Rattle.format.specs.Answers.{updated}
 use Rattle.format.specs.Flattening.{written_of}
 use Rattle.format.proofs.Flattening.{flattenable}
 use Rattle.opening.specs.Answers.{contents}
-use Rattle.pairs.specs.Pairs.{sectorAt}
-use Rattle.composing.specs.Composes.{storedOf, Plan, Fits}
+use Rattle.pairs.specs.Pairs.{sector_at}
+use Rattle.composing.specs.Composes.{stored_of, Plan, Fits}
 use Rattle.composing.proofs.Entries.{stored-lays, stored-filled}
 use Rattle.composing.proofs.Laid.{Most, most-used, most-image, most-end, most-block, fits-lays}
 use Rattle.flattening.proofs.Whole.{count-is, Ready, flat-lays, flat-most, flat-roomy, flat-plan, flat-fits, flat-done}
@@ -21,11 +21,11 @@ use Rattle.flattening.proofs.flatten_roomy.Tie as tie
 
 -- in what follows s is the start, i the place after `put_image`, w that after `put_sectors`, and d that after `lay_out`
 ready : (s : tie.Start) → let a = s.args in Ready a.buffer.now a.child.now a.parent.now a.application.now (contents a.t).count a.size
-ready s = let h = s.requires in record { many = count-is _ _ h.0.opens; checked = h.1; sizeIs = h.2; any = h.3 }
+ready s = let h = s.requires in record { many = count-is _ _ h.0.opens; checked = h.1; size_is = h.2; any = h.3 }
 
 most : (s : tie.Start)
     → (let a = s.args in
-    Most (sectorAt a.child.now a.parent.now) (contents a.t).count a.size (length (written_of a.child.now a.parent.now)) a.most)
+    Most (sector_at a.child.now a.parent.now) (contents a.t).count a.size (length (written_of a.child.now a.parent.now)) a.most)
 most s = flat-most (ready s) s.requires.4
 
 put-image-requires : tie.Need-put-image-requires
@@ -49,7 +49,7 @@ lay-out-requires c κs =
 planned : (d : tie.After-lay-out)
     → (let w = d.before.before.before in
     let a = w.before.before.before.before.before.before.before.before.before.before.before.args in
-    Plan (sectorAt a.child.now a.parent.now) (contents a.t).count a.size w.put-sectors.result d.lay-out.result)
+    Plan (sector_at a.child.now a.parent.now) (contents a.t).count a.size w.put-sectors.result d.lay-out.result)
 planned d =
     let w = d.before.before.before in
     let i = w.before.before.before.before in
@@ -67,7 +67,7 @@ fits : (d : tie.After-lay-out)
     → (let w = d.before.before.before in
     let i = w.before.before.before.before in
     let a = i.before.before.before.before.before.before.before.args in
-    Fits i.put-image.new.0 (sectorAt a.child.now a.parent.now) (contents a.t).count a.size w.put-sectors.result d.lay-out.result)
+    Fits i.put-image.new.0 (sector_at a.child.now a.parent.now) (contents a.t).count a.size w.put-sectors.result d.lay-out.result)
 fits d =
     let i = d.before.before.before.before.before.before.before in
     flat-fits (ready i.before.before.before.before.before.before.before) _ _ _ _ _ (planned d) (room d) (rw i.before.before.count.ensures at i.put-image.ensures)
@@ -78,7 +78,7 @@ block : (d : tie.After-lay-out)
     let i = w.before.before.before.before in
     let a = i.before.before.before.before.before.before.before.args in
     let used = d.lay-out.result.used in
-    w.put-sectors.new.0 ≡ overwrite i.put-image.new.0 (used + blockHeaderLength) (flatten (storedOf used (sectorAt a.child.now a.parent.now) (contents a.t).count).items))
+    w.put-sectors.new.0 ≡ overwrite i.put-image.new.0 (used + block_header_length) (flatten (stored_of used (sector_at a.child.now a.parent.now) (contents a.t).count).items))
 block d =
     let w = d.before.before.before in
     most-block (most w.before.before.before.before.before.before.before.before.before.before.before) (planned d) _ w.put-sectors.ensures.1

@@ -8,7 +8,7 @@ use Rattle.flattening.proofs.flatten_some.Tie as tie
 lay-out-requires : tie.Need-lay-out-requires
 lay-out-requires c κs =
     let h = c.before.before.before.before.before.requires in
-    rw c.count.ensures (flat-all (record { many = count-is _ _ h.0.opens; checked = h.1; sizeIs = h.2; any = h.3 }) h.4)
+    rw c.count.ensures (flat-all (record { many = count-is _ _ h.0.opens; checked = h.1; size_is = h.2; any = h.3 }) h.4)
 
 flatten-roomy-requires : tie.Need-flatten-roomy-requires
 flatten-roomy-requires c κs =

@@ -4,7 +4,7 @@ use native.Mathlib.Omega.{arith}
 use Rattle.format.specs.Answers.{updated}
 use Rattle.format.proofs.Flattening.{flattenable}
 use Rattle.opening.specs.Answers.{contents}
-use Rattle.pairs.specs.Pairs.{sectorAt}
+use Rattle.pairs.specs.Pairs.{sector_at}
 use Rattle.composing.specs.Composes.{Plan, Fits}
 use Rattle.composing.proofs.Laid.{image-fits, fits-lays}
 use Rattle.flattening.proofs.Whole.{count-is, Ready, flat-lays, flat-plan, flat-full, flat-fits, flat-done}
@@ -12,7 +12,7 @@ use Rattle.flattening.proofs.flatten_tight.Statement.{statement}
 use Rattle.flattening.proofs.flatten_tight.Tie as tie
 
 ready : (c : tie.Start) → let a = c.args in Ready a.buffer.now a.child.now a.parent.now a.application.now (contents a.t).count a.size
-ready c = let h = c.requires in record { many = count-is _ _ h.0.opens; checked = h.1; sizeIs = h.2; any = h.3 }
+ready c = let h = c.requires in record { many = count-is _ _ h.0.opens; checked = h.1; size_is = h.2; any = h.3 }
 
 lay-out-requires : tie.Need-lay-out-requires
 lay-out-requires c κs = rw c.before.count.ensures (flat-lays (ready c.before.before.before.before.before.before) 0 (c.count-stored.ensures 0))
@@ -20,7 +20,7 @@ lay-out-requires c κs = rw c.before.count.ensures (flat-lays (ready c.before.be
 -- this is the plan; in what follows d is the place after `lay_out`
 planned : (c : tie.After-lay-out)
     → (let a = c.before.before.before.before.before.before.before.args in
-    Plan (sectorAt a.child.now a.parent.now) (contents a.t).count a.size c.before.count-stored.result c.lay-out.result)
+    Plan (sector_at a.child.now a.parent.now) (contents a.t).count a.size c.before.count-stored.result c.lay-out.result)
 planned c = flat-plan (ready c.before.before.before.before.before.before.before) (c.before.count-stored.ensures _) (rw c.before.before.count.ensures at c.lay-out.ensures)
 
 returns : tie.Need-returns
@@ -39,7 +39,7 @@ put-image-requires c κs =
 fits : (c : tie.After-put-image)
     → (let d = c.before.before.before.before in
     let a = d.before.before.before.before.before.before.before.args in
-    Fits c.put-image.new.0 (sectorAt a.child.now a.parent.now) (contents a.t).count a.size d.before.count-stored.result d.lay-out.result)
+    Fits c.put-image.new.0 (sector_at a.child.now a.parent.now) (contents a.t).count a.size d.before.count-stored.result d.lay-out.result)
 fits c =
     let d = c.before.before.before.before in
     flat-fits (ready d.before.before.before.before.before.before.before) _ _ _ _ _ (planned d) (omega arith) (rw d.before.before.count.ensures at c.put-image.ensures)

@@ -4,14 +4,14 @@ use borrow.Author.Rules.{rules}
 use Prim.Native.Nat.{◌-◌}
 use Rattle.format.specs.Flattening.{written_of, size_of}
 use Rattle.opening.specs.Answers.{contents}
-use Rattle.pairs.specs.Pairs.{sectorAt}
+use Rattle.pairs.specs.Pairs.{sector_at}
 use Rattle.composing.proofs.Entries.{Going, going-starts, going-long, going_done, going-enters, going-entered}
 use Rattle.flattening.proofs.put_entries.Statement.{statement}
 use Rattle.flattening.proofs.put_entries.Tie as tie
 
 abbrev invariant-loop : tie.invariant-loop
 invariant-loop buf₀ child t parent p at count stored₀ n₀ buf stored n =
-    Going buf₀ buf (sectorAt child parent) (contents t).count (size_of (written_of child parent)) at stored n
+    Going buf₀ buf (sector_at child parent) (contents t).count (size_of (written_of child parent)) at stored n
 
 abbrev decreases-loop : tie.decreases-loop
 decreases-loop buf₀ child t parent p at count stored₀ n₀ buf stored n = (contents t).count - n

@@ -4,13 +4,13 @@ use borrow.Author.Rules.{rules}
 use mathlib.Core.Path.{refl}
 use Prim.Native.Nat.{◌-◌}
 use Rattle.opening.specs.Answers.{contents}
-use Rattle.pairs.specs.Pairs.{sectorAt}
+use Rattle.pairs.specs.Pairs.{sector_at}
 use Rattle.composing.proofs.Entries.{Standing, standing-starts, standing-long, standing-done, standing-none, standing-steps, standing-some}
 use Rattle.flattening.proofs.put_sectors.Statement.{statement}
 use Rattle.flattening.proofs.put_sectors.Tie as tie
 
 abbrev invariant-loop : tie.invariant-loop
-invariant-loop buf₀ child t parent p most count stored₀ n₀ buf stored n = Standing buf₀ buf (sectorAt child parent) (contents t).count most stored n
+invariant-loop buf₀ child t parent p most count stored₀ n₀ buf stored n = Standing buf₀ buf (sector_at child parent) (contents t).count most stored n
 
 abbrev decreases-loop : tie.decreases-loop
 decreases-loop buf₀ child t parent p most count stored₀ n₀ buf stored n = (contents t).count - n

@@ -3,8 +3,8 @@ use native.Mathlib.Omega.{arith}
 use mathlib.Core.Path.{sym, ap, ◌∙◌, ◌≡◌}
 use Prim.Native.Nat.{ℕ, ◌-◌, ◌≤◌}
 use lib.ListN.{length}
-use Rattle.planning.specs.Plans.{sectorOf}
-use Rattle.composing.specs.Composes.{storedOf}
+use Rattle.planning.specs.Plans.{sector_of}
+use Rattle.composing.specs.Composes.{stored_of}
 use Rattle.composing.proofs.Handed.{items-few}
 use Rattle.composing.proofs.Counting.{counting-starts}
 use Rattle.importing.proofs.File.{sector-inside, file-new, file-old}
@@ -12,7 +12,7 @@ use Rattle.importing.proofs.count_stored.Statement.{statement}
 use Rattle.importing.proofs.count_stored.Tie as tie
 
 abbrev invariant-loop : tie.invariant-loop
-invariant-loop file count size stored₀ k₀ stored k = (k ≤ count) × ((block : ℕ) → stored ≡ length (storedOf block (sectorOf size file) k).items)
+invariant-loop file count size stored₀ k₀ stored k = (k ≤ count) × ((block : ℕ) → stored ≡ length (stored_of block (sector_of size file) k).items)
 
 abbrev decreases-loop : tie.decreases-loop
 decreases-loop file count size stored₀ k₀ stored k = count - k
@@ -27,7 +27,7 @@ add-stored : tie.Need-overflow-add-stored invariant-loop decreases-loop
 add-stored c =
     let d = c.before.before.before in
     let s = d.before.before in
-    omega (arith, d.loop.invariant.1 0, items-few 0 (sectorOf s.args.size s.args.file.now) d.loop.k, s.requires.few)
+    omega (arith, d.loop.invariant.1 0, items-few 0 (sector_of s.args.size s.args.file.now) d.loop.k, s.requires.few)
 
 loop-again : tie.Need-loop-preserved invariant-loop decreases-loop
 loop-again c =
@@ -46,7 +46,7 @@ returns c block =
     let d = c.before in
     let s = d.before.before in
     let e : d.loop.k ≡ s.args.count = omega arith in
-    d.loop.invariant.1 block ∙ ap (λ n. length (storedOf block (sectorOf s.args.size s.args.file.now) n).items) e
+    d.loop.invariant.1 block ∙ ap (λ n. length (stored_of block (sector_of s.args.size s.args.file.now) n).items) e
 
 pub count-stored-spec : {M : Type 1} → statement M
 count-stored-spec =

@@ -8,7 +8,7 @@ use Rattle.format.specs.Answers.{updated}
 use Rattle.format.proofs.Chains.{by, stops}
 use Rattle.format.proofs.Answers.{outcome-stops}
 use Rattle.format.proofs.Importing.{Importable, importable, composable, import-is, import-composed}
-use Rattle.planning.specs.Plans.{sectorOf}
+use Rattle.planning.specs.Plans.{sector_of}
 use Rattle.composing.specs.Composes.{Plan, Fits}
 use Rattle.composing.proofs.Laid.{image-fits, fits-lays}
 use Rattle.composing.proofs.New.{composed-full, composed-fits, composed-done}
@@ -35,7 +35,7 @@ lay-out-requires c κs = import-lays (ok c.before) (c.count-stored.ensures 0)
 
 -- and this is the plan
 planned : (c : tie.After-lay-out)
-    → (let a = c.before.before.before.before.before.before.before.before.before.args in Plan (sectorOf a.size a.file.now) (length a.file.now / a.size) a.size c.before.count-stored.result c.lay-out.result)
+    → (let a = c.before.before.before.before.before.before.before.before.before.args in Plan (sector_of a.size a.file.now) (length a.file.now / a.size) a.size c.before.count-stored.result c.lay-out.result)
 planned c = import-plan (ok c.before.before) (c.before.count-stored.ensures _) c.lay-out.ensures
 
 -- in what follows d is the place after `lay_out`
@@ -54,7 +54,7 @@ put-image-requires c κs =
 -- there is room behind the new image
 fits : (c : tie.After-put-image)
     → (let a = c.before.before.before.before.before.before.before.before.before.before.before.before.before.args in
-    Fits c.put-image.new.0 (sectorOf a.size a.file.now) (length a.file.now / a.size) a.size c.before.before.before.before.before.count-stored.result c.before.before.before.before.lay-out.result)
+    Fits c.put-image.new.0 (sector_of a.size a.file.now) (length a.file.now / a.size) a.size c.before.before.before.before.before.count-stored.result c.before.before.before.before.lay-out.result)
 fits c =
     let d = c.before.before.before.before in
     let k = ok d.before.before in

@@ -1,14 +1,14 @@
 -- `importing::put_entries` meets its contract. The invariant: what is written for the first a sectors stands. Assumes nothing.
 use native.Mathlib.Omega.{arith}
 use Prim.Native.Nat.{◌-◌}
-use Rattle.planning.specs.Plans.{sectorOf}
+use Rattle.planning.specs.Plans.{sector_of}
 use Rattle.composing.proofs.Entries.{Going, going-starts, going-long, going_done, going-enters, going-entered}
 use Rattle.importing.proofs.File.{sector-inside}
 use Rattle.importing.proofs.put_entries.Statement.{statement}
 use Rattle.importing.proofs.put_entries.Tie as tie
 
 abbrev invariant-loop : tie.invariant-loop
-invariant-loop buf₀ file count size at stored₀ a₀ buf stored a = Going buf₀ buf (sectorOf size file) count size at stored a
+invariant-loop buf₀ file count size at stored₀ a₀ buf stored a = Going buf₀ buf (sector_of size file) count size at stored a
 
 abbrev decreases-loop : tie.decreases-loop
 decreases-loop buf₀ file count size at stored₀ a₀ buf stored a = count - a

@@ -5,22 +5,22 @@ use mathlib.Core.Logic.Iff
 use mathlib.Core.Logic.{inl, inr}
 use mathlib.Core.Path.{sym}
 use native.Mathlib.Omega.{arith}
-use Rattle.format.specs.Opening.{isUserData}
+use Rattle.format.specs.Opening.{is_user_data}
 use Rattle.format.proofs.Tests.{same-iff, same_true, and-iff, and-true}
 use Rattle.format.proofs.Chains.{by}
 use Rattle.index.proofs.is_user_data.Statement.{statement}
 use Rattle.index.proofs.is_user_data.Tie as tie
 
 returns : tie.Need-returns
-unfolding isUserData
+unfolding is_user_data
 returns c = sym ((and-iff Iff.rfl same-iff).1 (inl (by c.before.is-type.ensures (not-true _ c.if1.true))))
 
 returns-2 : tie.Need-returns-2
-unfolding isUserData
+unfolding is_user_data
 returns-2 c = sym ((and-iff Iff.rfl same-iff).1 (inr (λ e. omega arith)))
 
 returns-3 : tie.Need-returns-3
-unfolding isUserData
+unfolding is_user_data
 returns-3 c =
     let d = c.before.before in
     sym (and-true _ _ (by d.before.is-type.ensures (not-false _ d.if1.false)) (same_true _ _ (omega arith)))

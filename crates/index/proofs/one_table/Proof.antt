@@ -4,29 +4,29 @@ use Prim.Native.Nat.{◌+◌, ◌*◌, ◌≤◌}
 use borrow.Author.Rules.{rules}
 use native.Mathlib.Omega.{arith}
 use lib.ListN.{length}
-use Rattle.format.specs.Layouts.{indexHeaderLength, entryCount, entryLength, entriesFrom, entries}
-use Rattle.format.specs.Opening.{entriesVerdict, offsetsWith, isTable}
+use Rattle.format.specs.Layouts.{index_header_length, entry_count, entry_length, entries_from, entries}
+use Rattle.format.specs.Opening.{entries_verdict, offsets_with, is_table}
 use Rattle.format.proofs.Chains.{stops, refuses, answers, by}
-use Rattle.index.specs.Tables.{oneAnswer, before, onlyOne}
+use Rattle.index.specs.Tables.{one_answer, before, only_one}
 use Rattle.index.proofs.Entries.{verdict-stops, verdict-goes, verdict-done, one-goes, one_none, one_single, one-many}
 use Rattle.index.proofs.one_table.Statement.{statement}
 use Rattle.index.proofs.one_table.Tie as tie
 
 abbrev invariant-loop : tie.invariant-loop
 invariant-loop s o index left₀ p₀ seen₀ left p seen =
-    (p + entryLength * left ≤ length s)
-    × (entriesVerdict s left p ≡ entriesVerdict s (entryCount s o.0) (o.0 + indexHeaderLength))
-    × (oneAnswer o.0 (before seen (offsetsWith isTable (entriesFrom s left p))) ≡ oneAnswer o.0 (offsetsWith isTable (entries s o.0)))
+    (p + entry_length * left ≤ length s)
+    × (entries_verdict s left p ≡ entries_verdict s (entry_count s o.0) (o.0 + index_header_length))
+    × (one_answer o.0 (before seen (offsets_with is_table (entries_from s left p))) ≡ one_answer o.0 (offsets_with is_table (entries s o.0)))
 
 abbrev decreases-loop : tie.decreases-loop
 decreases-loop s o index left₀ p₀ seen₀ left p seen = left
 
 loop-holds : tie.Need-loop-init invariant-loop decreases-loop
-unfolding before entries entryCount
+unfolding before entries entry_count
 loop-holds c = (omega arith, rw c.get.ensures, rw c.get.ensures)
 
 returns : tie.Need-returns invariant-loop decreases-loop
-unfolding onlyOne
+unfolding only_one
 returns c =
     refuses _
     (stops _
@@ -43,19 +43,19 @@ loop-again c =
     )
 
 returns-2 : tie.Need-returns-2 invariant-loop decreases-loop
-unfolding onlyOne
+unfolding only_one
 returns-2 c =
     let l = c.before.before.before.loop.invariant in
     answers _ _ (verdict-done _ _ _ l.1 (omega arith)) (one_none _ _ _ _ _ l.2 (omega arith) c.enum-told2.given.1)
 
 returns-3 : tie.Need-returns-3 invariant-loop decreases-loop
-unfolding onlyOne
+unfolding only_one
 returns-3 c =
     let l = c.before.before.before.before.loop.invariant in
     answers _ _ (verdict-done _ _ _ l.1 (omega arith)) (one_single _ _ _ _ _ l.2 _ (omega arith) c.before.seen.given.1)
 
 returns-4 : tie.Need-returns-4 invariant-loop decreases-loop
-unfolding onlyOne
+unfolding only_one
 returns-4 c =
     let l = c.before.before.before.loop.invariant in
     answers _ _ (verdict-done _ _ _ l.1 (omega arith)) (one-many _ _ _ _ _ l.2 (omega arith) c.enum-told3.given.1)

@@ -2,7 +2,7 @@
 use borrow.Author.Rules.{rules}
 use borrow.Author.Tests.{not-true, not-false}
 use native.Mathlib.Omega.{arith}
-use Rattle.format.specs.Layouts.{entryCount}
+use Rattle.format.specs.Layouts.{entry_count}
 use Rattle.format.proofs.Chains.{by}
 use Rattle.indexing.proofs.Turns.{Counting, count-starts, count-skips, count-keeps, count-ends}
 use Rattle.indexing.proofs.count_kept.Statement.{statement}
@@ -15,7 +15,7 @@ abbrev decreases-loop : tie.decreases-loop
 decreases-loop s index left₀ p₀ kept₀ left p kept = left
 
 loop-holds : tie.Need-loop-init invariant-loop decreases-loop
-unfolding entryCount
+unfolding entry_count
 loop-holds c = count-starts _ _ _ c.get.ensures c.before.before.requires
 
 loop-again : tie.Need-loop-preserved invariant-loop decreases-loop

@@ -1,6 +1,6 @@
 -- `indexing::kept_entry` meets its contract. Assumes nothing.
 use mathlib.Core.Path.{sym}
-use Rattle.format.specs.Committing.{keptEntry}
+use Rattle.format.specs.Committing.{kept_entry}
 use Rattle.format.proofs.Tests.{choose-true, choose-false}
 use Rattle.format.proofs.Chains.{by}
 use borrow.Author.Rules.{rules}
@@ -8,11 +8,11 @@ use Rattle.indexing.proofs.kept_entry.Statement.{statement}
 use Rattle.indexing.proofs.kept_entry.Tie as tie
 
 returns : tie.Need-returns
-unfolding keptEntry
+unfolding kept_entry
 returns c = sym (choose-true _ _ _ (by c.before.is-user-data.ensures c.if1.true))
 
 returns-2 : tie.Need-returns-2
-unfolding keptEntry
+unfolding kept_entry
 returns-2 c = sym (choose-false _ _ _ (by c.before.is-user-data.ensures c.if1.false))
 
 pub kept-entry-spec : {M : Type 1} → statement M

@@ -4,7 +4,7 @@ use native.Mathlib.Omega.{arith}
 use mathlib.Core.Path.{ap, ◌∙◌}
 use lib.ListN.{length}
 use Rattle.fields.proofs.Overwrite.{length_part}
-use Rattle.format.specs.Layouts.{entryCount}
+use Rattle.format.specs.Layouts.{entry_count}
 use Rattle.format.proofs.Chains.{by}
 use borrow.Author.Rules.{rules}
 use Rattle.indexing.proofs.Turns.{Putting, put-starts, put-skips, put_keeps, put-room, put-ends}
@@ -21,7 +21,7 @@ get-requires : tie.Need-get-requires invariant-loop decreases-loop
 get-requires c κs = (omega (arith, ap length c.part.ensures ∙ length_part _ 0 _ (omega arith)), omega arith)
 
 loop-holds : tie.Need-loop-init invariant-loop decreases-loop
-unfolding entryCount
+unfolding entry_count
 loop-holds c = put-starts _ _ _ _ _ _ (rw c.before.part.ensures at c.get.ensures) c.before.before.before.before.requires
 
 entry-requires : tie.Need-entry-requires invariant-loop decreases-loop

@@ -3,7 +3,7 @@ use mathlib.Core.Path.{◌≡◌, refl, sym}
 use native.Mathlib.Omega.{arith}
 use borrow.Author.Rules.{rules}
 use Rattle.format.specs.declared.TableKind.TheVariants.{First, Second}
-use Rattle.format.specs.Layouts.{entryPointer}
+use Rattle.format.specs.Layouts.{entry_pointer}
 use Rattle.format.proofs.Checks.{first-second}
 use Rattle.format.proofs.Chains.{by}
 use Rattle.opening.specs.Answers.{contents}
@@ -19,23 +19,23 @@ second : (c : tie.After-enum-told2) → (contents c.before.before.before.args.t)
 second c = by c.before.before.kind-of.ensures c.enum-told2.given.1
 
 decode-requires : tie.Need-decode-requires
-unfolding entryPointer
+unfolding entry_pointer
 decode-requires c κs =
     let s = c.before.before.before in
     (s.requires.shift, omega arith, no_wrap First s.args.entry _ 0 s.ranges.entry.fits (omega arith) (λ e. refl))
 
 decode-requires-2 : tie.Need-decode-requires-2
-unfolding entryPointer
+unfolding entry_pointer
 decode-requires-2 c κs =
     let s = c.before.before.before in
     (s.requires.shift, s.requires.alignment, no_wrap Second s.args.entry _ _ s.ranges.entry.fits s.requires.alignment (λ e. absurd (first-second (sym e))))
 
 returns : tie.Need-returns
-unfolding entryPointer
+unfolding entry_pointer
 returns c = let f = first c.before in rw (f, c.before.before.before.before.requires.flat f) c.decode.ensures
 
 returns-2 : tie.Need-returns-2
-unfolding entryPointer
+unfolding entry_pointer
 returns-2 c = rw (second c.before) c.decode2.ensures
 
 pub entry-decoded-spec : {M : Type 1} → statement M

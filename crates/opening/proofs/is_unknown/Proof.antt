@@ -1,7 +1,7 @@
 -- `opening::is_unknown` meets its contract. Assumes nothing.
 use borrow.Author.Rules.{rules}
 use Rattle.format.specs.Tests.{differs}
-use Rattle.format.specs.Layouts.{entryStatus}
+use Rattle.format.specs.Layouts.{entry_status}
 use Rattle.format.specs.Reading.{unknown}
 use Rattle.format.proofs.Chains.{by}
 use Rattle.opening.proofs.is_unknown.Statement.{statement}
@@ -12,7 +12,7 @@ unfolding unknown differs
 returns c = rw (by c.before.before.kind-of.ensures c.enum_told.given.1)
 
 returns-2 : tie.Need-returns-2
-unfolding unknown differs entryStatus
+unfolding unknown differs entry_status
 returns-2 c = rw (by c.before.before.kind-of.ensures c.enum-told2.given.1)
 
 pub is-unknown-spec : {M : Type 1} → statement M

@@ -1,7 +1,7 @@
 -- `opening::is_unwritten` meets its contract. Assumes nothing.
 use borrow.Author.Rules.{rules}
 use Rattle.format.specs.Tests.{same}
-use Rattle.format.specs.Layouts.{entryStatus}
+use Rattle.format.specs.Layouts.{entry_status}
 use Rattle.format.specs.Reading.{unwritten}
 use Rattle.format.proofs.Chains.{by}
 use Rattle.opening.proofs.is_unwritten.Statement.{statement}
@@ -12,7 +12,7 @@ unfolding unwritten same
 returns c = rw (by c.before.before.kind-of.ensures c.enum_told.given.1)
 
 returns-2 : tie.Need-returns-2
-unfolding unwritten same entryStatus
+unfolding unwritten same entry_status
 returns-2 c = rw (by c.before.before.kind-of.ensures c.enum-told2.given.1)
 
 pub is-unwritten-spec : {M : Type 1} → statement M

@@ -26,7 +26,7 @@ use denote.Struct.Laws as LL
 use denote.Triple.Entry.{on_entry}
 use denote.Triple.Statement.{Contract}
 use Rattle.opening.specs.declared.Image.{Image}
-use Rattle.opening.specs.Answers.{numbersOf}
+use Rattle.opening.specs.Answers.{numbers_of}
 use Rattle.opening.proofs.Passed.{the_view, the-numbers, fits}
 use Rattle.opening.proofs.Walks.{Ends, ends, walk-proves}
 use Rattle.opening.specs.contracts.Image as T
@@ -48,7 +48,7 @@ module _ {M : Type 1} {𝓤 : Ura M} (𝓛 : Logic 𝓤) (mem : Memory → SProp
   mach = T'.lowered d
 
   abbrev made : Val
-  made = S'.lowered (numbersOf d)
+  made = S'.lowered (numbers_of d)
 
   abbrev End : Contract 𝓤
   End = Ends {m = 0} 𝓛 (the_view ∷ []) the-numbers (numbers.clauses 𝓛 mem run)
@@ -57,13 +57,13 @@ module _ {M : Type 1} {𝓤 : Ura M} (𝓛 : Logic 𝓤) (mem : Memory → SProp
   y = ((κs, qs, tt, (d, tt), (mach ∷ [], tt)), tt)
 
   -- numbers own nothing but facts
-  exits : Is S.the_row (numbersOf d) (made ∷ []) → ent 𝓤 (on_entry 𝓛 numbers.signature κs qs (d, tt) (mach ∷ [], tt)) (End.post y made)
+  exits : Is S.the_row (numbers_of d) (made ∷ []) → ent 𝓤 (on_entry 𝓛 numbers.signature κs qs (d, tt) (mach ∷ [], tt)) (End.post y made)
   exits is =
       qed 𝓛 ((‵ (flft κs.0 qs.0) ⊛ ‵ ftrue) ∷ ‵ (owns (T.the_row α ∷ []) (d, tt) (mach ∷ [], tt)) ∷ []) ∵
-      suffices ! _ (ends {m = 0} 𝓛 (the_view ∷ []) the-numbers (numbers.clauses 𝓛 mem run) y made (numbersOf d) (fact_i 𝓤 (numbersOf d ≡ numbersOf d) (emp 𝓤) refl)) $ frame ! $ drop ! $
-      owned ! S.the_row (Is S.the_row) (LL.makes S.the_type S'.the_plain 𝓛) (numbersOf d) (made ∷ []) is $ done !
+      suffices ! _ (ends {m = 0} 𝓛 (the_view ∷ []) the-numbers (numbers.clauses 𝓛 mem run) y made (numbers_of d) (fact_i 𝓤 (numbers_of d ≡ numbers_of d) (emp 𝓤) refl)) $ frame ! $ drop ! $
+      owned ! S.the_row (Is S.the_row) (LL.makes S.the_type S'.the_plain 𝓛) (numbers_of d) (made ∷ []) is $ done !
 
-  walk : (𝓣 : Tables 𝓤 H) → Holds (has_ty (T'.mir (named 0)) mach) × WT mach → Is S.the_row (numbersOf d) (made ∷ [])
+  walk : (𝓣 : Tables 𝓤 H) → Holds (has_ty (T'.mir (named 0)) mach) × WT mach → Is S.the_row (numbers_of d) (made ∷ [])
       → ent 𝓤 (on_entry 𝓛 numbers.signature κs qs (d, tt) (mach ∷ [], tt)) (WpFn 𝓤 H 𝓣.C 𝓣.Λ code.function (mach ∷ []) (End.post y))
   walk 𝓣 wt is =
       qed 𝓛 ((‵ (flft κs.0 qs.0) ⊛ ‵ ftrue) ∷ ‵ (owns (T.the_row α ∷ []) (d, tt) (mach ∷ [], tt)) ∷ []) ∵ enter ! 𝓣.C 𝓣.Λ code.function (mach ∷ []) _ $
@@ -83,4 +83,4 @@ unfolding code.routine
 numbers-spec 𝓤 𝓛 𝓜 𝓡 =
     walk-proves {m = 0} 𝓛 𝓜 𝓡 (the_view ∷ []) the-numbers (numbers.clauses 𝓛 𝓜.mem 𝓡.run) code.env name code.function (code.unfolded 𝓤 𝓛.H 𝓜 𝓡) (λ κs qs a g are.
     via 𝓤 _ (fst∗ 𝓤 _ (emp 𝓤)) (walk 𝓛 𝓜.mem 𝓡.run κs qs a.0 (tables_of 𝓤 𝓛.H 𝓜 (tables 𝓤 𝓛.H 𝓜 𝓡 code.env)) (fits {m = 0} the_view κs 𝓛 a.0 _ are.0)
-    (LL.owes S.the_type S'.the_laws (numbersOf a.0) (LL.owed (T.the_type (named_lft 1 0 tt κs)) (T'.the_laws (named_lft 1 0 tt κs)) a.0 _ are.0).1)))
+    (LL.owes S.the_type S'.the_laws (numbers_of a.0) (LL.owed (T.the_type (named_lft 1 0 tt κs)) (T'.the_laws (named_lft 1 0 tt κs)) a.0 _ are.0).1)))

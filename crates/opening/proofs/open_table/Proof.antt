@@ -3,7 +3,7 @@ use mathlib.Core.Path.{sym}
 use native.Mathlib.Omega.{arith}
 use borrow.Author.Rules.{rules}
 use Rattle.format.specs.Facts.{TableOk}
-use Rattle.format.specs.Opening.{openedAs}
+use Rattle.format.specs.Opening.{opened_as}
 use Rattle.format.proofs.Checks.{table-ok}
 use Rattle.format.proofs.Chains.{refuses, accepts, by}
 use Rattle.opening.specs.Answers.{outcome}
@@ -31,7 +31,7 @@ negative-at-requires : tie.Need-negative-at-requires
 negative-at-requires c κs = (ok c.before.before.before.before.before.before.before.before).head
 
 returns-2 : tie.Need-returns-2
-unfolding outcome openedAs
+unfolding outcome opened_as
 returns-2 c =
     let l = c.before.before.before.before.before.before.before.before.before.layout_of.ensures in
     accepts (rw c.before.before.before.before.before.before.before.before.before.before.before.before.before.kind-at.ensures at (by c.before.before.before.before.before.before.before.before.before.before.enum_told.given.1 c.before.before.before.before.before.before.before.before.before.before.before.before.table-verdict.ensures))

@@ -5,7 +5,7 @@ use native.Mathlib.Omega.{arith}
 use borrow.Author.Rules.{rules}
 use lib.ListN.{length}
 use Rattle.format.specs.declared.TableKind.TheVariants.{First, Second}
-use Rattle.format.specs.Reading.{tableEntry}
+use Rattle.format.specs.Reading.{table_entry}
 use Rattle.format.proofs.Chains.{by}
 use Rattle.opening.specs.Answers.{contents}
 use Rattle.opening.proofs.Accepted.{entry-inside}
@@ -52,11 +52,11 @@ get-requires-2 : tie.Need-get-requires-2
 get-requires-2 c κs = let k = second-inside c.before.before in (omega arith, omega arith)
 
 returns : tie.Need-returns
-unfolding tableEntry
+unfolding table_entry
 returns c = rw (first c.before.before.before) c.get.ensures
 
 returns-2 : tie.Need-returns-2
-unfolding tableEntry
+unfolding table_entry
 returns-2 c = rw (second c.before.before.before) c.get2.ensures
 
 pub table-entry-spec : {M : Type 1} → statement M

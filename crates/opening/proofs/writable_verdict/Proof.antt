@@ -1,8 +1,8 @@
 -- `opening::writable_verdict` meets its contract. Assumes nothing.
 use mathlib.Core.Path.{sym, ap, ◌∙◌}
 use borrow.Author.Rules.{rules}
-use Rattle.format.specs.Opening.{openVerdict}
-use Rattle.format.specs.Writing.{writableVerdict}
+use Rattle.format.specs.Opening.{open_verdict}
+use Rattle.format.specs.Writing.{writable_verdict}
 use Rattle.format.proofs.Refusals.{answer-accepted, answer-refused}
 use Rattle.format.proofs.Chains.{stops, goes, by}
 use Rattle.opening.specs.Answers.{outcome}
@@ -10,18 +10,18 @@ use Rattle.opening.proofs.writable_verdict.Statement.{statement}
 use Rattle.opening.proofs.writable_verdict.Tie as tie
 
 returns : tie.Need-returns
-unfolding writableVerdict openVerdict
+unfolding writable_verdict open_verdict
 returns c = stops _ (stops _ (by c.before.v.given.1 c.before.before.before.header-verdict.ensures))
 
 open-index-requires : tie.Need-open-index-requires
 open-index-requires c κs = sym (by c.enum_told.given.1 c.before.before.header-verdict.ensures)
 
 returns-2 : tie.Need-returns-2
-unfolding writableVerdict outcome
+unfolding writable_verdict outcome
 returns-2 c = stops _ (sym (answer-refused _ _ _ (sym (ap outcome (sym c.before.opened.given.1) ∙ c.before.before.before.open-index.ensures))))
 
 returns-3 : tie.Need-returns-3
-unfolding writableVerdict outcome
+unfolding writable_verdict outcome
 returns-3 c =
     let q = answer-accepted _ _ _ (sym (ap outcome (sym c.before.before.opened2.given.1) ∙ c.before.before.before.before.open-index.ensures)) in
     goes (sym q.0) (rw q.1 c.kind-verdict.ensures)

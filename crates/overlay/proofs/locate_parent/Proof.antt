@@ -1,7 +1,7 @@
 -- `overlay::locate_parent` meets its contract. Assumes nothing.
 use borrow.Author.Rules.{rules}
 use mathlib.Core.Path.{sym, ap, ◌∙◌}
-use Rattle.format.specs.Answers.{located, locatedOver}
+use Rattle.format.specs.Answers.{located, located_over}
 use Rattle.overlay.proofs.Pair.{small, parent-at, parent-refused}
 use Rattle.overlay.proofs.locate_parent.Statement.{statement}
 use Rattle.overlay.proofs.locate_parent.Tie as tie
@@ -11,12 +11,12 @@ unfolding located
 parent-refusal-requires c κs = small _ _ _ (ap located (sym c.before.l.given.1) ∙ c.before.before.before.locate-in.ensures)
 
 returns : tie.Need-returns
-unfolding located locatedOver
+unfolding located located_over
 returns c =
     parent-refused _ _ _ _ (ap located (sym c.before.before.l.given.1) ∙ c.before.before.before.before.locate-in.ensures) c.parent-refusal.ensures
 
 returns-2 : tie.Need-returns-2
-unfolding located locatedOver
+unfolding located located_over
 returns-2 c = parent-at _ _ _ (ap located (sym c.before.l2.given.1) ∙ c.before.before.before.locate-in.ensures)
 
 pub locate-parent-spec : {M : Type 1} → statement M

@@ -4,16 +4,16 @@ use native.Mathlib.Omega.{arith}
 use mathlib.Core.Path.{◌≡◌, sym, ap, ◌∙◌}
 use Rattle.fields.specs.Bytes.{part}
 use Rattle.format.specs.Refusals.{accepted}
-use Rattle.format.specs.Answers.{locatedOver}
-use Rattle.format.specs.Overlaying.{locateOver}
+use Rattle.format.specs.Answers.{located_over}
+use Rattle.format.specs.Overlaying.{locate_over}
 use Rattle.overlay.proofs.Pair.{reads_none, of-child, of-parent}
 use Rattle.overlay.proofs.read_over.Statement.{statement}
 use Rattle.overlay.proofs.read_over.Tie as tie
 
 found : (c : tie.After-l)
-    → (let s = c.before.before.before.before.before.args in accepted c.l.given.0.0 ≡ locateOver s.child.now s.parent.now s.a.0)
-unfolding locatedOver
-found c = ap locatedOver (sym c.l.given.1) ∙ c.before.before.locate-over.ensures
+    → (let s = c.before.before.before.before.before.args in accepted c.l.given.0.0 ≡ locate_over s.child.now s.parent.now s.a.0)
+unfolding located_over
+found c = ap located_over (sym c.l.given.1) ∙ c.before.before.locate-over.ensures
 
 part-requires-2 : tie.Need-part-requires-2
 part-requires-2 c κs = (of-child _ _ _ _ (found c.before.before.before.before) (omega (arith, c.if1.true))).0
@@ -26,8 +26,8 @@ part-requires-3 c κs = (of-parent _ _ _ _ (found c.before.before.before.before)
 
 -- where the pair refuses, the empty part is what is read
 returns-2 : tie.Need-returns-2
-unfolding part locatedOver
-returns-2 c = c.part.ensures ∙ reads_none _ _ _ _ (ap locatedOver (sym c.before.enum_told.given.1) ∙ c.before.before.before.locate-over.ensures)
+unfolding part located_over
+returns-2 c = c.part.ensures ∙ reads_none _ _ _ _ (ap located_over (sym c.before.enum_told.given.1) ∙ c.before.before.before.locate-over.ensures)
 
 returns-3 : tie.Need-returns-3
 returns-3 c = c.part3.ensures ∙ (of-parent _ _ _ _ (found c.before.before.before.before.before) c.before.if1.false).1

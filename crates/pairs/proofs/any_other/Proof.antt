@@ -3,7 +3,7 @@ use mathlib.Core.Path.{◌≡◌, ap}
 use Prim.Native.Nat.{◌-◌, ◌≤◌}
 use native.Mathlib.Omega.{arith}
 use borrow.Author.Rules.{rules}
-use Rattle.format.specs.Flattening.{written_of, anyOther}
+use Rattle.format.specs.Flattening.{written_of, any_other}
 use Rattle.opening.specs.Answers.{contents}
 use Rattle.pairs.proofs.Written.{rest, rest_all, other-found, other_goes, other_none, other-done}
 use Rattle.pairs.proofs.any_other.Statement.{statement}
@@ -11,13 +11,13 @@ use Rattle.pairs.proofs.any_other.Tie as tie
 
 abbrev invariant-loop : tie.invariant-loop
 invariant-loop child t parent p size count n₀ n =
-    (n ≤ (contents t).count) × (anyOther size (rest child parent (contents t).count n) ≡ anyOther size (written_of child parent))
+    (n ≤ (contents t).count) × (any_other size (rest child parent (contents t).count n) ≡ any_other size (written_of child parent))
 
 abbrev decreases-loop : tie.decreases-loop
 decreases-loop child t parent p size count n₀ n = (contents t).count - n
 
 loop-holds : tie.Need-loop-init invariant-loop decreases-loop
-loop-holds c = (omega arith, ap (anyOther _) (rest_all _ _ _ c.before.before.before.requires.opens))
+loop-holds c = (omega arith, ap (any_other _) (rest_all _ _ _ c.before.before.before.requires.opens))
 
 sector-requires : tie.Need-sector-requires invariant-loop decreases-loop
 sector-requires c κs = (c.before.before.before.before.before.requires, omega arith)

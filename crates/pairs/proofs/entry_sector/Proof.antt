@@ -2,7 +2,7 @@
 use mathlib.Core.Path.{◌≡◌, ◌∙◌}
 use borrow.Author.Rules.{rules}
 use Rattle.fields.specs.Bytes.{part}
-use Rattle.format.specs.Reading.{notWritten, pointerAt}
+use Rattle.format.specs.Reading.{not_written, pointer_at}
 use Rattle.opening.specs.Answers.{contents}
 use Rattle.opening.proofs.Accepted.{decodes}
 use Rattle.opening.proofs.Entries.{written_is, pointer_is}
@@ -13,11 +13,11 @@ use Rattle.pairs.proofs.entry_sector.Tie as tie
 table-entry-requires : tie.Need-table-entry-requires
 table-entry-requires c κs = (c.before.requires.opens, c.before.requires.inside)
 
-gap : (c : tie.After-is-unwritten) → let a = c.before.before.before.args in c.is-unwritten.result ≡ notWritten a.s.now (contents a.t) a.n.0
+gap : (c : tie.After-is-unwritten) → let a = c.before.before.before.args in c.is-unwritten.result ≡ not_written a.s.now (contents a.t) a.n.0
 gap c = written_is _ _ _ c.before.table-entry.ensures c.is-unwritten.ensures
 
 points : (c : tie.After-entry-decoded)
-    → let a = c.before.before.before.before.before.args in c.entry-decoded.result ≡ pointerAt a.s.now (contents a.t) a.n.0
+    → let a = c.before.before.before.before.before.args in c.entry-decoded.result ≡ pointer_at a.s.now (contents a.t) a.n.0
 points c = pointer_is _ _ _ c.before.before.before.table-entry.ensures c.entry-decoded.ensures
 
 returns : tie.Need-returns

@@ -4,13 +4,13 @@ use mathlib.Core.Path.{◌≡◌, refl, ◌∙◌}
 use Prim.Native.Nat.{◌≤◌}
 use native.Mathlib.Omega.{arith}
 use borrow.Author.Rules.{rules}
-use Rattle.pairs.specs.Pairs.{sectorAt, heldBelow}
+use Rattle.pairs.specs.Pairs.{sector_at, held_below}
 use Rattle.pairs.proofs.Written.{held_none, held_found, held-goes, new_is}
 use Rattle.pairs.proofs.is_new.Statement.{statement}
 use Rattle.pairs.proofs.is_new.Tie as tie
 
 abbrev invariant-loop : tie.invariant-loop
-invariant-loop child t parent p own left₀ left = (left ≤ left₀) × (heldBelow (sectorAt child parent) own left ≡ heldBelow (sectorAt child parent) own left₀)
+invariant-loop child t parent p own left₀ left = (left ≤ left₀) × (held_below (sector_at child parent) own left ≡ held_below (sector_at child parent) own left₀)
 
 abbrev decreases-loop : tie.decreases-loop
 decreases-loop child t parent p own left₀ left = left

@@ -2,7 +2,7 @@
 use mathlib.Core.Path.{sym, ◌∙◌}
 use native.Mathlib.Omega.{arith}
 use Rattle.format.specs.Tests.{below}
-use Rattle.format.specs.Writing.{mostSectors, largestSize}
+use Rattle.format.specs.Writing.{most_sectors, largest_size}
 use Rattle.format.proofs.Tests.{same_true, same-iff, below_true, below-iff, or-true-left, or_true_right, or-rest}
 use Rattle.pairs.proofs.is_over.Statement.{statement}
 use Rattle.pairs.proofs.is_over.Tie as tie
@@ -21,8 +21,8 @@ unfolding below
 returns-4 c =
     let a = c.before.before.before.args in
     sym
-    (or-rest _ (same-iff.1 (λ e. omega arith)) ∙ or-rest _ ((below-iff {a = mostSectors} {b = a.count}).1 (omega arith))
-    ∙ or-rest _ ((below-iff {a = largestSize} {b = a.size}).1 (omega arith)))
+    (or-rest _ (same-iff.1 (λ e. omega arith)) ∙ or-rest _ ((below-iff {a = most_sectors} {b = a.count}).1 (omega arith))
+    ∙ or-rest _ ((below-iff {a = largest_size} {b = a.size}).1 (omega arith)))
 
 pub is-over-spec : {M : Type 1} → statement M
 is-over-spec = tie.close (tie.spec returns returns-2 returns-3 returns-4)

@@ -4,7 +4,7 @@ use mathlib.Core.Path.{◌≡◌, ap, ◌∙◌, subst}
 use Prim.Native.Nat.{◌<◌}
 use borrow.Author.Rules.{rules}
 use Rattle.fields.specs.Bytes.{part}
-use Rattle.format.specs.Reading.{outside, entryNumber}
+use Rattle.format.specs.Reading.{outside, entry_number}
 use Rattle.opening.specs.Answers.{contents, outcome, IsNumbered}
 use Rattle.pairs.proofs.Sectors.{parent-unopened, parent-outside, parent-entry, parent-bytes}
 use Rattle.pairs.proofs.parent_sector.Statement.{statement}
@@ -19,7 +19,7 @@ numbered : (c : tie.After-numbered)
     let t = contents d.before.p.given.0.0 in
     let a = d.before.before.before.before.args.a.0 in
     let n = c.numbered.given.0.0.0 in
-    (outside t a ≡ false) × (entryNumber t a ≡ n) × (n < t.count)
+    (outside t a ≡ false) × (entry_number t a ≡ n) × (n < t.count)
 unfolding IsNumbered
 numbered c = subst (IsNumbered _ _) c.numbered.given.1 c.before.before.entry-number.ensures
 

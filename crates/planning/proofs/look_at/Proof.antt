@@ -2,7 +2,7 @@
 use mathlib.Core.Path.{sym, ◌∙◌}
 use Rattle.format.proofs.Tests.{choose-true, choose-false}
 use Rattle.format.proofs.Chains.{by}
-use Rattle.planning.specs.Plans.{lookedAt}
+use Rattle.planning.specs.Plans.{looked_at}
 use Rattle.planning.proofs.Looking.{next-looks}
 use Rattle.planning.proofs.Next.{entry-small}
 use Rattle.planning.proofs.look_at.Statement.{statement}
@@ -20,11 +20,11 @@ look-requires c κs =
     next-looks _ s.args.a.0 _ s.requires.0 (by c.before.is-next.ensures c.if1.true) s.requires.3
 
 returns : tie.Need-returns
-unfolding lookedAt
+unfolding looked_at
 returns c = c.look.ensures ∙ sym (choose-true _ _ _ (by c.before.before.is-next.ensures c.before.if1.true))
 
 returns-2 : tie.Need-returns-2
-unfolding lookedAt
+unfolding looked_at
 returns-2 c = (rw c.old-item.ensures) ∙ sym (choose-false _ _ _ (by c.before.before.is-next.ensures c.before.if1.false))
 
 pub look-at-spec : {M : Type 1} → statement M

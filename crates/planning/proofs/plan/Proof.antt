@@ -2,14 +2,14 @@
 use borrow.Author.Rules.{rules}
 use Prim.Native.Nat.{◌-◌}
 use native.Mathlib.Omega.{arith}
-use Rattle.format.specs.Committing.{entryNumbers}
+use Rattle.format.specs.Committing.{entry_numbers}
 use Rattle.opening.specs.Answers.{contents}
 use Rattle.planning.proofs.Progress.{Planning, plan-starts, plan-goes, plan-done}
 use Rattle.planning.proofs.plan.Statement.{statement}
 use Rattle.planning.proofs.plan.Tie as tie
 
 abbrev invariant-loop : tie.invariant-loop
-invariant-loop s t addresses size sectors count largest₀ stored₀ k₀ a₀ largest stored k a = Planning s (contents t) (entryNumbers (contents t) addresses) size sectors a k stored largest
+invariant-loop s t addresses size sectors count largest₀ stored₀ k₀ a₀ largest stored k a = Planning s (contents t) (entry_numbers (contents t) addresses) size sectors a k stored largest
 
 abbrev decreases-loop : tie.decreases-loop
 decreases-loop s t addresses size sectors count largest₀ stored₀ k₀ a₀ largest stored k a = t.count - a

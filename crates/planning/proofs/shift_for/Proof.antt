@@ -6,7 +6,7 @@ use native.Mathlib.Nat.{pow-suc, le_antisymm, lt_of_not-le, le_of_suc-le-suc}
 use native.Mathlib.Omega.{arith}
 use lib.Count.{count_leading_zeros, leading_length, leading_le}
 use lib.Pow.{pow_mono}
-use Rattle.format.specs.Committing.{shiftFor}
+use Rattle.format.specs.Committing.{shift_for}
 use Rattle.format.proofs.Storing.{shift_fits, shift-least}
 use Rattle.planning.proofs.shift_for.Statement.{statement}
 use Rattle.planning.proofs.shift_for.Tie as tie
@@ -16,8 +16,8 @@ shortest : (n m j : ℕ) → 2 ^ m ≤ 2 * n + 1 → n < 2 ^ j → m ≤ j
 shortest n m j l h =
     le_of_suc-le-suc (lt_of_not-le (λ (g : suc j ≤ m). let p : 2 ^ j * 2 ≤ 2 ^ m = rw pow-suc at (pow_mono g) in omega arith))
 
-length-is-shift : (n : ℕ) → n < 2 ^ 64 → 64 - count_leading_zeros 64 n ≡ shiftFor n
-unfolding shiftFor
+length-is-shift : (n : ℕ) → n < 2 ^ 64 → 64 - count_leading_zeros 64 n ≡ shift_for n
+unfolding shift_for
 length-is-shift n h =
     let (m, s, below, long) = leading_length 64 n h in
     let q : 64 - count_leading_zeros 64 n ≡ m = omega arith in

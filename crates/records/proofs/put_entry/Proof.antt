@@ -2,13 +2,13 @@
 use native.Mathlib.Omega.{arith}
 use Rattle.fields.specs.Layout.{num}
 use Rattle.fields.proofs.Records.{laid-first, laid_next}
-use Rattle.format.specs.Layouts.{entryBytes}
+use Rattle.format.specs.Layouts.{entry_bytes}
 use borrow.Author.Rules.{rules}
 use Rattle.records.proofs.put_entry.Statement.{statement}
 use Rattle.records.proofs.put_entry.Tie as tie
 
 returns : tie.Need-returns
-unfolding entryBytes
+unfolding entry_bytes
 returns c =
     let p3 = c.before.before in
     let p2 = p3.before.before.before.before in

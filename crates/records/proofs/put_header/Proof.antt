@@ -2,13 +2,13 @@
 use native.Mathlib.Omega.{arith}
 use Rattle.fields.specs.Layout.{num, raw}
 use Rattle.fields.proofs.Records.{laid-first, laid_next, laid_more}
-use Rattle.format.specs.Layouts.{headerBytes}
+use Rattle.format.specs.Layouts.{header_bytes}
 use borrow.Author.Rules.{rules}
 use Rattle.records.proofs.put_header.Statement.{statement}
 use Rattle.records.proofs.put_header.Tie as tie
 
 returns : tie.Need-returns
-unfolding headerBytes
+unfolding header_bytes
 returns c =
     let p6 = c.before.before in
     let p5 = p6.before.before.before.before in

@@ -1,13 +1,13 @@
 -- `records::put_image` meets its contract. Assumes nothing.
 use native.Mathlib.Omega.{arith}
-use Rattle.format.specs.Creating.{createdUsed, createdIndexAt}
+use Rattle.format.specs.Creating.{created_used, created_index_at}
 use Rattle.records.proofs.Created.{created-image}
 use borrow.Author.Rules.{rules}
 use Rattle.records.proofs.put_image.Statement.{statement}
 use Rattle.records.proofs.put_image.Tie as tie
 
 returns : tie.Need-returns
-unfolding createdUsed createdIndexAt
+unfolding created_used created_index_at
 returns c =
     let p5 = c.before.before in
     let p4 = p5.before.before.before.before in
@@ -19,7 +19,7 @@ returns c =
     (rw entry.user-data-entry.ensures at p4.put-entry.ensures) p5.seal-index.ensures
 
 pub put-image-spec : {M : Type 1} → statement M
-unfolding createdUsed createdIndexAt
+unfolding created_used created_index_at
 put-image-spec =
     tie.close
     (tie.spec

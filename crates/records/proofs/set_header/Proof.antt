@@ -1,11 +1,11 @@
 -- `records::set_header` meets its contract. Assumes nothing.
-use Rattle.format.specs.Writing.{setHeader}
+use Rattle.format.specs.Writing.{set_header}
 use borrow.Author.Rules.{rules}
 use Rattle.records.proofs.set_header.Statement.{statement}
 use Rattle.records.proofs.set_header.Tie as tie
 
 returns : tie.Need-returns
-unfolding setHeader
+unfolding set_header
 returns c =
     rw (c.before.before.put2.ensures, c.before.before.before.before.before.before.put.ensures)
 

@@ -4,7 +4,7 @@ use Prim.Native.Nat.{◌-◌, ◌<◌}
 use native.Mathlib.Omega.{arith}
 use lib.ListN.{length}
 use Rattle.search.specs.declared.Item.TheVariants.{Missing}
-use Rattle.search.specs.Found.{itemFound}
+use Rattle.search.specs.Found.{item_found}
 use Rattle.search.proofs.First.{Searching, Comparing, search-done, bytes-agree, bytes-differ, bytes-done}
 use Rattle.search.proofs.Stored.{holds, goal, room, among-starts, among-compares}
 use Rattle.search.proofs.among.Statement.{statement}
@@ -46,11 +46,11 @@ search-again c =
     (i.loop.invariant.0, bytes-differ _ _ _ i.loop.invariant.1 (short c.before.before.before) c.if2.true)
 
 returns : tie.Need-returns invariant-loop decreases-loop invariant-search decreases-search
-unfolding itemFound
+unfolding item_found
 returns c = rw c.before.search.invariant.0 (search-done _ _ _ c.before.search.invariant.1 c.search-test.false)
 
 returns-2 : tie.Need-returns-2 invariant-loop decreases-loop invariant-search decreases-search
-unfolding itemFound
+unfolding item_found
 returns-2 c = bytes-done _ _ _ c.before.loop.invariant.1 (omega arith)
 
 mul-start : tie.Need-overflow-mul-start invariant-loop decreases-loop invariant-search decreases-search

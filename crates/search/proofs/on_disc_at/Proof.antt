@@ -4,11 +4,11 @@ use mathlib.Core.Path.{◌≡◌, refl}
 use Prim.Native.Nat.{◌-◌, ◌<◌}
 use native.Mathlib.Omega.{arith}
 use lib.ListN.{length}
-use Rattle.format.specs.Committing.{holdsSector, onDisc}
+use Rattle.format.specs.Committing.{holds_sector, on_disc}
 use Rattle.format.proofs.Chains.{by}
 use Rattle.opening.specs.Answers.{contents}
 use Rattle.search.specs.declared.TableEntry.TheVariants.{Missing}
-use Rattle.search.specs.Found.{entryFound}
+use Rattle.search.specs.Found.{entry_found}
 use Rattle.search.proofs.First.{Searching, Comparing, search-starts, search-goes, search-done, bytes-agree, bytes-differ, bytes-done}
 use Rattle.search.proofs.Disc.{empty-other, size-other, size_same}
 use Rattle.search.proofs.on_disc_at.Statement.{statement}
@@ -16,14 +16,14 @@ use Rattle.search.proofs.on_disc_at.Tie as tie
 
 abbrev invariant-loop : tie.invariant-loop
 invariant-loop s t sector size found₀ a₀ start j₀ a-end found a j =
-    (a ≡ a₀) × (found ≡ Missing) × Comparing (holdsSector s (contents t) sector) t.count (onDisc s (contents t) sector) s sector a start j
+    (a ≡ a₀) × (found ≡ Missing) × Comparing (holds_sector s (contents t) sector) t.count (on_disc s (contents t) sector) s sector a start j
 
 abbrev decreases-loop : tie.decreases-loop
 decreases-loop s t sector size found₀ a₀ start j₀ a-end found a j = length sector - j
 
 abbrev invariant-search : tie.invariant-search
 invariant-search s t sector size found₀ a₀ a-end found a =
-    (found ≡ Missing) × Searching (holdsSector s (contents t) sector) t.count (onDisc s (contents t) sector) a
+    (found ≡ Missing) × Searching (holds_sector s (contents t) sector) t.count (on_disc s (contents t) sector) a
 
 abbrev decreases-search : tie.decreases-search
 decreases-search s t sector size found₀ a₀ a-end found a = t.count - a
@@ -33,7 +33,7 @@ short : (c : tie.Else2 invariant-loop decreases-loop invariant-search decreases-
 short c = omega (arith, c.before.loop.invariant.2.most)
 
 search-holds : tie.Need-search-init invariant-loop decreases-loop invariant-search decreases-search
-unfolding onDisc
+unfolding on_disc
 search-holds c = (refl, search-starts _ _ _ refl)
 
 slot-at-requires : tie.Need-slot-at-requires invariant-loop decreases-loop invariant-search decreases-search
@@ -72,11 +72,11 @@ loop-again c =
     (l.loop.invariant.0, l.loop.invariant.1, bytes-agree _ _ _ l.loop.invariant.2 (short c.before.before.before) c.if3.false)
 
 returns : tie.Need-returns invariant-loop decreases-loop invariant-search decreases-search
-unfolding entryFound
+unfolding entry_found
 returns c = rw c.before.search.invariant.0 (search-done _ _ _ c.before.search.invariant.1 (omega arith))
 
 returns-2 : tie.Need-returns-2 invariant-loop decreases-loop invariant-search decreases-search
-unfolding entryFound
+unfolding entry_found
 returns-2 c = bytes-done _ _ _ c.before.loop.invariant.2 (omega arith)
 
 pub on-disc-at-spec : {M : Type 1} → statement M

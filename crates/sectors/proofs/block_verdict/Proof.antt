@@ -1,28 +1,28 @@
 -- `sectors::block_verdict` meets its contract. Assumes nothing.
 use native.Mathlib.Omega.{arith}
 use borrow.Author.Rules.{rules}
-use Rattle.format.specs.Reading.{blockVerdict}
+use Rattle.format.specs.Reading.{block_verdict}
 use Rattle.format.proofs.Tests.{below_true, below-iff, differs_true, differs-iff}
 use Rattle.format.proofs.Chains.{stop, on, stop-last, on-last, by}
 use Rattle.sectors.proofs.block_verdict.Statement.{statement}
 use Rattle.sectors.proofs.block_verdict.Tie as tie
 
 returns : tie.Need-returns
-unfolding blockVerdict
+unfolding block_verdict
 returns c = stop _ (below_true _ _ (omega arith))
 
 returns-2 : tie.Need-returns-2
-unfolding blockVerdict
+unfolding block_verdict
 returns-2 c = on _ (below-iff.1 (omega arith)) (stop _ (differs_true _ _ (λ e. omega arith)))
 
 returns-3 : tie.Need-returns-3
-unfolding blockVerdict
+unfolding block_verdict
 returns-3 c =
     on _ (below-iff.1 (omega arith))
     (on _ (differs-iff.1 (omega arith)) (stop _ (by c.before.block-malformed.ensures c.if3.true)))
 
 returns-4 : tie.Need-returns-4
-unfolding blockVerdict
+unfolding block_verdict
 returns-4 c =
     let m = c.before.before.before in
     on _ (below-iff.1 (omega arith))
@@ -30,7 +30,7 @@ returns-4 c =
     (on _ (by m.before.block-malformed.ensures m.if3.false) (stop-last (below_true _ _ (omega arith)))))
 
 returns-5 : tie.Need-returns-5
-unfolding blockVerdict
+unfolding block_verdict
 returns-5 c =
     let m = c.before.before.before in
     on _ (below-iff.1 (omega arith))

@@ -2,8 +2,8 @@
 use borrow.Author.Rules.{rules}
 use mathlib.Core.Path.{◌≡◌, sym, ap, ◌∙◌}
 use Rattle.format.specs.Refusals.{accepted, answer}
-use Rattle.format.specs.Layouts.{indexOffset, entries}
-use Rattle.format.specs.Reading.{addressVerdict, pointerOf}
+use Rattle.format.specs.Layouts.{index_offset, entries}
+use Rattle.format.specs.Reading.{address_verdict, pointer_of}
 use Rattle.format.specs.Answers.{located}
 use Rattle.opening.specs.Answers.{contents}
 use Rattle.sectors.specs.Found.{found}
@@ -15,7 +15,7 @@ given : (c : tie.After-f2)
     → let s = c.before.before.before.before.before.args.s.now in
     let t = contents c.before.before.before.before.before.args.t in
     let a = c.before.before.before.before.before.args.v.address.0 in
-    accepted c.f2.given.0.0 ≡ answer (addressVerdict s (entries s (indexOffset s)) t a) (pointerOf s t a)
+    accepted c.f2.given.0.0 ≡ answer (address_verdict s (entries s (index_offset s)) t a) (pointer_of s t a)
 unfolding found
 given c = ap found (sym c.f2.given.1) ∙ c.before.before.find-address.ensures
 

@@ -4,8 +4,8 @@ use mathlib.Core.Path.{◌≡◌, refl}
 use Prim.Native.Nat.{◌+◌, ◌*◌, ◌≤◌}
 use native.Mathlib.Omega.{arith}
 use lib.ListN.{length}
-use Rattle.format.specs.Layouts.{DBLK, entryLength, entriesFrom}
-use Rattle.format.specs.Opening.{offsetsOf}
+use Rattle.format.specs.Layouts.{DBLK, entry_length, entries_from}
+use Rattle.format.specs.Opening.{offsets_of}
 use Rattle.format.specs.Reading.{has}
 use Rattle.format.proofs.Chains.{by}
 use Rattle.sectors.proofs.Indexed.{indexed-found, indexed-goes, indexed-done}
@@ -14,7 +14,7 @@ use Rattle.sectors.proofs.names.Tie as tie
 
 abbrev invariant-loop : tie.invariant-loop
 invariant-loop s left b p₀ n₀ p n =
-    (p + entryLength * n ≤ length s) × (has b.0 (offsetsOf DBLK (entriesFrom s n p)) ≡ has b.0 (offsetsOf DBLK (entriesFrom s left p₀)))
+    (p + entry_length * n ≤ length s) × (has b.0 (offsets_of DBLK (entries_from s n p)) ≡ has b.0 (offsets_of DBLK (entries_from s left p₀)))
 
 abbrev decreases-loop : tie.decreases-loop
 decreases-loop s left b p₀ n₀ p n = n

@@ -1,7 +1,7 @@
 -- `sectors::number_verdict` meets its contract. Assumes nothing.
 use native.Mathlib.Omega.{arith}
 use borrow.Author.Rules.{rules}
-use Rattle.format.proofs.Tests.{atLeast-true, atLeast-iff}
+use Rattle.format.proofs.Tests.{at_least-true, at_least-iff}
 use Rattle.format.proofs.Chains.{stop-last, on-last}
 use Rattle.sectors.proofs.number_verdict.Statement.{statement}
 use Rattle.sectors.proofs.number_verdict.Tie as tie
@@ -12,12 +12,12 @@ div-if1 c = let k = c.before.before.before.before.before.requires.size in omega 
 returns : tie.Need-returns
 returns c =
     rw (← c.before.before.before.get.ensures, ← c.before.before.get2.ensures)
-    (stop-last (atLeast-true _ _ (omega arith)))
+    (stop-last (at_least-true _ _ (omega arith)))
 
 returns-2 : tie.Need-returns-2
 returns-2 c =
     rw (← c.before.before.before.get.ensures, ← c.before.before.get2.ensures)
-    (on-last _ (atLeast-iff.1 (omega arith)))
+    (on-last _ (at_least-iff.1 (omega arith)))
 
 pub number-verdict-spec : {M : Type 1} → statement M
 number-verdict-spec =

@@ -3,7 +3,7 @@ use native.Mathlib.Omega.{arith}
 use borrow.Author.Rules.{rules}
 use Prim.Native.Nat.{◌+◌, ◌*◌, ◌≤◌}
 use lib.ListN.{length}
-use Rattle.format.specs.Layouts.{blockHeaderLength}
+use Rattle.format.specs.Layouts.{block_header_length}
 use Rattle.format.specs.Reading.{place_of}
 use Rattle.format.proofs.Checks.{item-inside}
 use Rattle.sectors.proofs.place.Statement.{statement}
@@ -11,7 +11,7 @@ use Rattle.sectors.proofs.place.Tie as tie
 
 -- the item lies in the image
 inside : (c : tie.After-get) → let p = c.before.before.before.before.args.p in
-    p.block.0 + blockHeaderLength + p.item.0 * c.get.result ≤ length c.before.before.before.before.args.s.now
+    p.block.0 + block_header_length + p.item.0 * c.get.result ≤ length c.before.before.before.before.args.s.now
 inside c =
     let k = c.before.before.before.before.requires in
     rw c.get.ensures (omega (arith, item-inside _ _ _ k, k.block.fits))

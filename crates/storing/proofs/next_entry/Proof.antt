@@ -4,16 +4,16 @@ use native.Mathlib.Omega.{arith}
 use mathlib.Core.Bool.{true}
 use mathlib.Core.Path.{◌≡◌}
 use Rattle.format.proofs.Chains.{by}
-use Rattle.format.specs.Committing.{entryNumbers}
+use Rattle.format.specs.Committing.{entry_numbers}
 use Rattle.opening.specs.Answers.{contents}
-use Rattle.planning.specs.Plans.{isNext}
+use Rattle.planning.specs.Plans.{is_next}
 use Rattle.planning.proofs.Next.{entry-small}
 use Rattle.storing.proofs.Turns.{listed, handed-inside, steps, encodes, handed-in, old-readable, kept}
 use Rattle.storing.proofs.next_entry.Statement.{statement}
 use Rattle.storing.proofs.next_entry.Tie as tie
 
 -- the address is the next one, from here on
-is-next : (c : tie.After-store-arg) → (let s = c.before.before.before.before.before.args in isNext (entryNumbers (contents s.t) s.addresses.now) s.k s.a.0 ≡ true)
+is-next : (c : tie.After-store-arg) → (let s = c.before.before.before.before.before.args in is_next (entry_numbers (contents s.t) s.addresses.now) s.k s.a.0 ≡ true)
 is-next c = by c.before.before.is-next.ensures c.before.if1.true
 
 mul-part : tie.Need-overflow-mul-part

@@ -2,7 +2,7 @@
 use borrow.Author.Rules.{rules}
 use native.Mathlib.Omega.{arith}
 use Prim.Native.Nat.{◌-◌}
-use Rattle.format.specs.Committing.{entryNumbers}
+use Rattle.format.specs.Committing.{entry_numbers}
 use Rattle.opening.specs.Answers.{contents}
 use Rattle.storing.proofs.Pass.{Going, starts, turns, goes, ends}
 use Rattle.storing.proofs.put_entries.Statement.{statement}
@@ -10,7 +10,7 @@ use Rattle.storing.proofs.put_entries.Tie as tie
 
 abbrev invariant-loop : tie.invariant-loop
 invariant-loop buf₀ used t addresses size sectors at shift count stored₀ k₀ a₀ buf stored k a =
-    Going buf₀ used (contents t) (entryNumbers (contents t) addresses) size sectors at.0 shift buf stored k a
+    Going buf₀ used (contents t) (entry_numbers (contents t) addresses) size sectors at.0 shift buf stored k a
 
 abbrev decreases-loop : tie.decreases-loop
 decreases-loop buf₀ used t addresses size sectors at shift count stored₀ k₀ a₀ buf stored k a = count - a

@@ -1,7 +1,7 @@
 -- `tables::alignment_at` meets its contract. Assumes nothing.
 use native.Mathlib.Omega.{arith}
 use borrow.Author.Rules.{rules}
-use Rattle.format.specs.Layouts.{tableAlignment}
+use Rattle.format.specs.Layouts.{table_alignment}
 use Rattle.tables.proofs.alignment_at.Statement.{statement}
 use Rattle.tables.proofs.alignment_at.Tie as tie
 
@@ -12,11 +12,11 @@ get-requires c κs =
     omega arith
 
 returns : tie.Need-returns
-unfolding tableAlignment
+unfolding table_alignment
 returns c = rw c.enum_told.given.1
 
 returns-2 : tie.Need-returns-2
-unfolding tableAlignment
+unfolding table_alignment
 returns-2 c = rw c.before.before.enum-told2.given.1 c.get.ensures
 
 pub alignment-at-spec : {M : Type 1} → statement M

@@ -1,6 +1,6 @@
 -- `tables::extent_verdict` meets its contract. Assumes nothing.
 use borrow.Author.Rules.{rules}
-use Rattle.format.specs.Opening.{extentVerdict}
+use Rattle.format.specs.Opening.{extent_verdict}
 use Rattle.tables.proofs.extent_verdict.Statement.{statement}
 use Rattle.tables.proofs.extent_verdict.Tie as tie
 
@@ -8,7 +8,7 @@ second-verdict-requires : tie.Need-second-verdict-requires
 second-verdict-requires c κs = rw c.enum-told2.given.1 at c.before.before.before.requires
 
 returns : tie.Need-returns
-unfolding extentVerdict
+unfolding extent_verdict
 returns c = rw c.enum_told.given.1
 
 returns-2 : tie.Need-returns-2

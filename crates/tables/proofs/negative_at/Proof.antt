@@ -1,7 +1,7 @@
 -- `tables::negative_at` meets its contract. Assumes nothing.
 use native.Mathlib.Omega.{arith}
 use borrow.Author.Rules.{rules}
-use Rattle.format.specs.Layouts.{tableNegative}
+use Rattle.format.specs.Layouts.{table_negative}
 use Rattle.tables.proofs.negative_at.Statement.{statement}
 use Rattle.tables.proofs.negative_at.Tie as tie
 
@@ -12,11 +12,11 @@ get-short-requires c κs =
     omega arith
 
 returns : tie.Need-returns
-unfolding tableNegative
+unfolding table_negative
 returns c = rw c.enum_told.given.1
 
 returns-2 : tie.Need-returns-2
-unfolding tableNegative
+unfolding table_negative
 returns-2 c = rw c.before.before.enum-told2.given.1 c.get-short.ensures
 
 pub negative-at-spec : {M : Type 1} → statement M

@@ -1,11 +1,11 @@
 -- `text::refused` meets its contract. Assumes nothing.
 use borrow.Author.Rules.{rules}
-use Rattle.text.specs.Text.{refusedLine}
+use Rattle.text.specs.Text.{refused_line}
 use Rattle.text.proofs.refused.Statement.{statement}
 use Rattle.text.proofs.refused.Tie as tie
 
 returns : tie.Need-returns
-unfolding refusedLine
+unfolding refused_line
 returns c = c.before.before.write-end.ensures
 
 pub refused-spec : {M : Type 1} → statement M
