@@ -1,4 +1,6 @@
 // Internal: the checksum of document 01, CRC-64/XZ.
+#![tactic(auto)]
+
 ghost use Rattle.std.specs.Prelude.{◌≡◌};
 ghost use Rattle.crc64.specs.Crc.{run, crc_of};
 

@@ -28,7 +28,7 @@ fn double(t: &mut [u64; 2048], k: usize, j: usize, x: u64)
     requires k_bound { k < 8 }
     requires j_bound { j < 8 }
     requires x_value { x ≡ shifts (200 + 8 * k) (2 ^ j) }
-    requires filled { Filled entry 2048 t.old (256 * k + 2 ^ j) }
+    requires below_filled { Filled entry 2048 t.old (256 * k + 2 ^ j) }
     ensures { Filled entry 2048 t.new (256 * k + 2 ^ (j + 1)) }
 {
     let half: usize = 1 << j;
@@ -43,8 +43,8 @@ fn double(t: &mut [u64; 2048], k: usize, j: usize, x: u64)
 // Table k.
 fn table(t: &mut [u64; 2048], k: usize, p: &[u64; 64])
     requires k_bound { k < 8 }
-    requires filled { Filled power 64 p.now 64 }
-    requires filled_2 { Filled entry 2048 t.old (256 * k) }
+    requires powers_filled { Filled power 64 p.now 64 }
+    requires below_filled { Filled entry 2048 t.old (256 * k) }
     ensures { Filled entry 2048 t.new (256 * k + 256) }
 {
     t[256 * k] = 0;

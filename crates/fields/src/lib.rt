@@ -1,5 +1,7 @@
 // Internal: bytes in a lent slice. Little-endian numbers are read and written; runs of bytes are taken, copied, cleared
 // and compared. Offsets and counts are u64, as in the format. And how large a signed number is.
+#![tactic(auto)]
+
 ghost use Rattle.std.specs.Prelude.{◌≡◌, ◌+◌, ◌-◌, ◌≤◌, length, replicate, nat_abs};
 ghost use Rattle.fields.specs.Bytes.{part, field, to_le, overwrite, equal};
 

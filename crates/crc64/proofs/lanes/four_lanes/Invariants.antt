@@ -1,0 +1,18 @@
+-- `lanes::four_lanes` meets its contract: what is left, into the joined register, is all into the first. Assumes nothing.
+use mathlib.Core.Path.{◌≡◌, sym, ap, ap₂, ◌∙◌}
+use Prim.Native.Nat.{◌+◌, ◌-◌, ◌≤◌, ◌%◌}
+use native.Mathlib.Omega.{arith}
+use borrow.Author.Rules.{rules}
+use lib.ListN.{length, drop}
+use Rattle.crc64.specs.Crc.{run}
+use Rattle.crc64.specs.Internal.{joined}
+use Rattle.crc64.proofs.Joined.{lanes_start, lanes_next}
+use Rattle.crc64.proofs.Run.{run-done}
+use lib.Bits.{bit_xor}
+use Rattle.crc64.proofs.lanes.four_lanes.Given as goal
+
+abbrev pub invariant-loop-i : goal.invariant-loop-i
+invariant-loop-i l = (l.i ≤ length l.s) × (l.i % 32 ≡ 0) × (run (joined l.a l.b l.c l.d) (drop l.i l.s) ≡ run l.register l.s)
+
+abbrev pub decreases-loop-i : goal.decreases-loop-i
+decreases-loop-i l = length l.s - l.i

@@ -1,0 +1,14 @@
+-- `tables::table` meets its contract: the entries below 256 k + 2^j are filled in. Assumes nothing.
+use mathlib.Core.Path.{◌≡◌, ap, ◌∙◌}
+use Prim.Native.Nat.{ℕ, ◌-◌, ◌+◌, ◌*◌, ◌^◌, ◌≤◌}
+use native.Mathlib.Omega.{arith}
+use borrow.Author.Rules.{rules}
+use Rattle.crc64.specs.Internal.{entry, Filled}
+use Rattle.crc64.proofs.Fill.{filled-to, filled_more, entry_zero, power-is}
+use Rattle.crc64.proofs.tables.table.Given as goal
+
+abbrev pub invariant-loop-j : goal.invariant-loop-j
+invariant-loop-j l = (l.j ≤ 8) × Filled entry 2048 l.t (256 * l.k + 2 ^ l.j)
+
+abbrev pub decreases-loop-j : goal.decreases-loop-j
+decreases-loop-j l = 8 - l.j

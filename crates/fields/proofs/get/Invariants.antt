@@ -1,0 +1,17 @@
+-- `fields::get` meets its contract. The invariant: the bytes from `at + i` on are read. Assumes nothing.
+use mathlib.Core.Path.{◌≡◌}
+use Prim.Native.Nat.{ℕ, ◌+◌, ◌*◌, ◌-◌, ◌^◌, ◌≤◌, ◌<◌}
+use native.Mathlib.Omega.{arith}
+use native.Mathlib.Nat.{sub_self, sub-zero, add-zero}
+use lib.Dec.{lit<}
+use mir.Val.{Fits}
+use mir.Syntax.{w8, w64}
+use Rattle.fields.specs.Bytes.{field}
+use Rattle.fields.proofs.Numbers.{field-zero, field-turn, pow-turn, pow_room}
+use Rattle.fields.proofs.get.Given as goal
+
+abbrev pub invariant-loop-i : goal.invariant-loop-i
+invariant-loop-i l = (l.i ≤ l.k) × (l.acc ≡ field l.s (l.at + l.i) (l.k - l.i)) × (l.acc < 256 ^ (l.k - l.i))
+
+abbrev pub decreases-loop-i : goal.decreases-loop-i
+decreases-loop-i l = l.i
