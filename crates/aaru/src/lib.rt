@@ -1,5 +1,7 @@
 // The library: the public calls. None asks anything of its caller; each refuses by the numbers of document 01, in its order, and says
 // where in the image. A call that is refused changes no byte of what it was lent. An image is the first `used` bytes of a lent buffer.
+#![tactic(auto)]
+
 ghost use Rattle.std.specs.Prelude.{◌≡◌};
 ghost use Rattle.format.specs.Opening.{sector_count};
 ghost use Rattle.format.specs.Reading.{locate, read};

@@ -2,6 +2,8 @@
 // call returns 0 or the number of its refusal, and values come back behind pointers, which a refused call leaves as they are; it sets `place` alone, which an
 // accepted one leaves. As in `aaru`, no call asks anything of its caller; what the language itself takes for granted of pointers that come from outside is said
 // in the header.
+#![tactic(auto)]
+
 ghost use Rattle.std.specs.Prelude.{◌≡◌};
 ghost use Rattle.format.specs.Opening.{sector_count};
 ghost use Rattle.format.specs.Reading.{locate};

@@ -3,6 +3,8 @@
 //
 // Cost: beside the checks, two searches for each handed-in sector, one by `planning` and one by `storing`; else linear in what is
 // read and written.
+#![tactic(auto)]
+
 ghost use Rattle.std.specs.Prelude.{false, ◌++◌, ◌≡◌, ℕ, ◌≤◌, length, take};
 ghost use Rattle.fields.specs.Bytes.{overwrite};
 ghost use Rattle.format.specs.declared.TableKind.TheVariants.{First};
@@ -24,7 +26,7 @@ use opening::Opened;
 use planning::Planned;
 
 // Where the new table and the new index stand, and where the new image ends; how many of the old index entries are kept.
-#[derive(Drop)]
+#[derive(Clone, Copy)]
 struct Layout {
     table: ByteOffset,
     index: ByteOffset,

@@ -1,5 +1,7 @@
 // Internal: the checks of a call's arguments, before an image is looked at: 30 to 34 of document 01, all of creating's, 35 included, and
 // 4/13's of an import, 42 among them, and 8/13's of a flattening.
+#![tactic(auto)]
+
 ghost use Rattle.std.specs.Prelude.{◌≡◌, ◌*◌, length};
 ghost use Rattle.format.specs.Tests.{same, differs, below, ◌or◌};
 ghost use Rattle.format.specs.Layouts.{application_length};

@@ -1,4 +1,6 @@
 // Internal: exports of the checksum for the measurements of bench/, and for nothing else.
+#![tactic(auto)]
+
 ghost use Rattle.std.specs.Prelude.{◌≡◌};
 ghost use Rattle.crc64.specs.Crc.{ones, run, crc_of};
 

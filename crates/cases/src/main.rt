@@ -1,5 +1,7 @@
 // Runs cases through the compiled code, and prints what they give, a line each. The file stdout has what they should give: the
 // published check value, and numbers and bytes as document 01 lays them out.
+#![tactic(auto)]
+
 ghost use Rattle.std.specs.Prelude.{◌≤◌, ◌<◌};
 
 use lines::{bytes_line, hex_line, same_line};

@@ -5,6 +5,8 @@
 // look blocks up takes at most E times I comparisons of numbers, and E plus I for each run of neighbours where neighbouring entries share
 // a block; to see that an entry's block is named again, at most half of I times I; each damaged block, at most E. To see whether a child leaves a
 // written entry to its parent, one of the child's table entries is read each time that the parent's is.
+#![tactic(auto)]
+
 ghost use Rattle.std.specs.Prelude.{true, false, not, List, ◌∷◌, ◌≡◌, ℕ, ◌+◌, ◌-◌, ◌*◌, ◌^◌, ◌≤◌, ◌<◌, length};
 ghost use Rattle.format.specs.Tests.{◌and◌};
 ghost use Rattle.format.specs.Refusals.{accepted, first_refusal};
@@ -20,21 +22,21 @@ use format::{ByteOffset, EntryNumber, INDEX_OFFSET, Pointer, Refusal, SectorAddr
 use opening::{Image, Numbered, Opened};
 
 // The first table entry that is refused, and how; their number where none is.
-#[derive(Drop)]
+#[derive(Clone, Copy)]
 pub struct First {
     pub number: EntryNumber,
     pub verdict: Verdict,
 }
 
 // Which table entries are looked at: all, or those of a parent whose addresses a child has not written.
-#[derive(Drop)]
+#[derive(Clone, Copy)]
 enum Scope {
     All,
     Gaps(Child),
 }
 
 // What opening found of the child, and the first of its table entries that doesn't count.
-#[derive(Drop)]
+#[derive(Clone, Copy)]
 struct Child {
     opened: Opened,
     limit: EntryNumber,

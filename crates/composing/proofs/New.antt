@@ -97,7 +97,7 @@ module _ (block : ℕ) (f : ℕ → List ℕ) where
 
   -- the number of an entry is beside its pointer, and that of an entry without a sector is not there
   other : (k : ℕ) → given (numbers_of f k) (pointers k) k ≡ none
-  other k = given-other (numbers_of f k) (pointers k) k (all_map (λ n l e. absurd (omega arith)) (numbers-below k))
+  other k = given-other k (numbers_of f k) (pointers k) (all_map (λ n l e. absurd (omega arith)) (numbers-below k))
 
   given_is : (k n : ℕ) → n < k → given (numbers_of f k) (pointers k) n ≡ pointer_of block (items n) (f n)
   unfolding or_else

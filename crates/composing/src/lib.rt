@@ -3,6 +3,8 @@
 // written, so only they are searched.
 //
 // Cost: each sector is compared with those stored before it, up to the first that is equal; else linear in what is written.
+#![tactic(auto)]
+
 ghost use Rattle.std.specs.Prelude.{◌≢◌, ◌≡◌, ◌≤◌};
 ghost use Rattle.format.specs.Writing.{most_sectors, largest_size, most_addresses};
 ghost use Rattle.composing.specs.Composes.{layout_of, Enters, Entered, Filled, Finished};
@@ -11,7 +13,7 @@ use format::{ByteOffset, CREATED_ENTRIES, ItemNumber};
 
 // Where the index of the new image stands, and where it ends; where the table and the index behind it stand, and where all ends; the
 // table's shift.
-#[derive(Drop)]
+#[derive(Clone, Copy)]
 pub struct Layout {
     pub first: ByteOffset,
     pub used: u64,

@@ -1,4 +1,6 @@
 // What the programs `export` and `import` print, as functions on slices.
+#![tactic(auto)]
+
 ghost use Rattle.text.specs.Buffer.{Prints};
 ghost use Rattle.converting.specs.Texts.{export_text, import_text};
 

@@ -1,4 +1,6 @@
 // Prints the flat file of the image on standard input. All but reading and writing is `converting::export`.
+#![tactic(auto)]
+
 use libc::{STDIN_FILENO, STDOUT_FILENO};
 
 fn main() {

@@ -3,6 +3,8 @@
 //
 // Cost of an export by either rule: opening, and the checks of all sectors, in which each block is summed once (see `checking`); then at most four passes over
 // the table, and one over what is written.
+#![tactic(auto)]
+
 ghost use Rattle.std.specs.Prelude.{◌≡◌, ◌+◌, ◌*◌, ◌≤◌, ◌<◌, length};
 ghost use Rattle.fields.specs.Bytes.{overwrite};
 ghost use Rattle.format.specs.Tests.{same, differs, below, ◌and◌};

@@ -5,6 +5,8 @@
 // most (see `pair_checking`); some passes over the addresses. Where there is room for all sectors, each is compared with the stored ones twice, at most n n / 2
 // times in all each time; else with those at lower addresses, at most E n / 2 times in all, and then with the stored ones once. A comparison ends at the first
 // difference, and a search at the first that is equal. Else linear in what is read and written.
+#![tactic(auto)]
+
 ghost use mathlib.Core.List.{[], flatten as flattened};
 ghost use Rattle.std.specs.Prelude.{◌≢◌, ◌≡◌, ℕ, ◌+◌, ◌≤◌, length};
 ghost use Rattle.fields.specs.Bytes.{overwrite};
@@ -25,7 +27,7 @@ pub use format::{Refusal, Updated};
 use opening::{Opened, Opening};
 
 // What a new image is stamped with: the application's version, the media type, and two times.
-#[derive(Drop)]
+#[derive(Clone, Copy)]
 struct Stamp {
     major: u8,
     minor: u8,

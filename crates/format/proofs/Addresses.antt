@@ -47,11 +47,11 @@ given-named d (a ∷ l) (y ∷ ys) (suc i) h k m =
     ∙ given-named d l ys i (rising-tail a l h) (le_of_suc-le-suc k) (le_of_suc-le-suc m)
 
 -- every other address
-pub given-other : {A : Type 0} (l : List ℕ) (ys : List A) (a : ℕ) → All (λ (b : ℕ). b ≢ a) l → given l ys a ≡ none
+pub given-other : {A : Type 0} (a : ℕ) (l : List ℕ) (ys : List A) → All (λ (b : ℕ). b ≢ a) l → given l ys a ≡ none
 unfolding given
-given-other _ ys a done = refl
-given-other _ [] a (more h hs) = refl
-given-other _ (y ∷ ys) a (more {a = b} {l = l} h hs) = choose-false _ _ _ (same-iff.1 h) ∙ given-other l ys a hs
+given-other a _ ys done = refl
+given-other a _ [] (more h hs) = refl
+given-other a _ (y ∷ ys) (more {a = b} {l = l} h hs) = choose-false _ _ _ (same-iff.1 h) ∙ given-other a l ys hs
 
 -- ---- the numbers of their table entries
 pub inside-each : (t : Opened) (l : List ℤ) → any_outside t l ≡ false → All (λ (a : ℤ). outside t a ≡ false) l

@@ -159,7 +159,7 @@ module _ (buffer : List ℕ) (is_bytes : IsBytes buffer) (used : ℕ) (addresses
             (λ e. read-20 y i disc.sound.opens a (outside-y a ∙ e) ∙ sym (read-20 x o s.opens a e))
             (λ e.
             reads-inside a e
-            ∙ ap (λ (v : Option (List ℕ)). handed_or v (read_at x o a)) (given-other numbers ds _ (numbers-other (opened x o) lowest a e addresses d.inside h)))
+            ∙ ap (λ (v : Option (List ℕ)). handed_or v (read_at x o a)) (given-other _ numbers ds (numbers-other (opened x o) lowest a e addresses d.inside h)))
             (on-or-off (outside (opened x o) a));
       }
 

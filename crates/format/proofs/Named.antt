@@ -198,12 +198,12 @@ module _ (f : Entry → Bool) (P : Entry → Type 0) (says : (e : Entry) → (f 
       record { entry = e; only = found ((says e).0 n) (none-forth es rest); place = place })
       (λ n q. let r = ih q in record { entry = r.entry; only = later (test-off e n) r.only; place = r.place }) h
 
-  only-back : (es : List Entry) (e : Entry) → Only P e es → offsets_with f es ≡ e.offset.0 ∷ []
-  only-back _ e (found {l = es} u none) = offsets-yes f e es ((says e).1 u) ∙ ap (λ (l : List ℕ). e.offset.0 ∷ l) (none-back es none)
-  only-back _ e (later {b = b} {l = es} h r) = offsets-no f b es (test-not b h) ∙ only-back es e r
+  only-back : (e : Entry) (es : List Entry) → Only P e es → offsets_with f es ≡ e.offset.0 ∷ []
+  only-back e _ (found {l = es} u none) = offsets-yes f e es ((says e).1 u) ∙ ap (λ (l : List ℕ). e.offset.0 ∷ l) (none-back es none)
+  only-back e _ (later {b = b} {l = es} h r) = offsets-no f b es (test-not b h) ∙ only-back e es r
 
   only-named : (es : List Entry) (t : ℕ) → (offsets_with f es ≡ t ∷ []) ↔ OnlyEntry P es t
-  only-named es t = (only-forth es t, λ k. only-back es k.entry k.only ∙ ap (λ (n : ℕ). n ∷ []) k.place)
+  only-named es t = (only-forth es t, λ k. only-back k.entry es k.only ∙ ap (λ (n : ℕ). n ∷ []) k.place)
 
 -- every entry that is so is the one at that offset
 only-all : (P : Entry → Type 0) (e : Entry) (es : List Entry) → Only P e es → All (λ (b : Entry). P b → b ≡ e) es

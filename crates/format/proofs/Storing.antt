@@ -89,9 +89,9 @@ among-at [] d j h e = absurd (not-suc-le-zero h)
 among-at (s ∷ l) d zero h e = here e
 among-at (s ∷ l) d (suc j) h e = there (among-at l d j (le_of_suc-le-suc h) e)
 
-not-among : (l : List (List ℕ)) (d : List ℕ) → ((j : ℕ) → j < length l → get_or l j [] ≢ d) → ¬ Among l d
-not-among _ d h (here e) = h 0 (omega arith) e
-not-among _ d h (there {l = l} k) = not-among l d (λ j b. h (suc j) (omega arith)) k
+not-among : (d : List ℕ) (l : List (List ℕ)) → ((j : ℕ) → j < length l → get_or l j [] ≢ d) → ¬ Among l d
+not-among d _ h (here e) = h 0 (omega arith) e
+not-among d _ h (there {l = l} k) = not-among d l (λ j b. h (suc j) (omega arith)) k
 
 -- what the search among them says of it
 pub among-some : (l : List (List ℕ)) (d : List ℕ) (j : ℕ) → among_stored l d ≡ some j → Among l d
@@ -100,7 +100,7 @@ among-some l d j e = let r = among_stored-found l d j e in among-at l d j r.0 r.
 pub among_none : (l : List (List ℕ)) (d : List ℕ) → among_stored l d ≡ none → ¬ Among l d
 unfolding among_stored
 among_none l d e =
-    not-among l d (λ j h q.
+    not-among d l (λ j h q.
     never (ap (λ (x : List ℕ). equal x d) q ∙ equal-refl d) (first_with-none (λ i. equal (get_or l i []) d) (length l) 0 j e (omega arith) (omega arith)))
 
 -- ---- the handed-in sectors

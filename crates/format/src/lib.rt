@@ -1,45 +1,47 @@
 // Internal: the types that travel between the crates, in code and in the definitions of specs/, and the header's layout. A byte offset,
 // an item number, a sector address and an entry number are separate things, and none is passed for another.
 
+#![tactic(auto)]
+
 // A place in an image.
-#[derive(Drop)]
+#[derive(Clone, Copy)]
 pub struct ByteOffset(pub u64);
 
 // Which item of a data block.
-#[derive(Drop)]
+#[derive(Clone, Copy)]
 pub struct ItemNumber(pub u64);
 
 // Which sector of a disc. 11/13: "Addresses become signed".
-#[derive(Drop)]
+#[derive(Clone, Copy)]
 pub struct SectorAddress(pub i64);
 
 // Which entry of a disc's table: "the entry number is address + `negative`".
-#[derive(Drop)]
+#[derive(Clone, Copy)]
 pub struct EntryNumber(pub u64);
 
 // The two kinds of table: 'DDT*' and 'DDT2' (11/13).
-#[derive(Drop)]
+#[derive(Clone, Copy)]
 pub enum TableKind {
     First,
     Second,
 }
 
 // Why a call is refused: the number of document 01, and the byte offset in the image of what it is about, 0 where there is none.
-#[derive(Drop)]
+#[derive(Clone, Copy)]
 pub struct Refusal {
     pub number: u32,
     pub place: ByteOffset,
 }
 
 // What a check, or a chain of checks, comes to.
-#[derive(Drop)]
+#[derive(Clone, Copy)]
 pub enum Verdict {
     Passes,
     Refuses(Refusal),
 }
 
 // An entry of an index. Its fields of four bytes are u64, as every number that is read from an image.
-#[derive(Drop)]
+#[derive(Clone, Copy)]
 pub struct Entry {
     pub blockType: u64,
     pub dataType: u64,
@@ -47,91 +49,91 @@ pub struct Entry {
 }
 
 // What a table entry encodes: a data block and one of its items.
-#[derive(Drop)]
+#[derive(Clone, Copy)]
 pub struct Pointer {
     pub block: ByteOffset,
     pub item: ItemNumber,
 }
 
 // Where a sector lies in its image.
-#[derive(Drop)]
+#[derive(Clone, Copy)]
 pub struct Place {
     pub start: ByteOffset,
     pub size: u64,
 }
 
 // The addresses of a disc: how many there are, and the lowest; the others follow it.
-#[derive(Drop)]
+#[derive(Clone, Copy)]
 pub struct AddressRange {
     pub count: u64,
     pub lowest: SectorAddress,
 }
 
 // What asking for the number of sectors answers.
-#[derive(Drop)]
+#[derive(Clone, Copy)]
 pub enum Counted {
     Sectors(AddressRange),
     Refused(Refusal),
 }
 
 // What locating a sector answers.
-#[derive(Drop)]
+#[derive(Clone, Copy)]
 pub enum Located {
     At(Place),
     Refused(Refusal),
 }
 
 // Where a sector of a disc over its parent (8/13) lies: in which image, 0 for the child and 1 for the parent, and where there.
-#[derive(Drop)]
+#[derive(Clone, Copy)]
 pub struct Sourced {
     pub image: u64,
     pub place: Place,
 }
 
 // What locating a sector of a disc over its parent answers.
-#[derive(Drop)]
+#[derive(Clone, Copy)]
 pub enum LocatedOver {
     In(Sourced),
     Refused(Refusal),
 }
 
 // What asking which of the two images it is a part of answers.
-#[derive(Drop)]
+#[derive(Clone, Copy)]
 pub enum SourceOver {
     Image(u64),
     Refused(Refusal),
 }
 
 // What a call that writes answers: how many bytes of the buffer the image has, and where its index is.
-#[derive(Drop)]
+#[derive(Clone, Copy)]
 pub struct Placed {
     pub used: u64,
     pub index: ByteOffset,
 }
 
 // What creating, committing, rolling back, importing and flattening answer.
-#[derive(Drop)]
+#[derive(Clone, Copy)]
 pub enum Updated {
     To(Placed),
     Refused(Refusal),
 }
 
 // The flat file that an export wrote: how many bytes it has, and how many sectors of it are filled with zeros (9/13).
-#[derive(Drop)]
+#[derive(Clone, Copy)]
 pub struct Flat {
     pub length: u64,
     pub filled: u64,
 }
 
 // What exporting answers.
-#[derive(Drop)]
+#[derive(Clone, Copy)]
 pub enum Exported {
     To(Flat),
     Refused(Refusal),
 }
 
 // What exporting by 4/13's rule, which fills nothing, answers: how many bytes it wrote.
-#[derive(Drop)]
+#[derive(Clone, Copy)]
 pub enum ExportedExact {
     Length(u64),
     Refused(Refusal),

@@ -1,5 +1,7 @@
 // Runs cases of creating, committing and rolling back through the compiled library, and prints what they give, a line each. The
 // file stdout has what they should give, as document 01 lays it out. Check 31 has no case: it asks for a buffer above 4 GiB.
+#![tactic(auto)]
+
 mod script; // cases as rows of numbers
 mod calls; // rows that create, commit and roll back
 mod asks; // rows that read

@@ -1,4 +1,6 @@
 // Prints an image of the flat file on standard input. All but reading and writing is `converting::import`.
+#![tactic(auto)]
+
 use libc::{STDIN_FILENO, STDOUT_FILENO};
 
 fn main() {

@@ -3,6 +3,8 @@
 //
 // Cost: each sector is compared with those before it, up to the first that is equal, once in the file, since which sectors are stored has
 // to be known before anything is written, and once among the stored ones; else linear in what is read and written.
+#![tactic(auto)]
+
 ghost use Rattle.std.specs.Prelude.{◌≡◌, ℕ, length};
 ghost use Rattle.format.specs.Importing.{import};
 ghost use Rattle.format.specs.Answers.{updated, answered};

@@ -1,6 +1,8 @@
 // Internal: an image's header and its index, checks 1 to 10 of document 01 in its order.
 //
 // Cost: the index is passed over twice, for its checksum and for its entries.
+#![tactic(auto)]
+
 ghost use Rattle.std.specs.Prelude.{List, ◌∷◌, ◌≡◌, ℕ, ◌+◌, ◌*◌, ◌≤◌, length};
 ghost use Rattle.format.specs.Tests.{◌and◌, choose};
 ghost use Rattle.format.specs.Refusals.{answer};
@@ -13,7 +15,7 @@ use fields::{get, part, put, room, spells};
 use format::{ByteOffset, Entry, HEADER_LENGTH, IMAGE_MAJOR, Refusal, Verdict};
 
 // The tables among the index entries seen so far.
-#[derive(Drop)]
+#[derive(Clone, Copy)]
 enum Tables {
     None,
     One(ByteOffset),
@@ -21,7 +23,7 @@ enum Tables {
 }
 
 // The one table that an index names.
-#[derive(Drop)]
+#[derive(Clone, Copy)]
 pub enum Named {
     One(ByteOffset),
     Refused(Refusal),

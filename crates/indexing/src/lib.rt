@@ -2,6 +2,8 @@
 // out, and the new data block's last.
 //
 // Cost: two passes over the old entries, one to count and one to write, and one over the new ones for their checksum.
+#![tactic(auto)]
+
 ghost use Rattle.std.specs.Prelude.{◌≡◌, ℕ, ◌+◌, ◌*◌, ◌≤◌, ◌<◌, length, take};
 ghost use Rattle.fields.specs.Bytes.{overwrite};
 ghost use Rattle.format.specs.Layouts.{CKSM, index_header_length, entry_length, entry_count, entries, index_bytes};

@@ -1,4 +1,6 @@
 // Lists the sectors of the image on standard input. All but reading and writing is `listing::list`.
+#![tactic(auto)]
+
 use libc::{STDIN_FILENO, STDOUT_FILENO};
 
 fn main() {

@@ -1,4 +1,6 @@
 // What the listing program prints, as a function on slices.
+#![tactic(auto)]
+
 mod lines; // its lines, written into a lent buffer
 
 ghost use Rattle.std.specs.Prelude.{◌≡◌, ◌≤◌, length, pos, neg_ℤ};

@@ -5,6 +5,8 @@
 // `.._of` makes the opened image for callers that have the two apart.
 //
 // Cost: the index is passed over twice, for its checksum and for its entries, and the table once, for its checksum.
+#![tactic(auto)]
+
 ghost use Rattle.std.specs.Prelude.{◌≡◌, ◌+◌, ◌^◌, ◌≤◌, ◌<◌, length, pos, neg_ℤ, ◌+ℤ◌};
 ghost use Rattle.format.specs.declared.Verdict.TheVariants.{Passes};
 ghost use Rattle.format.specs.Refusals.{refusal, row, accepted, answer};
@@ -24,7 +26,7 @@ use tables::layout_of;
 
 // What opening finds of the table: its kind (by a number, 1 for 'DDT*' and 2 for 'DDT2', as the walks over a view take no enum), place (that of the
 // header), count and shift, alignment and negative, which are 0 for 'DDT*'. The fields are private, so that opening alone makes one.
-#[derive(Drop)]
+#[derive(Clone, Copy)]
 pub struct Opened {
     kind: u64,
     table: ByteOffset,
@@ -35,7 +37,7 @@ pub struct Opened {
 }
 
 // An opened image: the lent bytes, and what opening found in them.
-#[derive(Drop)]
+#[derive(Clone, Copy)]
 pub struct Image<'a> {
     bytes: &'a [u8],
     kind: u64,
@@ -47,7 +49,7 @@ pub struct Image<'a> {
 }
 
 // What opening answers. No enum can hold a slice, so `view` puts the bytes and what was found together.
-#[derive(Drop)]
+#[derive(Clone, Copy)]
 pub enum Opening {
     Opens(Opened),
     Refused(Refusal),
@@ -314,7 +316,7 @@ pub fn pointer_of(s: &[u8], t: Opened, n: EntryNumber) -> Pointer
 }
 
 // An address, by the number of its table entry.
-#[derive(Drop)]
+#[derive(Clone, Copy)]
 pub enum Numbered {
     At(EntryNumber),
     Outside,

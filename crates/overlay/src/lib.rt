@@ -3,6 +3,8 @@
 // neither has the sector; else the parent's with 100 added, and the place is in the parent. The parent is looked at only where the child answers 21.
 //
 // Cost: locating in the child, and where it answers 21, locating in the parent.
+#![tactic(auto)]
+
 ghost use Rattle.std.specs.Prelude.{◌≡◌};
 ghost use Rattle.format.specs.Reading.{locate};
 ghost use Rattle.format.specs.Overlaying.{from_parent, in_image, read_over, locate_over, source_over};

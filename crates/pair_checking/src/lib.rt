@@ -2,6 +2,8 @@
 //
 // Cost: the check of all sectors of the child, and then of those that it leaves to its parent (see `checking`), so that each data block of both images is
 // summed once at most; of a parent that doesn't open, one pass over the child's table entries instead.
+#![tactic(auto)]
+
 ghost use Rattle.std.specs.Prelude.{◌≡◌};
 ghost use Rattle.format.specs.declared.TableKind.TheVariants.{First};
 ghost use Rattle.format.specs.Refusals.{accepted};

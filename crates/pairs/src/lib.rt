@@ -3,6 +3,8 @@
 //
 // Cost of a sector: its table entry in the child, and where that is not written the one in the parent, is read once. No checksum is computed. The sizes are
 // one pass over the addresses for each call, and whether a sector is new is a comparison with each lower one.
+#![tactic(auto)]
+
 ghost use Rattle.std.specs.Prelude.{not, ◌≡◌, ◌≤◌, ◌<◌, length};
 ghost use Rattle.fields.specs.Bytes.{equal};
 ghost use Rattle.format.specs.Tests.{same, below, ◌or◌};

@@ -64,7 +64,7 @@ module _ (img : List ℕ) (t : Opened) where
   pointers-old : (l : List ℕ) (ps : List Pointer) (n a : ℕ) → Above (suc a) l
       → new_pointers img t l ps (suc n) a ≡ old_pointer img t a ∷ new_pointers img t l ps n (suc a)
   unfolding new_pointers new_pointer or_else
-  pointers-old l ps n a h = rw (given-other l ps a (above_other a l h))
+  pointers-old l ps n a h = rw (given-other a l ps (above_other a l h))
 
   -- an address that is passed
   past : (b : ℕ) (l : List ℕ) (p : Pointer) (ps : List Pointer) (n x : ℕ) → b < x → new_pointers img t (b ∷ l) (p ∷ ps) n x ≡ new_pointers img t l ps n x

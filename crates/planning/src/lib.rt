@@ -3,6 +3,8 @@
 //
 // Cost: each handed-in sector is compared with the sectors of the disc and with those handed in before it, up to the first
 // that is equal.
+#![tactic(auto)]
+
 ghost use Rattle.std.specs.Prelude.{false, ◌≡◌, ◌+◌, ◌*◌, ◌^◌, ◌≤◌, ◌<◌, max, length};
 ghost use Rattle.format.specs.Refusals.{accepted};
 ghost use Rattle.format.specs.Opening.{opening};
@@ -15,14 +17,14 @@ use opening::Opened;
 use search::{Item, TableEntry};
 
 // What a commit will store: how many sectors, and the largest item number of its table.
-#[derive(Drop)]
+#[derive(Clone, Copy)]
 pub struct Planned {
     pub stored: u64,
     pub largest: ItemNumber,
 }
 
 // What one table entry adds: its item number, and how many sectors are stored and how many addresses of the list are used up after it.
-#[derive(Drop)]
+#[derive(Clone, Copy)]
 struct Looked {
     item: ItemNumber,
     stored: u64,

@@ -1,4 +1,6 @@
 // Internal: what the programs that run cases print, on standard output; and letters, as their rows of numbers have them.
+#![tactic(auto)]
+
 ghost use Rattle.std.specs.Prelude.{◌≤◌, length};
 
 use fields::magnitude;

@@ -2,6 +2,8 @@
 // stands already, from which the checksum is computed.
 //
 // Cost: one pass over the payload.
+#![tactic(auto)]
+
 ghost use Rattle.std.specs.Prelude.{[], ◌∷◌, ◌≡◌, ◌+◌, ◌*◌, ◌≤◌, length};
 ghost use Rattle.fields.specs.Bytes.{part, overwrite};
 ghost use Rattle.fields.specs.Layout.{num, raw, layout};

@@ -2,6 +2,8 @@
 // such a disc and among sectors of one size that stand one after another.
 //
 // Cost: a comparison for each sector looked at, which ends at the first difference in size or bytes. No checksum is computed.
+#![tactic(auto)]
+
 ghost use Rattle.std.specs.Prelude.{◌≡◌, ◌+◌, ◌*◌, ◌≤◌, ◌<◌, length, drop};
 ghost use Rattle.format.specs.Committing.{on_disc, among_stored, pieces};
 ghost use Rattle.opening.specs.Answers.{contents, held};
@@ -11,21 +13,21 @@ use format::{ByteOffset, EntryNumber, ItemNumber, Place};
 use opening::{Image, Opened};
 
 // The table entry at which a search ends.
-#[derive(Drop)]
+#[derive(Clone, Copy)]
 pub enum TableEntry {
     Is(EntryNumber),
     Missing,
 }
 
 // The item at which a search ends.
-#[derive(Drop)]
+#[derive(Clone, Copy)]
 pub enum Item {
     Is(ItemNumber),
     Missing,
 }
 
 // What a table entry of a disc has: nothing, or a sector.
-#[derive(Drop)]
+#[derive(Clone, Copy)]
 pub enum Slot {
     Empty,
     Sector(Place),

@@ -1,6 +1,8 @@
 // Internal: one sector of an opened image, checks 20 to 27 of document 01 in its order, and 73 of 11/13.
 //
 // Cost of finding one: at most one pass over the index, for the block's entry, and one over the block, for its checksum.
+#![tactic(auto)]
+
 ghost use Rattle.std.specs.Prelude.{◌≡◌, ◌+◌, ◌*◌, ◌/◌, ◌≤◌, ◌<◌, length};
 ghost use Rattle.format.specs.declared.Verdict.TheVariants.{Passes};
 ghost use Rattle.format.specs.Tests.{same, differs, at_least, ◌and◌};
@@ -22,21 +24,21 @@ use index::{entry, is_user_data};
 use opening::{Image, Numbered, Opened, Opening};
 
 // What finding a sector answers: its block and item.
-#[derive(Drop)]
+#[derive(Clone, Copy)]
 enum Found {
     At(Pointer),
     Refused(Refusal),
 }
 
 // An address to locate, and a block that is known to be intact; ByteOffset(0) stands for none.
-#[derive(Drop)]
+#[derive(Clone, Copy)]
 pub struct Visit {
     pub address: SectorAddress,
     pub known: ByteOffset,
 }
 
 // Where a sector lies, and a block that is known to be intact: the sector's, or where it is refused the one handed in.
-#[derive(Drop)]
+#[derive(Clone, Copy)]
 pub struct Near {
     pub located: Located,
     pub known: ByteOffset,

@@ -3,6 +3,8 @@
 //
 // Cost: each handed-in sector is compared with the sectors of the disc and with those stored before it, up to the first that
 // is equal; else linear in what is read and written.
+#![tactic(auto)]
+
 ghost use Rattle.std.specs.Prelude.{false, ◌≡◌, ◌^◌, ◌≤◌, ◌<◌, length, take};
 ghost use Rattle.format.specs.Layouts.{encode};
 ghost use Rattle.format.specs.Writing.{longest_buffer};
@@ -18,14 +20,14 @@ use opening::Opened;
 use search::{Item, TableEntry};
 
 // Where a sector is, and how many are stored with it.
-#[derive(Drop)]
+#[derive(Clone, Copy)]
 pub struct Handed {
     pub pointer: Pointer,
     pub stored: u64,
 }
 
 // A new table entry, and how many sectors are stored and how many addresses of the list are used up after it.
-#[derive(Drop)]
+#[derive(Clone, Copy)]
 struct Next {
     entry: u64,
     stored: u64,

@@ -2,6 +2,8 @@
 // by the kind's layout.
 //
 // Cost: one pass over the table's entries, for their checksum.
+#![tactic(auto)]
+
 ghost use Rattle.std.specs.Prelude.{◌≡◌, ◌+◌, ◌*◌, ◌/◌, ◌^◌, ◌≤◌, ◌<◌, length};
 ghost use Rattle.crc64.specs.Crc.{crc_of};
 ghost use Rattle.format.specs.declared.TableKind.TheVariants.{Second};
@@ -34,7 +36,7 @@ pub fn sums_differ(payload: &[u8], stored1: u64, stored2: u64) -> bool
 
 // How many bytes the header of a kind of table and its entries have, and where in the header stand the shift and, 8 bytes each, `entries`, cmpLength,
 // length, cmpCrc64 and crc64.
-#[derive(Drop)]
+#[derive(Clone, Copy)]
 pub struct Layout {
     pub header: u64,
     pub entries: u64,

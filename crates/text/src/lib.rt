@@ -1,5 +1,7 @@
 // Internal: text written into a lent buffer. What does not fit is dropped and the place stays at the buffer's end, so that a
 // caller writes one piece after the other with no test between them.
+#![tactic(auto)]
+
 ghost use Rattle.std.specs.Prelude.{[], ◌∷◌, ◌++◌, ◌≤◌, length};
 ghost use Rattle.text.specs.Buffer.{Writes};
 ghost use Rattle.text.specs.Text.{NEWLINE, decimal, signed, refused_line};

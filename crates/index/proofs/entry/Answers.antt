@@ -1,0 +1,8 @@
+-- `index::entry` meets its contract. Assumes nothing.
+use borrow.Author.Rules.{rules}
+use Rattle.format.specs.Layouts.{entry_at}
+use Rattle.index.proofs.entry.Goals as goal
+
+pub returns : goal.returns
+unfolding entry_at
+returns c = cc
