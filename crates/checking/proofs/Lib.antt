@@ -5,4 +5,3 @@ mod Scopes
 mod Looked
 pub mod Whole
 pub mod Disc
-mod Promises

@@ -1,4 +1,3 @@
 mod First
 pub mod Disc
 pub mod Stored
-mod Promises

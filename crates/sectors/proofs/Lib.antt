@@ -1,4 +1,3 @@
 mod Indexed
 pub mod Known
 mod Places
-mod Promises

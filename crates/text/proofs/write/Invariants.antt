@@ -1,0 +1,15 @@
+-- `text::write` meets its contract. The invariant: the bytes up to the present one are written.
+-- Assumes nothing.
+use mathlib.Core.Path.{◌≡◌, refl}
+use Prim.Native.Nat.{◌-◌, ◌≤◌}
+use native.Mathlib.Omega.{arith}
+use lib.ListN.{length, take}
+use Rattle.text.specs.Buffer.{Writes}
+use Rattle.text.proofs.Writes.{writes-none, writes-next, writes_end}
+use Rattle.text.proofs.write.Given as goal
+
+abbrev pub invariant-loop-i : goal.invariant-loop-i
+invariant-loop-i l = (l.i ≤ length l.s) × (length l.out ≡ length l.initial.out) × Writes l.initial.out l.at (take l.i l.s) l.out l.next
+
+abbrev pub decreases-loop-i : goal.decreases-loop-i
+decreases-loop-i l = length l.s - l.i
