@@ -71,7 +71,8 @@ def line(text, new):
 def clauses(text, new):
     """A .rt file: the imports and the braces behind requires and ensures."""
     out, at = [], 0
-    kept = {k: v for k, v in new.items() if k != BOTH}
+    imported = re.search(r"^ghost use [^;]*\b%s\b" % BOTH, text, re.M)
+    kept = {k: v for k, v in new.items() if imported or k != BOTH}
     for m in re.finditer(r"^ghost use [^;]*;|^\s*(?:requires|ensures)\b[^{\n]*(?=\{)", text, re.M):
         if m.start() < at:
             continue

@@ -27,16 +27,16 @@ more-forth [] x d (there h) = absurd (omega (arith, among-long [] d h))
 more-forth (y ∷ l) x d (here e) = inl (here e)
 more-forth (y ∷ l) x d (there h) = ⊎_map there (λ e. e) (more-forth l x d h)
 
-more-old : (l : List (List ℕ)) (x d : List ℕ) → Among l d → Among (l ++ (x ∷ [])) d
-more-old _ x d (here e) = here e
-more-old _ x d (there {l = l} h) = there (more-old l x d h)
+more-old : (x d : List ℕ) (l : List (List ℕ)) → Among l d → Among (l ++ (x ∷ [])) d
+more-old x d _ (here e) = here e
+more-old x d _ (there {l = l} h) = there (more-old x d l h)
 
 more-new : (l : List (List ℕ)) (x d : List ℕ) → x ≡ d → Among (l ++ (x ∷ [])) d
 more-new [] x d e = here e
 more-new (y ∷ l) x d e = there (more-new l x d e)
 
 pub among-more : (l : List (List ℕ)) (x d : List ℕ) → Among (l ++ (x ∷ [])) d ↔ (Among l d ⊎ (x ≡ d))
-among-more l x d = (more-forth l x d, ⊎_elim (more-old l x d) (more-new l x d))
+among-more l x d = (more-forth l x d, ⊎_elim (more-old x d l) (more-new l x d))
 
 pub pieces_more : (k size : ℕ) (l : List ℕ) → pieces (suc k) size l ≡ pieces k size l ++ (sector_of size l k ∷ [])
 unfolding pieces part

@@ -132,7 +132,7 @@ pub fn block_verdict(s: &[u8], b: ByteOffset) -> Verdict
 // The item of p, in a block that passed: check 26.
 pub fn number_verdict(s: &[u8], p: Pointer) -> Verdict
     requires { BlockOk s.now p.block.0 }
-    ensures { result ≡ row (at_least p.item.0 (block_length s.now p.block.0 / sectorSize s.now p.block.0)) (refusal 26 p.block.0) }
+    ensures { result ≡ row (at_least p.item.0 (block_length s.now p.block.0 / sector_size s.now p.block.0)) (refusal 26 p.block.0) }
 {
     let place = p.block;
     let block = place.0;

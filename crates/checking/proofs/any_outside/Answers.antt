@@ -1,0 +1,22 @@
+use mathlib.Core.Path.{◌≡◌}
+use Prim.Native.Nat.{◌-◌}
+use native.Mathlib.Omega.{arith}
+use borrow.Author.Rules.{rules}
+use lib.ListN.{length}
+use Rattle.format.specs.Committing.{any_outside}
+use Rattle.format.proofs.Chains.{by}
+use Rattle.opening.specs.Answers.{contents}
+use Rattle.checking.proofs.Outside.{outside_from, outside-start, outside-found, outside-goes, outside-done}
+use Rattle.checking.proofs.any_outside.Goals as goal
+
+pub returns-then-is_outside : goal.returns-then-is_outside
+returns-then-is_outside c = outside-found _ _ _ c.loop-k.invariant (omega arith) c.is_outside-arg-1.given (by c.if-is_outside.true c.is_outside.ensures)
+
+pub loop-k-preserved : goal.loop-k-preserved
+loop-k-preserved c = outside-goes _ _ _ c.loop-k.invariant (omega arith) c.is_outside-arg-1.given (by c.if-is_outside.false c.is_outside.ensures)
+
+pub returns : goal.returns
+returns c = outside-done _ _ _ c.loop-k.invariant (omega arith)
+
+pub loop-k-init : goal.loop-k-init
+loop-k-init c = outside-start _ _

@@ -1,0 +1,23 @@
+-- `checking::disc_verdict_at` meets its contract. Assumes nothing.
+use borrow.Author.Rules.{rules}
+use mathlib.Core.Path.{sym, ◌∙◌}
+use Rattle.format.proofs.Chains.{stop, on, stops, goes, by}
+use Rattle.checking.proofs.Disc.{disc-opened}
+use Rattle.checking.proofs.disc_verdict_at.Goals as goal
+
+pub returns-in-Refuses : goal.returns-in-Refuses
+returns-in-Refuses c = stops _ (by c.in-Refuses.is c.kind_verdict-v.ensures) ∙ sym (disc-opened _ _ _ c.requires)
+
+pub returns-then-any_outside : goal.returns-then-any_outside
+returns-then-any_outside c =
+    goes (by c.in_default.is c.kind_verdict-v.ensures) (stop _ (by c.any_outside.ensures c.if-any_outside.true))
+    ∙ sym (disc-opened _ _ _ c.requires)
+
+pub sectors_verdict-requires : goal.sectors_verdict-requires
+sectors_verdict-requires c = c.requires
+
+pub returns : goal.returns
+returns c =
+    goes (by c.in_default.is c.kind_verdict-v.ensures)
+    (on _ (by c.any_outside.ensures c.if-any_outside.false) c.sectors_verdict.ensures)
+    ∙ sym (disc-opened _ _ _ c.requires)

@@ -1,0 +1,73 @@
+use native.Mathlib.Omega.{arith}
+use borrow.Author.Count.{below_more}
+use borrow.Author.Rules.{rules}
+use mathlib.Core.Logic.{inl, inr}
+use mathlib.Core.Path.{◌≡◌, refl, sym, ◌∙◌}
+use Prim.Native.Nat.{ℕ, ◌-◌, ◌≤◌, ◌<◌}
+use Rattle.format.specs.declared.Verdict.TheVariants.{Passes}
+use Rattle.format.proofs.Chains.{by}
+use Rattle.opening.specs.Answers.{contents}
+use Rattle.opening.proofs.Accepted.{few, decodes}
+use Rattle.opening.proofs.Entries.{pointer_is}
+use Rattle.checking.specs.Checked.{looked_at, indexed, Formed, looked_verdict}
+use Rattle.checking.proofs.Firsts.{first-at, first-none}
+use Rattle.checking.proofs.Forms.{entry-form-ok, passed_over, form-only}
+use Rattle.checking.proofs.Scopes.{looked-is}
+use Rattle.checking.proofs.first_form.Goals as goal
+use Rattle.checking.proofs.first_form.Goals.{After-entry_form-v, After-is_looked_at}
+
+pub loop-a-init : goal.loop-a-init
+loop-a-init c = (omega arith, (λ i l. absurd (omega arith)), inl refl)
+
+pub table_entry-e-requires : goal.table_entry-e-requires
+table_entry-e-requires c = (c.requires.0, omega arith)
+
+pub is_looked_at-requires : goal.is_looked_at-requires
+is_looked_at-requires c =
+    let k = c.requires in
+    let f = few _ _ k.0 in (k.1, omega arith)
+
+pub entry_decoded-p-requires : goal.entry_decoded-p-requires
+entry_decoded-p-requires c = decodes _ _ c.requires.0
+
+pub entry_form-v-requires : goal.entry_form-v-requires
+entry_form-v-requires c =
+    let e = c.table_entry-e.ensures in
+    (c.requires.0, omega arith, e, pointer_is _ _ _ e c.entry_decoded-p.ensures, c.loop-a.invariant.2)
+
+-- whether it is looked at
+looks : (c : After-is_looked_at)
+    → let r = c.args in
+    c.is_looked_at.result ≡ looked_at r.s.now (contents r.t) r.child.now r.scope c.loop-a.a
+looks c = looked-is _ _ _ _ _ c.table_entry-e.ensures c.is_looked_at.ensures
+
+-- an address that is looked at, by its form
+form-is : (c : After-entry_form-v)
+    → let r = c.args in
+    looked_verdict r.s.now (contents r.t) (looked_at r.s.now (contents r.t) r.child.now r.scope) (indexed r.s.now) c.loop-a.a ≡ c.entry_form-v.result
+form-is c =
+    let l = looked-is _ _ _ _ _ c.table_entry-e.ensures c.is_looked_at.ensures in
+    form-only _ _ _ _ (by l c.if-is_looked_at.true) ∙ sym c.entry_form-v.ensures
+
+pub returns-in-Refuses : goal.returns-in-Refuses
+returns-in-Refuses c =
+    first-at _ _ _ _ (omega arith) c.loop-a.invariant.1 (form-is (goal.at.returns-in-Refuses c).After-entry_form-v ∙ c.in-Refuses.is)
+
+pub loop-a-preserved-then-is_looked_at : goal.loop-a-preserved-then-is_looked_at
+loop-a-preserved-then-is_looked_at c =
+    let ok = entry-form-ok _ _ _ (sym (by c.in_default.is c.entry_form-v.ensures)) in (
+      omega arith,
+      below_more _ _ c.loop-a.invariant.1 (form-is (goal.at.loop-a-preserved-then-is_looked_at c).After-entry_form-v ∙ c.in_default.is),
+      inr (rw (pointer_is _ _ _ c.table_entry-e.ensures c.entry_decoded-p.ensures) ok),
+    )
+
+pub loop-a-preserved : goal.loop-a-preserved
+loop-a-preserved c =
+    (
+      omega arith,
+      below_more _ _ c.loop-a.invariant.1 (passed_over _ _ _ _ _ (by (looks (goal.at.loop-a-preserved c).After-is_looked_at) c.if-is_looked_at.false)),
+      c.loop-a.invariant.2,
+    )
+
+pub returns : goal.returns
+returns c = first-none _ _ _ c.count-count.ensures (λ i l. c.loop-a.invariant.1 i (omega arith))

@@ -1,0 +1,61 @@
+-- `checking::form_verdict` meets its contract. Assumes nothing.
+use native.Mathlib.Omega.{arith}
+use borrow.Author.Rules.{rules}
+use mathlib.Core.Bool.{true, not}
+use mathlib.Core.Path.{◌≡◌, sym, ap}
+use Rattle.format.specs.Layouts.{index_offset}
+use Rattle.format.specs.Reading.{has}
+use Rattle.format.specs.Facts.{BlockOk}
+use Rattle.format.proofs.Checks.{OpenOk, block-ok}
+use Rattle.format.proofs.Tests.{not_iff}
+use Rattle.format.proofs.Chains.{stop, on, stops, goes, by}
+use Rattle.opening.proofs.Accepted.{opens}
+use Rattle.sectors.proofs.Known.{known-block}
+use Rattle.checking.specs.Checked.{indexed, form_verdict}
+use Rattle.checking.proofs.form_verdict.Goals as goal
+use Rattle.checking.proofs.form_verdict.Goals.{Start, Then-is_known}
+
+ok : (c : Start) → OpenOk c.args.s.now (index_offset c.args.s.now)
+ok c = opens _ _ c.requires.0
+
+-- the block that is known
+known : (c : Then-is_known) → let a = c.args in
+    (has a.p.block.0 (indexed a.s.now) ≡ true) × BlockOk a.s.now a.p.block.0
+known c =
+    let s = c.args.s.now in
+    known-block (λ b. (has b (indexed s) ≡ true) × BlockOk s b) _ _ c.requires.1 (by c.is_known.ensures c.if-is_known.true)
+
+pub number_verdict-requires : goal.number_verdict-requires
+number_verdict-requires c = (known (goal.at.number_verdict-requires c).Then-is_known).1
+
+pub returns-then-is_known : goal.returns-then-is_known
+unfolding form_verdict
+returns-then-is_known c =
+    let k = known (goal.at.returns-then-is_known c).Then-is_known in
+    on _ (not_iff.1 k.0) (goes (sym ((block-ok _ _).1 k.1)) c.number_verdict.ensures)
+
+pub get-requires : goal.get-requires
+get-requires c = let k = (ok (goal.at.get-requires c).Start).header in omega arith
+
+pub is_indexed-requires : goal.is_indexed-requires
+unfolding index_offset
+is_indexed-requires c = rw c.get.ensures (ok (goal.at.is_indexed-requires c).Start).index.fits
+
+pub returns-in-Refuses : goal.returns-in-Refuses
+unfolding form_verdict index_offset
+returns-in-Refuses c =
+    on _ (not_iff.1 (rw c.get.ensures at (by c.is_indexed.ensures c.if-is_indexed.true)))
+    (stops _ (by c.in-Refuses.is c.block_verdict-v.ensures))
+
+pub number_verdict-requires-then-is_indexed : goal.number_verdict-requires-then-is_indexed
+number_verdict-requires-then-is_indexed c = (block-ok _ _).0 (sym (by c.in_default.is c.block_verdict-v.ensures))
+
+pub returns-then-is_indexed : goal.returns-then-is_indexed
+unfolding form_verdict index_offset
+returns-then-is_indexed c =
+    on _ (not_iff.1 (rw c.get.ensures at (by c.is_indexed.ensures c.if-is_indexed.true)))
+    (goes (by c.in_default.is c.block_verdict-v.ensures) c.number_verdict-then-is_indexed.ensures)
+
+pub returns : goal.returns
+unfolding form_verdict index_offset
+returns c = stop _ (ap not (rw c.get.ensures at (by c.is_indexed.ensures c.if-is_indexed.false)))

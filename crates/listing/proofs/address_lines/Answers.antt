@@ -1,0 +1,44 @@
+use borrow.Author.Rules.{rules}
+use mathlib.Core.Logic.{inl}
+use mathlib.Core.Path.{◌≡◌, refl}
+use Prim.Native.Nat.{◌-◌, ◌≤◌}
+use native.Mathlib.Omega.{arith}
+use lib.ListN.{length}
+use lib.IntN.{pos, neg_ℤ}
+use Rattle.opening.specs.Answers.{contents}
+use Rattle.opening.proofs.Accepted.{few}
+use Rattle.sectors.specs.Found.{Known}
+use Rattle.text.specs.Buffer.{Writes}
+use Rattle.text.proofs.Writes.{writes-none}
+use Rattle.listing.specs.Listing.{lines_from}
+use Rattle.listing.proofs.Pieces.{lines_next}
+use Rattle.listing.proofs.address_lines.Goals as goal
+
+pub loop-n-init : goal.loop-n-init
+unfolding lines_from
+loop-n-init c = (omega arith, refl, writes-none _ _ (omega arith), inl refl)
+
+pub address-address-requires : goal.address-address-requires
+address-address-requires c = let f = few _ _ c.requires.0 in omega arith
+
+pub locate_near_of-near-requires : goal.locate_near_of-near-requires
+locate_near_of-near-requires c = (c.requires.0, c.loop-n.invariant.3)
+
+pub line-next-requires : goal.line-next-requires
+line-next-requires c = let w = c.loop-n.invariant.2.place in omega arith
+
+pub loop-n-preserved : goal.loop-n-preserved
+loop-n-preserved c =
+    let l = c.loop-n.invariant in
+    let e = c.address-address.ensures in
+    let n = c.locate_near_of-near.ensures in (
+      omega arith,
+      omega arith,
+      lines_next _ _ _ l.2 (rw (n.0, e) at c.line-next.ensures),
+      n.1,
+    )
+
+pub returns : goal.returns
+returns c =
+    let e : c.loop-n.n ≡ (contents c.args.t).count = omega arith in
+    rw (← e) c.loop-n.invariant.2

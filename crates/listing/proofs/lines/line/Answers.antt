@@ -1,0 +1,23 @@
+-- `lines::line` meets its contract. Assumes nothing.
+use borrow.Author.Rules.{rules}
+use mir.Syntax.{w64}
+use mir.Val.{SFits}
+use mir.Facts.{to_z-of_z}
+use Rattle.text.specs.Text.{signed}
+use Rattle.text.specs.Buffer.{Writes}
+use Rattle.listing.proofs.Pieces.{line_at, line_refused}
+use Rattle.listing.proofs.lines.line.Goals as goal
+use Rattle.listing.proofs.lines.line.Goals.{After-write_signed-next}
+
+-- the address, as it is read back from its bits
+written : (c : After-write_signed-next)
+    → Writes c.args.out.now c.args.at (signed c.args.a.0) c.write_signed-next.new.out c.write_signed-next.result
+written c = let f : SFits w64 c.args.a.0 = search rules in rw (to_z-of_z f) at c.write_signed-next.ensures
+
+pub returns-in-At : goal.returns-in-At
+returns-in-At c =
+    line_at _ (written (goal.at.returns-in-At c).After-write_signed-next) c.in-At.is c.write_both-last.ensures c.write_end.ensures
+
+pub returns-in-Refused : goal.returns-in-Refused
+returns-in-Refused c =
+    line_refused _ (written (goal.at.returns-in-Refused c).After-write_signed-next) c.in-Refused.is c.write_end-in-Refused.ensures

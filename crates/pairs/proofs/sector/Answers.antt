@@ -1,0 +1,24 @@
+-- `pairs::sector` meets its contract. Assumes nothing.
+use native.Mathlib.Omega.{arith}
+use Rattle.opening.proofs.Accepted.{few}
+use Rattle.pairs.proofs.Sectors.{child-entry, sector-own, sector-inherited, sector-parents}
+use Rattle.pairs.proofs.sector.Goals as goal
+
+pub entry_sector-own-requires : goal.entry_sector-own-requires
+entry_sector-own-requires c = let h = c.requires in child-entry _ _ _ _ h.0 _ h.1
+
+pub returns-then-own-gt0 : goal.returns-then-own-gt0
+returns-then-own-gt0 c = let h = c.requires in sector-own _ _ _ _ h.0 _ h.1 c.entry_sector-own.ensures (omega (arith, c.if-own-gt0.true))
+
+pub address-requires : goal.address-requires
+address-requires c = let f = few _ _ c.requires.0.opens in omega arith
+
+pub parent_sector-requires : goal.parent_sector-requires
+parent_sector-requires c =
+    let h = c.requires in
+    sector-inherited _ _ _ _ h.0 _ h.1 c.entry_sector-own.ensures (omega (arith, c.if-own-gt0.false)) c.address.ensures
+
+pub returns : goal.returns
+returns c =
+    let h = c.requires in
+    sector-parents _ _ _ _ h.0 _ h.1 c.entry_sector-own.ensures (omega (arith, c.if-own-gt0.false)) c.address.ensures c.parent_sector.ensures

@@ -1,0 +1,14 @@
+-- `planning::plan` meets its contract. The invariant: what is planned so far and what is left give the whole. Assumes nothing.
+use borrow.Author.Rules.{rules}
+use Prim.Native.Nat.{◌-◌}
+use native.Mathlib.Omega.{arith}
+use Rattle.format.specs.Committing.{entry_numbers}
+use Rattle.opening.specs.Answers.{contents}
+use Rattle.planning.proofs.Progress.{Planning, plan-starts, plan-goes, plan-done}
+use Rattle.planning.proofs.plan.Given as goal
+
+abbrev pub invariant-loop-a : goal.invariant-loop-a
+invariant-loop-a l = Planning l.s (contents l.t) (entry_numbers (contents l.t) l.addresses) l.size l.sectors l.a l.k l.stored l.largest
+
+abbrev pub decreases-loop-a : goal.decreases-loop-a
+decreases-loop-a l = l.t.count - l.a
