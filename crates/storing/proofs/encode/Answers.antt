@@ -7,8 +7,7 @@ use lib.Dec.{lit<}
 use lib.Pow.{pow_mono}
 use Rattle.fields.proofs.Numbers.{one_shifted}
 use Rattle.format.specs.Layouts.{encode}
-use Rattle.storing.proofs.encode.Statement.{statement}
-use Rattle.storing.proofs.encode.Tie as tie
+use Rattle.storing.proofs.encode.Goals as goal
 
 -- the entry of a pointer whose numbers are small
 fits : (k b i : ℕ) → k ≤ 32 → b < 2 ^ 32 → i < 2 ^ 32 → b * 2 ^ k + i < 18446744073709551616
@@ -16,19 +15,16 @@ fits k b i h hb hi =
     let m : b * 2 ^ k ≤ b * 2 ^ 32 = mul-le-mul_left b (pow_mono h) in
     omega arith
 
-mul-result : tie.Need-overflow-mul-result
-mul-result c =
-    let h = c.before.before.before.requires in
+pub overflow_mul-result : goal.overflow_mul-result
+overflow_mul-result c =
+    let h = c.requires in
     rw (one_shifted _ h.0) (record { fits = omega (arith, fits _ _ 0 h.0 h.1 (lit< tt)) })
 
-add-result : tie.Need-overflow-add-result
-add-result c =
-    let h = c.before.before.before.before.requires in
+pub overflow_add-result : goal.overflow_add-result
+overflow_add-result c =
+    let h = c.requires in
     rw (one_shifted _ h.0) (record { fits = fits _ _ _ h.0 h.1 h.2 })
 
-returns : tie.Need-returns
+pub returns : goal.returns
 unfolding encode
-returns c = rw (one_shifted _ c.before.before.before.before.requires.0)
-
-pub encode-spec : {M : Type 1} → statement M
-encode-spec = tie.close (tie.spec (λ c. search rules) mul-result add-result returns)
+returns c = rw (one_shifted _ c.requires.0)

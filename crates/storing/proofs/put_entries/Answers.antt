@@ -1,0 +1,41 @@
+use borrow.Author.Rules.{rules}
+use native.Mathlib.Omega.{arith}
+use Prim.Native.Nat.{◌-◌}
+use Rattle.format.specs.Committing.{entry_numbers}
+use Rattle.opening.specs.Answers.{contents}
+use Rattle.storing.proofs.Pass.{Going, starts, turns, goes, ends}
+use Rattle.storing.proofs.put_entries.Goals as goal
+
+pub loop-a-init : goal.loop-a-init
+loop-a-init c = starts _ _ _ _ _ _ _ _ c.requires.0
+
+-- in what follows d is the place at the loop's head
+pub next_entry-n-requires : goal.next_entry-n-requires
+next_entry-n-requires c =
+    (turns _ _ _ _ _ _ _ _ c.requires.0 c.loop-a.invariant (omega (arith, c.loop-a-test.true, c.count-count.ensures)), c.requires.1)
+
+pub overflow_mul-a : goal.overflow_mul-a
+overflow_mul-a c =
+    let h = c.requires.0 in
+    omega (arith, h.entries, h.short, c.loop-a-test.true, c.count-count.ensures)
+
+pub overflow_add-at : goal.overflow_add-at
+overflow_add-at c =
+    let h = c.requires.0 in
+    omega (arith, h.entries, h.short, c.loop-a-test.true, c.count-count.ensures)
+
+pub put-requires : goal.put-requires
+put-requires c =
+    omega (arith, c.requires.0.entries, c.loop-a.invariant.long, c.next_entry-n.auto.buf, c.loop-a-test.true, c.count-count.ensures)
+
+pub loop-a-preserved : goal.loop-a-preserved
+loop-a-preserved c =
+    goes _ _ _ _ _ _ _ _ c.requires.0 c.loop-a.invariant (omega (arith, c.loop-a-test.true, c.count-count.ensures))
+    c.next_entry-n.ensures c.put.ensures
+
+pub shape_of-buf : goal.shape_of-buf
+shape_of-buf c = c.loop-a.invariant.long
+
+pub returns : goal.returns
+returns c =
+    ends _ _ _ _ _ _ _ _ c.requires.0 c.loop-a.invariant (omega (arith, c.loop-a-test.false, c.count-count.ensures))
