@@ -1,0 +1,16 @@
+-- `appending::put_data` meets its contract. Assumes nothing.
+use native.Mathlib.Omega.{arith}
+use borrow.Author.Rules.{rules}
+use Rattle.appending.proofs.Appended.{data-room, data-written}
+use Rattle.appending.proofs.put_data.Goals as goal
+
+pub put_entries-requires : goal.put_entries-requires
+put_entries-requires c = (c.requires.0.stores, c.requires.1)
+
+pub seal_block-requires : goal.seal_block-requires
+seal_block-requires c = omega (arith, data-room c.requires.0)
+
+pub returns : goal.returns
+returns c =
+    data-written c.requires.0
+    c.put_entries.ensures c.seal_block.ensures c.count.ensures c.seal_table.ensures
