@@ -1,0 +1,6 @@
+-- `aaru::locate` meets its contract. Assumes nothing.
+use borrow.Author.Rules.{rules}
+use Rattle.aaru.proofs.locate.Goals as goal
+
+pub returns : goal.returns
+returns c = c.locate_in.ensures

@@ -1,0 +1,26 @@
+use mathlib.Core.Path.{◌≡◌}
+use Prim.Native.Nat.{◌-◌, ◌≤◌}
+use native.Mathlib.Omega.{arith}
+use borrow.Author.Rules.{rules}
+use Rattle.format.specs.Exporting.{size_from, flat_size}
+use Rattle.format.proofs.Chains.{by}
+use Rattle.opening.specs.Answers.{contents}
+use Rattle.flat.proofs.Sectors.{sizing-starts, sizing-goes, sizing-found, sizing-none}
+use Rattle.flat.proofs.flat_size.Goals as goal
+
+pub loop-n-init : goal.loop-n-init
+loop-n-init c = (omega arith, sizing-starts _ _)
+
+pub slot_at-slot-requires : goal.slot_at-slot-requires
+slot_at-slot-requires c = (c.requires, omega arith)
+
+pub returns-in-Sector : goal.returns-in-Sector
+returns-in-Sector c =
+    sizing-found _ _ c.loop-n.invariant.1 (omega arith) (by c.in-Sector.is c.slot_at-slot.ensures)
+
+pub loop-n-preserved : goal.loop-n-preserved
+loop-n-preserved c =
+    (omega arith, sizing-goes _ _ c.loop-n.invariant.1 (omega arith) (by c.in_default.is c.slot_at-slot.ensures))
+
+pub returns : goal.returns
+returns c = sizing-none _ _ c.loop-n.invariant.1 (omega arith)

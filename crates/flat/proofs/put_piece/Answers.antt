@@ -1,0 +1,28 @@
+-- `flat::put_piece` meets its contract. Assumes nothing.
+use mathlib.Core.Path.{ap, ◌∙◌}
+use borrow.Author.Rules.{rules}
+use Rattle.fields.specs.Bytes.{overwrite}
+use Rattle.format.proofs.Chains.{by}
+use Rattle.flat.proofs.Sectors.{piece-gap, piece-sector, sector-inside, sector-room}
+use Rattle.flat.proofs.put_piece.Goals as goal
+
+pub part-requires : goal.part-requires
+part-requires c =
+    let h = c.requires in
+    sector-inside _ _ _ h.0 h.1 (by c.in-Sector.is c.slot_at-slot.ensures)
+
+pub copy-requires : goal.copy-requires
+copy-requires c =
+    let h = c.requires in
+    sector-room _ _ _ h.0 h.1 (by c.in-Sector.is c.slot_at-slot.ensures) _ _ c.part.ensures h.2
+
+pub returns-in-Empty : goal.returns-in-Empty
+returns-in-Empty c =
+    c.clear.ensures
+    ∙ ap (overwrite _ _) (piece-gap _ _ _ (by c.in-Empty.is c.slot_at-slot.ensures) c.requires.0.size_is)
+
+pub returns-in-Sector : goal.returns-in-Sector
+returns-in-Sector c =
+    c.copy.ensures
+    ∙ ap (overwrite _ _)
+    (c.part.ensures ∙ piece-sector _ _ _ (by c.in-Sector.is c.slot_at-slot.ensures))
