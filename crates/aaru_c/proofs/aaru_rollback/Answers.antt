@@ -1,0 +1,7 @@
+-- `aaru_c::aaru_rollback` meets its contract. Assumes nothing.
+use borrow.Author.Rules.{rules}
+use Rattle.aaru_c.proofs.Leaving.{leaves}
+use Rattle.aaru_c.proofs.aaru_rollback.Goals as goal
+
+pub returns : goal.returns
+returns c = leaves _ _ _ c.numbers.ensures c.rollback-answer.ensures
