@@ -13,7 +13,7 @@ use Rattle.fields.proofs.Overwrite.{length-overwrite, take-overwrite}
 use Rattle.format.specs.declared.Entry.{Entry}
 use Rattle.format.specs.declared.Pointer.{Pointer}
 use Rattle.format.specs.Lists.{All}
-use Rattle.format.specs.Layouts.{DDT*, DBLK, entry_length, entries, user_data_entry, index_header_length, index_bytes, block_header_length, table_header, table_bytes, table_header_length, table_entry_length}
+use Rattle.format.specs.Layouts.{DDT*, DBLK, entry_length, user_data_entry, index_header_length, index_bytes, block_header_length, table_header, table_bytes, table_header_length, table_entry_length}
 use Rattle.format.specs.Writing.{longest_buffer, set_header}
 use Rattle.format.specs.Creating.{created_index_at, created_used, created_entries}
 use Rattle.format.specs.Committing.{among_stored, store_all, item_or_zero, largest_item, shift_for, new_table, new_block, new_block_entry, kept_entries, table_start, index_start, used_after, appended_for}

@@ -26,7 +26,7 @@ use Rattle.format.specs.Committing.{append, commit}
 use Rattle.format.specs.RollingBack.{rollback}
 use Rattle.format.specs.Exporting.{size_at, flat_size, flat_file, gap_count, export_exact, flat, export}
 use Rattle.format.specs.Importing.{import}
-use Rattle.format.specs.Facts.{Opens, NotWritten, EntryNames, DiscOk, end}
+use Rattle.format.specs.Facts.{Opens, NotWritten, EntryNames, DiscOk}
 use Rattle.format.specs.Demands.{HasSectors, new_entries, CommitOk, ExportExactOk, ExportOk, new_image, ImportOk, Demand1Accepted}
 use Rattle.format.proofs.Tests.{on-or-off, off_rest}
 use Rattle.format.proofs.Lists.{all_map, how_many-most, how_many-all, how_many-counts, counts-is, how_many-none}

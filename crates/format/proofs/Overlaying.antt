@@ -12,7 +12,7 @@ use Rattle.format.specs.declared.Refusal.{Refusal}
 use Rattle.format.specs.declared.Sourced.{Sourced}
 use Rattle.format.specs.declared.Verdict.{Verdict}
 use Rattle.format.specs.declared.Verdict.TheVariants.{Passes, Refuses}
-use Rattle.format.specs.Tests.{same, ◌or◌, choose}
+use Rattle.format.specs.Tests.{same, choose}
 use Rattle.format.specs.Refusals.{refusal, Answer, refused, accepted, answer}
 use Rattle.format.specs.Layouts.{index_offset}
 use Rattle.format.specs.Opening.{opened}

@@ -1,6 +1,5 @@
 -- `aaru::commit` meets its contract. Assumes nothing.
 use native.Mathlib.Omega.{arith}
-use borrow.Author.Rules.{rules}
 use mathlib.Core.Path.{◌≡◌, sym, ap, ◌∙◌}
 use Rattle.fields.specs.Bytes.{part}
 use Rattle.format.specs.declared.Verdict.TheVariants.{Passes}

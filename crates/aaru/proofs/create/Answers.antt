@@ -1,6 +1,5 @@
 -- `aaru::create` meets its contract. Assumes nothing.
 use native.Mathlib.Omega.{arith}
-use borrow.Author.Rules.{rules}
 use mathlib.Core.Path.{refl, sym}
 use Rattle.format.specs.Creating.{created_index_at, created_used, create}
 use Rattle.format.specs.Answers.{updated}

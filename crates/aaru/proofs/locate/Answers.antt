@@ -1,5 +1,4 @@
 -- `aaru::locate` meets its contract. Assumes nothing.
-use borrow.Author.Rules.{rules}
 use Rattle.aaru.proofs.locate.Goals as goal
 
 pub returns : goal.returns

@@ -1,5 +1,4 @@
 -- `aaru::read` meets its contract. Assumes nothing.
-use borrow.Author.Rules.{rules}
 use mathlib.Core.Path.{sym, ap, ◌∙◌}
 use Rattle.fields.specs.Bytes.{part}
 use Rattle.format.specs.Demands.{part_at}

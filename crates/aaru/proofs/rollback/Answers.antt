@@ -1,6 +1,5 @@
 -- `aaru::rollback` meets its contract. Assumes nothing.
 use native.Mathlib.Omega.{arith}
-use borrow.Author.Rules.{rules}
 use mathlib.Core.Path.{◌≡◌, refl, sym}
 use lib.ListN.{take, length-take}
 use Rattle.fields.specs.Bytes.{part}

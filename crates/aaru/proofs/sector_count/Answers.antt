@@ -1,5 +1,4 @@
 -- `aaru::sector_count` meets its contract. Assumes nothing.
-use borrow.Author.Rules.{rules}
 use mathlib.Core.Path.{sym, ap, ◌∙◌}
 use Rattle.format.specs.Refusals.{accepted}
 use Rattle.format.specs.Answers.{counted}

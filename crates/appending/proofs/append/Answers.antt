@@ -1,6 +1,5 @@
 -- `appending::append` meets its contract. Assumes nothing.
 use native.Mathlib.Omega.{arith}
-use borrow.Author.Rules.{rules}
 use Rattle.fields.specs.Bytes.{part}
 use Rattle.appending.proofs.Appended.{image-inside, inside, first, commits, planned-few, refused-35, fits-answers}
 use Rattle.appending.proofs.append.Goals as goal

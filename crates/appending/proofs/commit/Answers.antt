@@ -1,6 +1,5 @@
 -- `appending::commit` meets its contract. Assumes nothing.
 use native.Mathlib.Omega.{arith}
-use borrow.Author.Rules.{rules}
 use mathlib.Core.Path.{sym}
 use Rattle.fields.specs.Bytes.{part}
 use Rattle.format.specs.Committing.{commit_verdict, append, commit}

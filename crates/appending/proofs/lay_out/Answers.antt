@@ -1,6 +1,5 @@
 -- `appending::lay_out` meets its contract. Assumes nothing.
 use native.Mathlib.Omega.{arith}
-use borrow.Author.Rules.{rules}
 use Prim.Native.Nat.{◌+◌, ◌*◌, ◌≤◌}
 use lib.ListN.{length}
 use Rattle.format.specs.Layouts.{index_offset, entry_length}

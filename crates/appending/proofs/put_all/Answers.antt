@@ -1,6 +1,5 @@
 -- `appending::put_all` meets its contract. Assumes nothing.
 use native.Mathlib.Omega.{arith}
-use borrow.Author.Rules.{rules}
 use Rattle.fields.specs.Bytes.{part}
 use Rattle.format.specs.Layouts.{index_offset}
 use Rattle.appending.proofs.Appended.{inside, length-img, image-inside, image-low, fits-data, fits-index, fits-written}

@@ -1,6 +1,5 @@
 -- `appending::put_data` meets its contract. Assumes nothing.
 use native.Mathlib.Omega.{arith}
-use borrow.Author.Rules.{rules}
 use Rattle.appending.proofs.Appended.{data-room, data-written}
 use Rattle.appending.proofs.put_data.Goals as goal
 

@@ -11,7 +11,6 @@ use Rattle.format.specs.Writing.{largest_size, most_addresses, buffer_verdict}
 use Rattle.format.specs.Committing.{arguments_verdict}
 use Rattle.format.proofs.Tests.{below-iff, same-iff, differs_true, differs-iff, or-iff, not_iff}
 use Rattle.format.proofs.Chains.{stop, on, stop-last, on-last, stops, goes, by}
-use borrow.Author.Rules.{rules}
 use Rattle.arguments.proofs.commit_verdict.Goals as goal
 use Rattle.arguments.proofs.commit_verdict.Goals.{Else-size_refused, In_default}
 

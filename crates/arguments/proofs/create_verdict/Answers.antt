@@ -5,7 +5,6 @@ use Rattle.format.proofs.Chains.{stop, on, stop-last, on-last, by}
 use Rattle.format.specs.Creating.{created_used, created_index_at, create_verdict}
 use Prim.Native.Nat.{◌≤◌}
 use Rattle.format.specs.Writing.{most_sectors}
-use borrow.Author.Rules.{rules}
 use Rattle.arguments.proofs.create_verdict.Goals as goal
 use Rattle.arguments.proofs.create_verdict.Goals.{Else-count_refused}
 

@@ -1,5 +1,4 @@
 -- `arguments::file_refused` meets its contract. Assumes nothing.
-use borrow.Author.Rules.{rules}
 use native.Mathlib.Omega.{arith}
 use mathlib.Core.Path.{sym, ◌∙◌}
 use Rattle.format.specs.Tests.{below}

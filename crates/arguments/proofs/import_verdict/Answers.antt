@@ -1,5 +1,4 @@
 -- `arguments::import_verdict` meets its contract. Assumes nothing.
-use borrow.Author.Rules.{rules}
 use native.Mathlib.Omega.{arith}
 use mathlib.Core.Logic.{◌≢◌}
 use Rattle.format.specs.Importing.{import_verdict}

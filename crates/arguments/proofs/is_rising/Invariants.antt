@@ -1,11 +1,9 @@
 -- `arguments::is_rising` meets its contract. The invariant: the addresses from k - 1 on are rising exactly if all are. Assumes nothing.
-use native.Mathlib.Omega.{arith}
-use borrow.Author.Rules.{rules}
 use mathlib.Core.Path.{◌≡◌}
 use Prim.Native.Nat.{◌-◌, ◌<◌}
 use lib.ListN.{length}
 use Rattle.format.specs.Committing.{rising}
-use Rattle.arguments.proofs.Rising.{remaining, rising-start, rising-stops, rising-goes, rising-done}
+use Rattle.arguments.proofs.Rising.{remaining}
 use Rattle.arguments.proofs.is_rising.Given as goal
 
 abbrev pub invariant-loop-k : goal.invariant-loop-k

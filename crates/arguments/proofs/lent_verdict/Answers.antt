@@ -1,5 +1,4 @@
 -- `arguments::lent_verdict` meets its contract. Assumes nothing.
-use borrow.Author.Rules.{rules}
 use native.Mathlib.Omega.{arith}
 use Rattle.format.specs.Flattening.{lent_verdict}
 use Rattle.format.proofs.Tests.{below_true, below-iff}

@@ -1,12 +1,6 @@
-use mathlib.Core.Path.{◌≡◌}
-use Prim.Native.Nat.{◌-◌}
 use native.Mathlib.Omega.{arith}
-use borrow.Author.Rules.{rules}
-use lib.ListN.{length}
-use Rattle.format.specs.Committing.{any_outside}
 use Rattle.format.proofs.Chains.{by}
-use Rattle.opening.specs.Answers.{contents}
-use Rattle.checking.proofs.Outside.{outside_from, outside-start, outside-found, outside-goes, outside-done}
+use Rattle.checking.proofs.Outside.{outside-start, outside-found, outside-goes, outside-done}
 use Rattle.checking.proofs.any_outside.Goals as goal
 
 pub returns-then-is_outside : goal.returns-then-is_outside

@@ -1,13 +1,10 @@
 -- `checking::any_outside` meets its contract. The invariant: what is left gives what all gives. Assumes nothing.
 use mathlib.Core.Path.{◌≡◌}
 use Prim.Native.Nat.{◌-◌}
-use native.Mathlib.Omega.{arith}
-use borrow.Author.Rules.{rules}
 use lib.ListN.{length}
 use Rattle.format.specs.Committing.{any_outside}
-use Rattle.format.proofs.Chains.{by}
 use Rattle.opening.specs.Answers.{contents}
-use Rattle.checking.proofs.Outside.{outside_from, outside-start, outside-found, outside-goes, outside-done}
+use Rattle.checking.proofs.Outside.{outside_from}
 use Rattle.checking.proofs.any_outside.Given as goal
 
 abbrev pub invariant-loop-k : goal.invariant-loop-k

@@ -1,5 +1,4 @@
 -- `checking::disc_verdict_at` meets its contract. Assumes nothing.
-use borrow.Author.Rules.{rules}
 use mathlib.Core.Path.{sym, ◌∙◌}
 use Rattle.format.proofs.Chains.{stop, on, stops, goes, by}
 use Rattle.checking.proofs.Disc.{disc-opened}

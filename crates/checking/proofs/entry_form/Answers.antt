@@ -1,6 +1,5 @@
 -- `checking::entry_form` meets its contract. Assumes nothing.
 use native.Mathlib.Omega.{arith}
-use borrow.Author.Rules.{rules}
 use mathlib.Core.Path.{◌≡◌}
 use Rattle.format.specs.Reading.{unknown_status}
 use Rattle.format.proofs.Chains.{stop, on, by}

@@ -1,5 +1,4 @@
 -- `checking::every_verdict` meets its contract. Assumes nothing.
-use borrow.Author.Rules.{rules}
 use Rattle.checking.proofs.Whole.{every_first}
 use Rattle.checking.proofs.every_verdict.Goals as goal
 

@@ -1,15 +1,12 @@
 use native.Mathlib.Omega.{arith}
 use borrow.Author.Count.{below_more}
-use borrow.Author.Rules.{rules}
 use mathlib.Core.Logic.{inl, inr}
 use mathlib.Core.Path.{◌≡◌, refl, sym, ◌∙◌}
-use Prim.Native.Nat.{ℕ, ◌-◌, ◌≤◌, ◌<◌}
-use Rattle.format.specs.declared.Verdict.TheVariants.{Passes}
 use Rattle.format.proofs.Chains.{by}
 use Rattle.opening.specs.Answers.{contents}
 use Rattle.opening.proofs.Accepted.{few, decodes}
 use Rattle.opening.proofs.Entries.{pointer_is}
-use Rattle.checking.specs.Checked.{looked_at, indexed, Formed, looked_verdict}
+use Rattle.checking.specs.Checked.{looked_at, indexed, looked_verdict}
 use Rattle.checking.proofs.Firsts.{first-at, first-none}
 use Rattle.checking.proofs.Forms.{entry-form-ok, passed_over, form-only}
 use Rattle.checking.proofs.Scopes.{looked-is}
@@ -62,12 +59,11 @@ loop-a-preserved-then-is_looked_at c =
     )
 
 pub loop-a-preserved : goal.loop-a-preserved
-loop-a-preserved c =
-    (
-      omega arith,
-      below_more _ _ c.loop-a.invariant.1 (passed_over _ _ _ _ _ (by (looks (goal.at.loop-a-preserved c).After-is_looked_at) c.if-is_looked_at.false)),
-      c.loop-a.invariant.2,
-    )
+loop-a-preserved c = (
+  omega arith,
+  below_more _ _ c.loop-a.invariant.1 (passed_over _ _ _ _ _ (by (looks (goal.at.loop-a-preserved c).After-is_looked_at) c.if-is_looked_at.false)),
+  c.loop-a.invariant.2,
+)
 
 pub returns : goal.returns
 returns c = first-none _ _ _ c.count-count.ensures (λ i l. c.loop-a.invariant.1 i (omega arith))

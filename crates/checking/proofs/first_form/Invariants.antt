@@ -1,19 +1,9 @@
 -- `checking::first_form` meets its contract. The invariant: every address so far passes. Assumes nothing.
-use native.Mathlib.Omega.{arith}
-use borrow.Author.Count.{below_more}
-use borrow.Author.Rules.{rules}
-use mathlib.Core.Logic.{inl, inr}
-use mathlib.Core.Path.{◌≡◌, refl, sym, ◌∙◌}
+use mathlib.Core.Path.{◌≡◌}
 use Prim.Native.Nat.{ℕ, ◌-◌, ◌≤◌, ◌<◌}
 use Rattle.format.specs.declared.Verdict.TheVariants.{Passes}
-use Rattle.format.proofs.Chains.{by}
 use Rattle.opening.specs.Answers.{contents}
-use Rattle.opening.proofs.Accepted.{few, decodes}
-use Rattle.opening.proofs.Entries.{pointer_is}
 use Rattle.checking.specs.Checked.{looked_at, indexed, Formed, looked_verdict}
-use Rattle.checking.proofs.Firsts.{first-at, first-none}
-use Rattle.checking.proofs.Forms.{entry-form-ok, passed_over, form-only}
-use Rattle.checking.proofs.Scopes.{looked-is}
 use Rattle.checking.proofs.first_form.Given as goal
 
 abbrev pub invariant-loop-a : goal.invariant-loop-a

@@ -1,7 +1,6 @@
 use native.Mathlib.Omega.{arith}
 use borrow.Author.Count.{below_more}
 use mathlib.Core.Path.{◌≡◌, ap, ◌∙◌}
-use Prim.Native.Nat.{ℕ, ◌-◌, ◌≤◌, ◌<◌}
 use Rattle.format.specs.declared.Pointer.{Pointer}
 use Rattle.format.specs.Reading.{pointer_at}
 use Rattle.format.proofs.Tests.{never}
@@ -10,7 +9,7 @@ use Rattle.opening.specs.Answers.{contents}
 use Rattle.opening.proofs.Accepted.{few, decodes}
 use Rattle.opening.proofs.Entries.{pointer_is}
 use Rattle.checking.specs.Checked.{looked_at}
-use Rattle.checking.proofs.Looked.{Into, found, stays}
+use Rattle.checking.proofs.Looked.{found, stays}
 use Rattle.checking.proofs.Scopes.{looked-is}
 use Rattle.checking.proofs.first_into.Goals as goal
 use Rattle.checking.proofs.first_into.Goals.{After-entry_decoded-p, After-is_looked_at}

@@ -2,14 +2,8 @@
 use mathlib.Core.Bool.{false}
 use mathlib.Core.Path.{◌≡◌}
 use Prim.Native.Nat.{ℕ, ◌-◌, ◌≤◌, ◌<◌}
-use native.Mathlib.Omega.{arith}
-use borrow.Author.Count.{below_more}
-use borrow.Author.Rules.{rules}
 use Rattle.format.specs.Reading.{not_written}
-use Rattle.format.proofs.Chains.{by}
 use Rattle.opening.specs.Answers.{contents}
-use Rattle.opening.proofs.Entries.{written_is}
-use Rattle.checking.proofs.Whole.{gap-first, no_gap}
 use Rattle.checking.proofs.first_unwritten.Given as goal
 
 abbrev pub invariant-loop-n : goal.invariant-loop-n

@@ -1,13 +1,9 @@
 use native.Mathlib.Omega.{arith}
-use borrow.Author.Rules.{rules}
 use mathlib.Core.Path.{refl}
-use Prim.Native.Nat.{◌+◌, ◌*◌, ◌≤◌}
-use lib.ListN.{length}
-use Rattle.format.specs.Layouts.{index_offset, entry_count, entry_length, entries}
+use Rattle.format.specs.Layouts.{index_offset, entry_count, entries}
 use Rattle.format.proofs.Checks.{OpenOk}
-use Rattle.opening.specs.Answers.{contents}
 use Rattle.opening.proofs.Accepted.{opens}
-use Rattle.checking.specs.Checked.{looked_at, FirstFrom}
+use Rattle.checking.specs.Checked.{looked_at}
 use Rattle.checking.proofs.Whole.{all-looked-at}
 use Rattle.checking.proofs.first_within.Goals as goal
 use Rattle.checking.proofs.first_within.Goals.{Start}

@@ -1,6 +1,5 @@
 -- `checking::form_verdict` meets its contract. Assumes nothing.
 use native.Mathlib.Omega.{arith}
-use borrow.Author.Rules.{rules}
 use mathlib.Core.Bool.{true, not}
 use mathlib.Core.Path.{◌≡◌, sym, ap}
 use Rattle.format.specs.Layouts.{index_offset}

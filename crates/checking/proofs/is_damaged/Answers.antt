@@ -1,6 +1,5 @@
 -- `checking::is_damaged` meets its contract. Assumes nothing.
 use native.Mathlib.Omega.{arith}
-use borrow.Author.Rules.{rules}
 use mathlib.Core.Path.{sym}
 use Rattle.format.specs.Facts.{BlockOk}
 use Rattle.format.proofs.Checks.{block-ok}

@@ -1,5 +1,4 @@
 -- `checking::is_in_scope` meets its contract. Assumes nothing.
-use borrow.Author.Rules.{rules}
 use mathlib.Core.Path.{sym, ap, ◌∙◌, subst}
 use Rattle.opening.specs.Answers.{contents}
 use Rattle.checking.specs.declared.Scope.{Scope}

@@ -1,5 +1,4 @@
 -- `checking::is_left` meets its contract. Assumes nothing.
-use borrow.Author.Rules.{rules}
 use mathlib.Core.Bool.{false}
 use mathlib.Core.Path.{◌≡◌, subst}
 use Prim.Native.Nat.{◌<◌}

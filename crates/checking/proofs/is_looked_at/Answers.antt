@@ -1,5 +1,4 @@
 -- `checking::is_looked_at` meets its contract. Assumes nothing.
-use borrow.Author.Rules.{rules}
 use Rattle.format.specs.Tests.{◌and◌}
 use Rattle.format.proofs.Chains.{by}
 use Rattle.checking.proofs.is_looked_at.Goals as goal

@@ -1,5 +1,4 @@
 -- `checking::sectors_verdict` meets its contract. Assumes nothing.
-use borrow.Author.Rules.{rules}
 use Rattle.checking.proofs.Whole.{first-verdict}
 use Rattle.checking.proofs.sectors_verdict.Goals as goal
 

@@ -1,5 +1,4 @@
 -- `composing::enter` meets its contract. Assumes nothing.
-use borrow.Author.Rules.{rules}
 use native.Mathlib.Omega.{arith}
 use Rattle.composing.proofs.Entries.{entered-none, entry-encodes, entered-some}
 use Rattle.composing.proofs.enter.Goals as goal

@@ -1,5 +1,4 @@
 -- `composing::finish` meets its contract. Assumes nothing.
-use borrow.Author.Rules.{rules}
 use native.Mathlib.Omega.{arith}
 use Rattle.format.specs.Creating.{created_used, created_index_at}
 use Rattle.composing.proofs.Laid.{stands, fits_all, filled-long, fits-indexes, fits-written}

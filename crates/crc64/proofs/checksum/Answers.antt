@@ -1,7 +1,6 @@
 -- `checksum` meets its contract. Assumes nothing.
 use mathlib.Core.Path.{ap}
 use Prim.Native.Nat.{ℕ, ◌-◌}
-use borrow.Author.Rules.{rules}
 use Rattle.crc64.specs.Crc.{crc_of, ones}
 use Rattle.crc64.proofs.checksum.Goals as goal
 

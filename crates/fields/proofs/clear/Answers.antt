@@ -1,9 +1,7 @@
-use mathlib.Core.Path.{◌≡◌, refl}
-use Prim.Native.Nat.{◌+◌, ◌-◌, ◌≤◌}
+use mathlib.Core.Path.{refl}
 use native.Mathlib.Nat.{add-zero, sub-zero}
 use native.Mathlib.Omega.{arith}
-use lib.ListN.{length, replicate, length-set}
-use Rattle.fields.specs.Bytes.{overwrite}
+use lib.ListN.{length-set}
 use Rattle.fields.proofs.Overwrite.{stored, written}
 use Rattle.fields.proofs.Steps.{replicate-step, replicate-done}
 use Rattle.fields.proofs.clear.Goals as goal

@@ -1,13 +1,9 @@
 -- `fields::clear` meets its contract. The invariant: what is left to be written, written over the present buffer, makes what is asked.
 -- Assumes nothing.
-use mathlib.Core.Path.{◌≡◌, refl}
+use mathlib.Core.Path.{◌≡◌}
 use Prim.Native.Nat.{◌+◌, ◌-◌, ◌≤◌}
-use native.Mathlib.Nat.{add-zero, sub-zero}
-use native.Mathlib.Omega.{arith}
-use lib.ListN.{length, replicate, length-set}
+use lib.ListN.{length, replicate}
 use Rattle.fields.specs.Bytes.{overwrite}
-use Rattle.fields.proofs.Overwrite.{stored, written}
-use Rattle.fields.proofs.Steps.{replicate-step, replicate-done}
 use Rattle.fields.proofs.clear.Given as goal
 
 abbrev pub invariant-loop-i : goal.invariant-loop-i

@@ -1,9 +1,7 @@
-use mathlib.Core.Path.{◌≡◌, refl}
-use Prim.Native.Nat.{◌+◌, ◌-◌, ◌≤◌}
+use mathlib.Core.Path.{refl}
 use native.Mathlib.Nat.{add-zero}
 use native.Mathlib.Omega.{arith}
-use lib.ListN.{length, drop, length-set, drop_of_length-le}
-use Rattle.fields.specs.Bytes.{overwrite}
+use lib.ListN.{length-set, drop_of_length-le}
 use Rattle.fields.proofs.Overwrite.{stored, written}
 use Rattle.fields.proofs.Steps.{drop-step}
 use Rattle.fields.proofs.copy.Goals as goal

@@ -1,13 +1,9 @@
 -- `fields::copy` meets its contract. The invariant: what is left to be written, written over the present buffer, makes what is asked.
 -- Assumes nothing.
-use mathlib.Core.Path.{◌≡◌, refl}
+use mathlib.Core.Path.{◌≡◌}
 use Prim.Native.Nat.{◌+◌, ◌-◌, ◌≤◌}
-use native.Mathlib.Nat.{add-zero}
-use native.Mathlib.Omega.{arith}
-use lib.ListN.{length, drop, length-set, drop_of_length-le}
+use lib.ListN.{length, drop}
 use Rattle.fields.specs.Bytes.{overwrite}
-use Rattle.fields.proofs.Overwrite.{stored, written}
-use Rattle.fields.proofs.Steps.{drop-step}
 use Rattle.fields.proofs.copy.Given as goal
 
 abbrev pub invariant-loop-i : goal.invariant-loop-i

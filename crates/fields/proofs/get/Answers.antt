@@ -5,7 +5,6 @@ use native.Mathlib.Nat.{sub_self, sub-zero, add-zero}
 use lib.Dec.{lit<}
 use mir.Val.{Fits}
 use mir.Syntax.{w8, w64}
-use Rattle.fields.specs.Bytes.{field}
 use Rattle.fields.proofs.Numbers.{field-zero, field-turn, pow-turn, pow_room}
 use Rattle.fields.proofs.get.Goals as goal
 

@@ -1,13 +1,7 @@
 -- `fields::get` meets its contract. The invariant: the bytes from `at + i` on are read. Assumes nothing.
 use mathlib.Core.Path.{◌≡◌}
-use Prim.Native.Nat.{ℕ, ◌+◌, ◌*◌, ◌-◌, ◌^◌, ◌≤◌, ◌<◌}
-use native.Mathlib.Omega.{arith}
-use native.Mathlib.Nat.{sub_self, sub-zero, add-zero}
-use lib.Dec.{lit<}
-use mir.Val.{Fits}
-use mir.Syntax.{w8, w64}
+use Prim.Native.Nat.{◌+◌, ◌-◌, ◌^◌, ◌≤◌, ◌<◌}
 use Rattle.fields.specs.Bytes.{field}
-use Rattle.fields.proofs.Numbers.{field-zero, field-turn, pow-turn, pow_room}
 use Rattle.fields.proofs.get.Given as goal
 
 abbrev pub invariant-loop-i : goal.invariant-loop-i

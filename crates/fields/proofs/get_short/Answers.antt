@@ -7,7 +7,6 @@ use native.Mathlib.Numerals.{add-one}
 use lib.ListN.{get_or}
 use mir.Val.{Fits}
 use mir.Syntax.{w8, w16}
-use borrow.Author.Rules.{rules}
 use Rattle.fields.specs.Bytes.{field}
 use Rattle.fields.proofs.Numbers.{field-zero, field_step}
 use Rattle.fields.proofs.get_short.Goals as goal

@@ -1,9 +1,5 @@
-use mathlib.Core.Path.{◌≡◌}
-use Prim.Native.Nat.{◌-◌, ◌≤◌}
 use native.Mathlib.Omega.{arith}
-use lib.ListN.{length}
-use Rattle.fields.specs.Bytes.{part, equal}
-use Rattle.fields.proofs.Compare.{remaining, compare-start, compare-turn, compare-stop, compare-done}
+use Rattle.fields.proofs.Compare.{compare-start, compare-turn, compare-stop, compare-done}
 use Rattle.fields.proofs.matches.Goals as goal
 
 pub loop-i-init : goal.loop-i-init

@@ -1,10 +1,9 @@
 -- `fields::matches` meets its contract. The invariant: the bytes that are left give what all give. Assumes nothing.
 use mathlib.Core.Path.{◌≡◌}
 use Prim.Native.Nat.{◌-◌, ◌≤◌}
-use native.Mathlib.Omega.{arith}
 use lib.ListN.{length}
 use Rattle.fields.specs.Bytes.{part, equal}
-use Rattle.fields.proofs.Compare.{remaining, compare-start, compare-turn, compare-stop, compare-done}
+use Rattle.fields.proofs.Compare.{remaining}
 use Rattle.fields.proofs.matches.Given as goal
 
 abbrev pub invariant-loop-i : goal.invariant-loop-i

@@ -1,5 +1,4 @@
 -- `fields::part` meets its contract. Assumes nothing.
-use borrow.Author.Rules.{rules}
 use native.Mathlib.Nat.{add-sub_cancel_left}
 use Rattle.fields.specs.Bytes.{part}
 use Rattle.fields.proofs.part.Goals as goal

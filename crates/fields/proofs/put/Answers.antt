@@ -1,9 +1,7 @@
-use mathlib.Core.Path.{◌≡◌, refl}
-use Prim.Native.Nat.{◌+◌, ◌-◌, ◌≤◌}
+use mathlib.Core.Path.{refl}
 use native.Mathlib.Nat.{add-zero, sub-zero}
 use native.Mathlib.Omega.{arith}
-use lib.ListN.{length, length-set}
-use Rattle.fields.specs.Bytes.{to_le, overwrite}
+use lib.ListN.{length-set}
 use Rattle.fields.proofs.Overwrite.{stored, written}
 use Rattle.fields.proofs.Numbers.{to_le-step, to_le-done}
 use Rattle.fields.proofs.put.Goals as goal

@@ -1,13 +1,9 @@
 -- `fields::put` meets its contract. The invariant: what is left to be written, written over the present buffer, makes what is asked.
 -- Assumes nothing.
-use mathlib.Core.Path.{◌≡◌, refl}
+use mathlib.Core.Path.{◌≡◌}
 use Prim.Native.Nat.{◌+◌, ◌-◌, ◌≤◌}
-use native.Mathlib.Nat.{add-zero, sub-zero}
-use native.Mathlib.Omega.{arith}
-use lib.ListN.{length, length-set}
+use lib.ListN.{length}
 use Rattle.fields.specs.Bytes.{to_le, overwrite}
-use Rattle.fields.proofs.Overwrite.{stored, written}
-use Rattle.fields.proofs.Numbers.{to_le-step, to_le-done}
 use Rattle.fields.proofs.put.Given as goal
 
 abbrev pub invariant-loop-i : goal.invariant-loop-i

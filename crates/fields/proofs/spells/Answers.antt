@@ -1,5 +1,4 @@
 -- `fields::spells` meets its contract. Assumes nothing.
-use borrow.Author.Rules.{rules}
 use Rattle.fields.proofs.Equal.{equal-numbers}
 use Rattle.fields.proofs.spells.Goals as goal
 

@@ -1,12 +1,8 @@
-use Prim.Native.Nat.{◌-◌}
 use native.Mathlib.Omega.{arith}
-use borrow.Author.Rules.{rules}
-use Rattle.format.specs.Reading.{not_written}
 use Rattle.format.specs.Exporting.{gap_count}
 use Rattle.format.proofs.Chains.{by}
-use Rattle.opening.specs.Answers.{contents}
 use Rattle.opening.proofs.Entries.{written_is}
-use Rattle.flat.proofs.Sectors.{Counting, counting-starts, counting-yes, counting-no, counting-done}
+use Rattle.flat.proofs.Sectors.{counting-starts, counting-yes, counting-no, counting-done}
 use Rattle.flat.proofs.count_gaps.Goals as goal
 
 pub loop-n-init : goal.loop-n-init

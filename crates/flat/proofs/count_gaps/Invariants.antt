@@ -1,13 +1,8 @@
 -- `flat::count_gaps` meets its contract. The invariant: so many of the sectors below n are not written. Assumes nothing.
 use Prim.Native.Nat.{◌-◌}
-use native.Mathlib.Omega.{arith}
-use borrow.Author.Rules.{rules}
 use Rattle.format.specs.Reading.{not_written}
-use Rattle.format.specs.Exporting.{gap_count}
-use Rattle.format.proofs.Chains.{by}
 use Rattle.opening.specs.Answers.{contents}
-use Rattle.opening.proofs.Entries.{written_is}
-use Rattle.flat.proofs.Sectors.{Counting, counting-starts, counting-yes, counting-no, counting-done}
+use Rattle.flat.proofs.Sectors.{Counting}
 use Rattle.flat.proofs.count_gaps.Given as goal
 
 abbrev pub invariant-loop-n : goal.invariant-loop-n

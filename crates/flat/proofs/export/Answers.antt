@@ -1,6 +1,5 @@
 -- `flat::export` meets its contract. Assumes nothing.
 use mathlib.Core.Path.{sym, ap, ◌∙◌}
-use borrow.Author.Rules.{rules}
 use Rattle.format.specs.Answers.{exported}
 use Rattle.opening.specs.Answers.{outcome}
 use Rattle.flat.proofs.Whole.{export-unopened}

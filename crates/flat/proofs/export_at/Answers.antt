@@ -1,6 +1,5 @@
 -- `flat::export_at` meets its contract. Assumes nothing.
 use mathlib.Core.Path.{◌≡◌, sym, ◌∙◌}
-use borrow.Author.Rules.{rules}
 use Rattle.format.specs.declared.Verdict.TheVariants.{Passes}
 use Rattle.format.specs.Tests.{same, differs, ◌and◌}
 use Rattle.format.specs.Refusals.{refusal}

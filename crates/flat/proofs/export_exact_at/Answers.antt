@@ -1,6 +1,5 @@
 -- `flat::export_exact_at` meets its contract. Assumes nothing.
 use mathlib.Core.Path.{◌∙◌}
-use borrow.Author.Rules.{rules}
 use Rattle.format.specs.Answers.{exported_exact}
 use Rattle.format.proofs.Chains.{by, stops}
 use Rattle.format.proofs.Answers.{outcome-stops}

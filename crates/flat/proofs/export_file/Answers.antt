@@ -1,6 +1,5 @@
 -- `flat::export_file` meets its contract. Assumes nothing.
 use mathlib.Core.Path.{sym}
-use borrow.Author.Rules.{rules}
 use Rattle.format.specs.Exporting.{file_verdict}
 use Rattle.format.specs.Answers.{exported_exact}
 use Rattle.format.proofs.Chains.{by, stops}

@@ -1,10 +1,5 @@
-use mathlib.Core.Path.{◌≡◌}
-use Prim.Native.Nat.{◌-◌, ◌≤◌}
 use native.Mathlib.Omega.{arith}
-use borrow.Author.Rules.{rules}
-use Rattle.format.specs.Exporting.{size_from, flat_size}
 use Rattle.format.proofs.Chains.{by}
-use Rattle.opening.specs.Answers.{contents}
 use Rattle.flat.proofs.Sectors.{sizing-starts, sizing-goes, sizing-found, sizing-none}
 use Rattle.flat.proofs.flat_size.Goals as goal
 

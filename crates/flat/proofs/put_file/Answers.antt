@@ -1,8 +1,5 @@
-use Prim.Native.Nat.{◌-◌}
 use native.Mathlib.Omega.{arith}
-use borrow.Author.Rules.{rules}
-use Rattle.opening.specs.Answers.{contents}
-use Rattle.flat.proofs.Sectors.{Going, going-starts, going-room, going-goes, going_done}
+use Rattle.flat.proofs.Sectors.{going-starts, going-room, going-goes, going_done}
 use Rattle.flat.proofs.put_file.Goals as goal
 
 pub loop-n-init : goal.loop-n-init

@@ -1,9 +1,7 @@
 -- `flat::put_file` meets its contract. Assumes nothing.
 use Prim.Native.Nat.{◌-◌}
-use native.Mathlib.Omega.{arith}
-use borrow.Author.Rules.{rules}
 use Rattle.opening.specs.Answers.{contents}
-use Rattle.flat.proofs.Sectors.{Going, going-starts, going-room, going-goes, going_done}
+use Rattle.flat.proofs.Sectors.{Going}
 use Rattle.flat.proofs.put_file.Given as goal
 
 abbrev pub invariant-loop-n : goal.invariant-loop-n

@@ -1,6 +1,5 @@
 -- `flat::put_piece` meets its contract. Assumes nothing.
 use mathlib.Core.Path.{ap, ◌∙◌}
-use borrow.Author.Rules.{rules}
 use Rattle.fields.specs.Bytes.{overwrite}
 use Rattle.format.proofs.Chains.{by}
 use Rattle.flat.proofs.Sectors.{piece-gap, piece-sector, sector-inside, sector-room}

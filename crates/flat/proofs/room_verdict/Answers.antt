@@ -1,6 +1,5 @@
 -- `flat::room_verdict` meets its contract. Assumes nothing.
 use native.Mathlib.Omega.{arith}
-use borrow.Author.Rules.{rules}
 use Rattle.flat.proofs.Sectors.{room-none, room-short, room-enough}
 use Rattle.flat.proofs.room_verdict.Goals as goal
 

@@ -1,12 +1,7 @@
-use mathlib.Core.Path.{◌≡◌, sym}
-use Prim.Native.Nat.{ℕ, ◌-◌, ◌≤◌, ◌<◌}
+use mathlib.Core.Path.{sym}
 use native.Mathlib.Omega.{arith}
 use borrow.Author.Count.{below_more}
-use borrow.Author.Rules.{rules}
-use Rattle.format.specs.declared.Verdict.TheVariants.{Passes}
-use Rattle.format.specs.Exporting.{size_verdict}
 use Rattle.format.proofs.Chains.{by}
-use Rattle.opening.specs.Answers.{contents}
 use Rattle.checking.proofs.Firsts.{refused-at, refused_none}
 use Rattle.flat.proofs.Sectors.{size-gap, size_same, size-other}
 use Rattle.flat.proofs.sizes_verdict.Goals as goal
@@ -24,12 +19,11 @@ returns-then-p-size c =
     (size-other _ _ _ (by c.in-Sector.is c.slot_at-slot.ensures) c.requires.1 c.if-p-size.true))
 
 pub loop-n-preserved-else-p-size : goal.loop-n-preserved-else-p-size
-loop-n-preserved-else-p-size c =
-    (
-      omega arith,
-      below_more _ _ c.loop-n.invariant.1
-          (size_same _ _ _ (by c.in-Sector.is c.slot_at-slot.ensures) c.requires.1 c.if-p-size.false),
-    )
+loop-n-preserved-else-p-size c = (
+  omega arith,
+  below_more _ _ c.loop-n.invariant.1
+      (size_same _ _ _ (by c.in-Sector.is c.slot_at-slot.ensures) c.requires.1 c.if-p-size.false),
+)
 
 pub loop-n-preserved : goal.loop-n-preserved
 loop-n-preserved c =

@@ -1,5 +1,4 @@
 -- `flattening::flatten` meets its contract. Assumes nothing.
-use borrow.Author.Rules.{rules}
 use mathlib.Core.Path.{sym, ap, ◌∙◌}
 use Rattle.format.specs.Answers.{updated}
 use Rattle.format.proofs.Chains.{by}

@@ -1,5 +1,4 @@
 -- `flattening::flatten_child` meets its contract. Assumes nothing.
-use borrow.Author.Rules.{rules}
 use mathlib.Core.Path.{sym}
 use Rattle.format.specs.Refusals.{refusal}
 use Rattle.format.specs.Answers.{updated}

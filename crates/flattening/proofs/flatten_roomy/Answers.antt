@@ -1,5 +1,4 @@
 -- `flattening::flatten_roomy` meets its contract. Assumes nothing.
-use borrow.Author.Rules.{rules}
 use native.Mathlib.Nat.{le_trans}
 use mathlib.Core.List.{flatten}
 use mathlib.Core.Path.{◌≡◌, ◌∙◌}

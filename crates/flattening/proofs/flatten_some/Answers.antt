@@ -1,5 +1,4 @@
 -- `flattening::flatten_some` meets its contract. Assumes nothing.
-use borrow.Author.Rules.{rules}
 use native.Mathlib.Omega.{arith}
 use Rattle.flattening.proofs.Whole.{count-is, flat-all}
 use Rattle.flattening.proofs.flatten_some.Goals as goal

@@ -1,5 +1,4 @@
 -- `flattening::flatten_tight` meets its contract. Assumes nothing.
-use borrow.Author.Rules.{rules}
 use native.Mathlib.Omega.{arith}
 use Rattle.format.specs.Answers.{updated}
 use Rattle.format.proofs.Flattening.{flattenable}

@@ -1,10 +1,5 @@
 use native.Mathlib.Omega.{arith}
-use borrow.Author.Rules.{rules}
-use Prim.Native.Nat.{◌-◌}
-use Rattle.format.specs.Flattening.{written_of, size_of}
-use Rattle.opening.specs.Answers.{contents}
-use Rattle.pairs.specs.Pairs.{sector_at}
-use Rattle.composing.proofs.Entries.{Going, going-starts, going-long, going_done, going-enters, going-entered}
+use Rattle.composing.proofs.Entries.{going-starts, going-long, going_done, going-enters, going-entered}
 use Rattle.flattening.proofs.put_entries.Goals as goal
 
 pub loop-n-init : goal.loop-n-init

@@ -1,11 +1,9 @@
 -- `flattening::put_entries` meets its contract. The invariant: what is written for the first n addresses stands. Assumes nothing.
-use native.Mathlib.Omega.{arith}
-use borrow.Author.Rules.{rules}
 use Prim.Native.Nat.{◌-◌}
 use Rattle.format.specs.Flattening.{written_of, size_of}
 use Rattle.opening.specs.Answers.{contents}
 use Rattle.pairs.specs.Pairs.{sector_at}
-use Rattle.composing.proofs.Entries.{Going, going-starts, going-long, going_done, going-enters, going-entered}
+use Rattle.composing.proofs.Entries.{Going}
 use Rattle.flattening.proofs.put_entries.Given as goal
 
 abbrev pub invariant-loop-n : goal.invariant-loop-n

@@ -1,10 +1,6 @@
 use native.Mathlib.Omega.{arith}
-use borrow.Author.Rules.{rules}
 use mathlib.Core.Path.{refl}
-use Prim.Native.Nat.{◌-◌}
-use Rattle.opening.specs.Answers.{contents}
-use Rattle.pairs.specs.Pairs.{sector_at}
-use Rattle.composing.proofs.Entries.{Standing, standing-starts, standing-long, standing-done, standing-none, standing-steps, standing-some}
+use Rattle.composing.proofs.Entries.{standing-starts, standing-long, standing-done, standing-none, standing-steps, standing-some}
 use Rattle.flattening.proofs.put_sectors.Goals as goal
 
 pub loop-n-init : goal.loop-n-init

@@ -1,11 +1,8 @@
 -- `flattening::put_sectors` meets its contract. The invariant: those stored for the first n addresses stand. Assumes nothing.
-use native.Mathlib.Omega.{arith}
-use borrow.Author.Rules.{rules}
-use mathlib.Core.Path.{refl}
 use Prim.Native.Nat.{◌-◌}
 use Rattle.opening.specs.Answers.{contents}
 use Rattle.pairs.specs.Pairs.{sector_at}
-use Rattle.composing.proofs.Entries.{Standing, standing-starts, standing-long, standing-done, standing-none, standing-steps, standing-some}
+use Rattle.composing.proofs.Entries.{Standing}
 use Rattle.flattening.proofs.put_sectors.Given as goal
 
 abbrev pub invariant-loop-n : goal.invariant-loop-n

@@ -1,13 +1,9 @@
 -- `importing::count_stored` meets its contract. The invariant: those of the first k sectors are counted. Assumes nothing.
-use native.Mathlib.Omega.{arith}
-use mathlib.Core.Path.{sym, ap, ◌∙◌, ◌≡◌}
+use mathlib.Core.Path.{◌≡◌}
 use Prim.Native.Nat.{ℕ, ◌-◌, ◌≤◌}
 use lib.ListN.{length}
 use Rattle.planning.specs.Plans.{sector_of}
 use Rattle.composing.specs.Composes.{stored_of}
-use Rattle.composing.proofs.Handed.{items-few}
-use Rattle.composing.proofs.Counting.{counting-starts}
-use Rattle.importing.proofs.File.{sector-inside, file-new, file-old}
 use Rattle.importing.proofs.count_stored.Given as goal
 
 abbrev pub invariant-loop-k : goal.invariant-loop-k

@@ -1,7 +1,5 @@
 use native.Mathlib.Omega.{arith}
-use Prim.Native.Nat.{◌-◌}
-use Rattle.planning.specs.Plans.{sector_of}
-use Rattle.composing.proofs.Entries.{Going, going-starts, going-long, going_done, going-enters, going-entered}
+use Rattle.composing.proofs.Entries.{going-starts, going-long, going_done, going-enters, going-entered}
 use Rattle.importing.proofs.File.{sector-inside}
 use Rattle.importing.proofs.put_entries.Goals as goal
 

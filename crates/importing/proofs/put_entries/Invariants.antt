@@ -1,9 +1,7 @@
 -- `importing::put_entries` meets its contract. The invariant: what is written for the first a sectors stands. Assumes nothing.
-use native.Mathlib.Omega.{arith}
 use Prim.Native.Nat.{◌-◌}
 use Rattle.planning.specs.Plans.{sector_of}
-use Rattle.composing.proofs.Entries.{Going, going-starts, going-long, going_done, going-enters, going-entered}
-use Rattle.importing.proofs.File.{sector-inside}
+use Rattle.composing.proofs.Entries.{Going}
 use Rattle.importing.proofs.put_entries.Given as goal
 
 abbrev pub invariant-loop-a : goal.invariant-loop-a

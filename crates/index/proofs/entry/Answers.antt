@@ -1,5 +1,4 @@
 -- `index::entry` meets its contract. Assumes nothing.
-use borrow.Author.Rules.{rules}
 use Rattle.format.specs.Layouts.{entry_at}
 use Rattle.index.proofs.entry.Goals as goal
 

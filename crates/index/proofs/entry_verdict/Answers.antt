@@ -1,5 +1,4 @@
 -- `index::entry_verdict` meets its contract. Assumes nothing.
-use borrow.Author.Rules.{rules}
 use native.Mathlib.Omega.{arith}
 use Rattle.format.specs.Opening.{entry_verdict}
 use Rattle.format.proofs.Tests.{below_true, below-iff, differs_true, differs-iff, or-iff, or-true-left, or_true_right}

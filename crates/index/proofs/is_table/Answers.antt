@@ -1,5 +1,4 @@
 -- `index::is_table` meets its contract. Assumes nothing.
-use borrow.Author.Rules.{rules}
 use mathlib.Core.Path.{sym, ◌∙◌}
 use Rattle.format.specs.Opening.{is_table}
 use Rattle.format.proofs.Tests.{or-true-left, or-rest}

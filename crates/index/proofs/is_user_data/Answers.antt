@@ -1,6 +1,4 @@
 -- `index::is_user_data` meets its contract. Assumes nothing.
-use borrow.Author.Rules.{rules}
-use borrow.Author.Tests.{not-true, not-false}
 use mathlib.Core.Logic.Iff
 use mathlib.Core.Logic.{inl, inr}
 use mathlib.Core.Path.{sym}

@@ -1,12 +1,7 @@
-use mathlib.Core.Path.{◌≡◌}
-use Prim.Native.Nat.{◌+◌, ◌*◌, ◌≤◌}
-use borrow.Author.Rules.{rules}
 use native.Mathlib.Omega.{arith}
-use lib.ListN.{length}
-use Rattle.format.specs.Layouts.{index_header_length, entry_count, entry_length, entries_from, entries}
-use Rattle.format.specs.Opening.{entries_verdict, offsets_with, is_table}
+use Rattle.format.specs.Layouts.{entry_count, entries}
 use Rattle.format.proofs.Chains.{stops, refuses, answers, by}
-use Rattle.index.specs.Tables.{one_answer, before, only_one}
+use Rattle.index.specs.Tables.{before, only_one}
 use Rattle.index.proofs.Entries.{verdict-stops, verdict-goes, verdict-done, one-goes, one_none, one_single, one-many}
 use Rattle.index.proofs.one_table.Goals as goal
 

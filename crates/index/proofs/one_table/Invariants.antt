@@ -1,14 +1,10 @@
 -- `index::one_table` meets its contract. The invariant: the entries that are left give what all give, and so do the tables seen with those that are left. Assumes nothing.
 use mathlib.Core.Path.{◌≡◌}
 use Prim.Native.Nat.{◌+◌, ◌*◌, ◌≤◌}
-use borrow.Author.Rules.{rules}
-use native.Mathlib.Omega.{arith}
 use lib.ListN.{length}
 use Rattle.format.specs.Layouts.{index_header_length, entry_count, entry_length, entries_from, entries}
 use Rattle.format.specs.Opening.{entries_verdict, offsets_with, is_table}
-use Rattle.format.proofs.Chains.{stops, refuses, answers, by}
-use Rattle.index.specs.Tables.{one_answer, before, only_one}
-use Rattle.index.proofs.Entries.{verdict-stops, verdict-goes, verdict-done, one-goes, one_none, one_single, one-many}
+use Rattle.index.specs.Tables.{one_answer, before}
 use Rattle.index.proofs.one_table.Given as goal
 
 abbrev pub invariant-loop-left : goal.invariant-loop-left

@@ -1,5 +1,4 @@
 -- `index::unknown` meets its contract. Assumes nothing.
-use borrow.Author.Rules.{rules}
 use mathlib.Core.Bool.{not}
 use mathlib.Core.Logic.Iff
 use mathlib.Core.Logic.{inl, inr}

@@ -1,5 +1,4 @@
 -- `index::with_entry` meets its contract. Assumes nothing.
-use borrow.Author.Rules.{rules}
 use Rattle.format.specs.Refusals.{answer}
 use Rattle.format.specs.Opening.{one_of}
 use Rattle.format.proofs.Tests.{choose-true, choose-false}

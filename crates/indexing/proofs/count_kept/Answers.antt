@@ -1,9 +1,7 @@
-use borrow.Author.Rules.{rules}
-use borrow.Author.Tests.{not-true, not-false}
 use native.Mathlib.Omega.{arith}
 use Rattle.format.specs.Layouts.{entry_count}
 use Rattle.format.proofs.Chains.{by}
-use Rattle.indexing.proofs.Turns.{Counting, count-starts, count-skips, count-keeps, count-ends}
+use Rattle.indexing.proofs.Turns.{count-starts, count-skips, count-keeps, count-ends}
 use Rattle.indexing.proofs.count_kept.Goals as goal
 
 pub loop-rest-init : goal.loop-rest-init

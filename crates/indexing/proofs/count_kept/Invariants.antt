@@ -1,10 +1,5 @@
 -- `indexing::count_kept` meets its contract. The invariant: the entries kept so far and those among the entries that are left give what all give. Assumes nothing.
-use borrow.Author.Rules.{rules}
-use borrow.Author.Tests.{not-true, not-false}
-use native.Mathlib.Omega.{arith}
-use Rattle.format.specs.Layouts.{entry_count}
-use Rattle.format.proofs.Chains.{by}
-use Rattle.indexing.proofs.Turns.{Counting, count-starts, count-skips, count-keeps, count-ends}
+use Rattle.indexing.proofs.Turns.{Counting}
 use Rattle.indexing.proofs.count_kept.Given as goal
 
 abbrev pub invariant-loop-rest : goal.invariant-loop-rest

@@ -3,7 +3,6 @@ use mathlib.Core.Path.{sym}
 use Rattle.format.specs.Committing.{kept_entry}
 use Rattle.format.proofs.Tests.{choose-true, choose-false}
 use Rattle.format.proofs.Chains.{by}
-use borrow.Author.Rules.{rules}
 use Rattle.indexing.proofs.kept_entry.Goals as goal
 
 pub returns-then-is_user_data : goal.returns-then-is_user_data

@@ -1,6 +1,5 @@
 -- `indexing::put_block_entry` meets its contract. Assumes nothing.
 use Rattle.indexing.proofs.Whole.{one-room, wrote_none, wrote_one}
-use borrow.Author.Rules.{rules}
 use Rattle.indexing.proofs.put_block_entry.Goals as goal
 
 pub returns-then-stored-eq0 : goal.returns-then-stored-eq0

@@ -1,7 +1,6 @@
 -- `indexing::put_index` meets its contract. Assumes nothing.
 use native.Mathlib.Omega.{arith}
 use Rattle.indexing.proofs.Whole.{room-is, index-written}
-use borrow.Author.Rules.{rules}
 use Rattle.indexing.proofs.put_index.Goals as goal
 
 pub put_kept-requires : goal.put_kept-requires

@@ -1,12 +1,10 @@
-use borrow.Author.Tests.{not-true, not-false}
 use native.Mathlib.Omega.{arith}
 use mathlib.Core.Path.{ap, ◌∙◌}
 use lib.ListN.{length}
 use Rattle.fields.proofs.Overwrite.{length_part}
 use Rattle.format.specs.Layouts.{entry_count}
 use Rattle.format.proofs.Chains.{by}
-use borrow.Author.Rules.{rules}
-use Rattle.indexing.proofs.Turns.{Putting, put-starts, put-skips, put_keeps, put-room, put-ends}
+use Rattle.indexing.proofs.Turns.{put-starts, put-skips, put_keeps, put-room, put-ends}
 use Rattle.indexing.proofs.put_kept.Goals as goal
 
 pub get-left-requires : goal.get-left-requires

@@ -1,13 +1,5 @@
 -- `indexing::put_kept` meets its contract. The invariant: the entries that are left, written over the present buffer, give what is asked, and the image is as it was. Assumes nothing.
-use borrow.Author.Tests.{not-true, not-false}
-use native.Mathlib.Omega.{arith}
-use mathlib.Core.Path.{ap, ◌∙◌}
-use lib.ListN.{length}
-use Rattle.fields.proofs.Overwrite.{length_part}
-use Rattle.format.specs.Layouts.{entry_count}
-use Rattle.format.proofs.Chains.{by}
-use borrow.Author.Rules.{rules}
-use Rattle.indexing.proofs.Turns.{Putting, put-starts, put-skips, put_keeps, put-room, put-ends}
+use Rattle.indexing.proofs.Turns.{Putting}
 use Rattle.indexing.proofs.put_kept.Given as goal
 
 abbrev pub invariant-loop-left : goal.invariant-loop-left

@@ -1,7 +1,6 @@
 -- `opening::entry_decoded` meets its contract. Assumes nothing.
 use mathlib.Core.Path.{◌≡◌, refl, sym}
 use native.Mathlib.Omega.{arith}
-use borrow.Author.Rules.{rules}
 use Rattle.format.specs.declared.TableKind.TheVariants.{First, Second}
 use Rattle.format.specs.Layouts.{entry_pointer}
 use Rattle.format.proofs.Checks.{first-second}

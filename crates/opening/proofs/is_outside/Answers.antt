@@ -1,6 +1,5 @@
 -- `opening::is_outside` meets its contract. Assumes nothing.
 use mathlib.Core.Path.{sym, subst}
-use borrow.Author.Rules.{rules}
 use Rattle.opening.specs.Answers.{IsNumbered}
 use Rattle.opening.proofs.is_outside.Goals as goal
 

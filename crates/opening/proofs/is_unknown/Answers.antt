@@ -1,5 +1,4 @@
 -- `opening::is_unknown` meets its contract. Assumes nothing.
-use borrow.Author.Rules.{rules}
 use Rattle.format.specs.Tests.{differs}
 use Rattle.format.specs.Layouts.{entry_status}
 use Rattle.format.specs.Reading.{unknown}

@@ -1,5 +1,4 @@
 -- `opening::is_unwritten` meets its contract. Assumes nothing.
-use borrow.Author.Rules.{rules}
 use Rattle.format.specs.Tests.{same}
 use Rattle.format.specs.Layouts.{entry_status}
 use Rattle.format.specs.Reading.{unwritten}

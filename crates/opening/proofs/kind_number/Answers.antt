@@ -1,6 +1,5 @@
 -- `opening::kind_number` meets its contract. Assumes nothing.
 use mathlib.Core.Path.{sym}
-use borrow.Author.Rules.{rules}
 use Rattle.format.specs.Tests.{differs}
 use Rattle.format.specs.Opening.{kind_by}
 use Rattle.opening.specs.Answers.{kind_numbered}

@@ -1,6 +1,5 @@
 -- `opening::kind_verdict` meets its contract. Assumes nothing.
 use mathlib.Core.Path.{ap, ◌∙◌}
-use borrow.Author.Rules.{rules}
 use Rattle.format.specs.Writing.{is_second}
 use Rattle.format.proofs.Chains.{stop-last, on-last, by}
 use Rattle.opening.proofs.kind_verdict.Goals as goal

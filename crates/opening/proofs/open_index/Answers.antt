@@ -1,5 +1,4 @@
 -- `opening::open_index` meets its contract. Assumes nothing.
-use borrow.Author.Rules.{rules}
 use mathlib.Core.Path.{◌≡◌, sym, ap, ◌∙◌}
 use Rattle.format.specs.declared.Verdict.TheVariants.{Passes}
 use Rattle.format.specs.Facts.{IndexOk}

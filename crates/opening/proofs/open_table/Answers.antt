@@ -1,7 +1,6 @@
 -- `opening::open_table` meets its contract. Assumes nothing.
 use mathlib.Core.Path.{sym}
 use native.Mathlib.Omega.{arith}
-use borrow.Author.Rules.{rules}
 use Rattle.format.specs.Facts.{TableOk}
 use Rattle.format.specs.Opening.{opened_as}
 use Rattle.format.proofs.Checks.{table-ok}

@@ -1,5 +1,4 @@
 -- `opening::pointer_at` meets its contract. Assumes nothing.
-use borrow.Author.Rules.{rules}
 use Rattle.format.specs.Reading.{pointer_at}
 use Rattle.opening.proofs.Accepted.{decodes}
 use Rattle.opening.proofs.pointer_at.Goals as goal

@@ -1,6 +1,5 @@
 -- `opening::writable_verdict` meets its contract. Assumes nothing.
 use mathlib.Core.Path.{sym, ap, ◌∙◌}
-use borrow.Author.Rules.{rules}
 use Rattle.format.specs.Opening.{open_verdict}
 use Rattle.format.specs.Writing.{writable_verdict}
 use Rattle.format.proofs.Refusals.{answer-accepted, answer-refused}

@@ -1,5 +1,4 @@
 -- `overlay::locate_parent` meets its contract. Assumes nothing.
-use borrow.Author.Rules.{rules}
 use mathlib.Core.Path.{sym, ap, ◌∙◌}
 use Rattle.format.specs.Answers.{located, located_over}
 use Rattle.overlay.proofs.Pair.{small, parent-at, parent-refused}

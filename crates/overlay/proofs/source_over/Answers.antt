@@ -1,5 +1,4 @@
 -- `overlay::source_over` meets its contract. Assumes nothing.
-use borrow.Author.Rules.{rules}
 use mathlib.Core.Path.{sym, ap, ◌∙◌}
 use Rattle.format.specs.Answers.{located_over, sourced_over}
 use Rattle.overlay.proofs.Pair.{is-of, is-refused}

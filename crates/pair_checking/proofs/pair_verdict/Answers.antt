@@ -1,5 +1,4 @@
 -- `pair_checking::pair_verdict` meets its contract. Assumes nothing.
-use borrow.Author.Rules.{rules}
 use mathlib.Core.Path.{◌≡◌, ap, ◌∙◌}
 use Rattle.format.specs.declared.Verdict.TheVariants.{Refuses}
 use Rattle.format.specs.Refusals.{refused, accepted}

@@ -1,10 +1,7 @@
-use mathlib.Core.Path.{◌≡◌, ap}
-use Prim.Native.Nat.{◌-◌, ◌≤◌}
+use mathlib.Core.Path.{ap}
 use native.Mathlib.Omega.{arith}
-use borrow.Author.Rules.{rules}
-use Rattle.format.specs.Flattening.{written_of, any_other}
-use Rattle.opening.specs.Answers.{contents}
-use Rattle.pairs.proofs.Written.{rest, rest_all, other-found, other_goes, other_none, other-done}
+use Rattle.format.specs.Flattening.{any_other}
+use Rattle.pairs.proofs.Written.{rest_all, other-found, other_goes, other_none, other-done}
 use Rattle.pairs.proofs.any_other.Goals as goal
 
 pub loop-n-init : goal.loop-n-init

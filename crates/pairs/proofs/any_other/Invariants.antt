@@ -1,11 +1,9 @@
 -- `pairs::any_other` meets its contract. The invariant: the sectors below n have this size. Assumes nothing.
-use mathlib.Core.Path.{◌≡◌, ap}
+use mathlib.Core.Path.{◌≡◌}
 use Prim.Native.Nat.{◌-◌, ◌≤◌}
-use native.Mathlib.Omega.{arith}
-use borrow.Author.Rules.{rules}
 use Rattle.format.specs.Flattening.{written_of, any_other}
 use Rattle.opening.specs.Answers.{contents}
-use Rattle.pairs.proofs.Written.{rest, rest_all, other-found, other_goes, other_none, other-done}
+use Rattle.pairs.proofs.Written.{rest}
 use Rattle.pairs.proofs.any_other.Given as goal
 
 abbrev pub invariant-loop-n : goal.invariant-loop-n

@@ -1,11 +1,5 @@
-use mathlib.Core.Path.{◌≡◌}
-use Prim.Native.Nat.{◌+◌, ◌-◌, ◌≤◌}
 use native.Mathlib.Omega.{arith}
-use borrow.Author.Rules.{rules}
-use lib.ListN.{length}
-use Rattle.format.specs.Flattening.{written_of}
-use Rattle.opening.specs.Answers.{contents}
-use Rattle.pairs.proofs.Written.{rest, many-all, many-some, many-none, many-done}
+use Rattle.pairs.proofs.Written.{many-all, many-some, many-none, many-done}
 use Rattle.pairs.proofs.count_written.Goals as goal
 
 pub loop-n-init : goal.loop-n-init

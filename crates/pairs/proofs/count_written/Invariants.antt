@@ -1,12 +1,10 @@
 -- `pairs::count_written` meets its contract. The invariant: so many of the addresses below n have a sector. Assumes nothing.
 use mathlib.Core.Path.{◌≡◌}
 use Prim.Native.Nat.{◌+◌, ◌-◌, ◌≤◌}
-use native.Mathlib.Omega.{arith}
-use borrow.Author.Rules.{rules}
 use lib.ListN.{length}
 use Rattle.format.specs.Flattening.{written_of}
 use Rattle.opening.specs.Answers.{contents}
-use Rattle.pairs.proofs.Written.{rest, many-all, many-some, many-none, many-done}
+use Rattle.pairs.proofs.Written.{rest}
 use Rattle.pairs.proofs.count_written.Given as goal
 
 abbrev pub invariant-loop-n : goal.invariant-loop-n

@@ -1,6 +1,5 @@
 -- `pairs::entry_sector` meets its contract. Assumes nothing.
 use mathlib.Core.Path.{◌≡◌, ◌∙◌}
-use borrow.Author.Rules.{rules}
 use Rattle.fields.specs.Bytes.{part}
 use Rattle.format.specs.Reading.{not_written, pointer_at}
 use Rattle.opening.specs.Answers.{contents}

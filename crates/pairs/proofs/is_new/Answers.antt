@@ -1,9 +1,6 @@
 use mathlib.Core.Bool.{true, false}
-use mathlib.Core.Path.{◌≡◌, refl, ◌∙◌}
-use Prim.Native.Nat.{◌≤◌}
+use mathlib.Core.Path.{refl, ◌∙◌}
 use native.Mathlib.Omega.{arith}
-use borrow.Author.Rules.{rules}
-use Rattle.pairs.specs.Pairs.{sector_at, held_below}
 use Rattle.pairs.proofs.Written.{held_none, held_found, held-goes, new_is}
 use Rattle.pairs.proofs.is_new.Goals as goal
 
@@ -20,11 +17,10 @@ returns-then-is_same c =
     (held_found _ _ _ (omega arith) c.sector.ensures c.is_same.ensures c.if-is_same.true)
 
 pub loop-left-preserved : goal.loop-left-preserved
-loop-left-preserved c =
-    (
-      omega (arith, c.loop-left.invariant.0),
-      held-goes _ _ _ (omega arith) c.sector.ensures c.is_same.ensures c.if-is_same.false ∙ c.loop-left.invariant.1,
-    )
+loop-left-preserved c = (
+  omega (arith, c.loop-left.invariant.0),
+  held-goes _ _ _ (omega arith) c.sector.ensures c.is_same.ensures c.if-is_same.false ∙ c.loop-left.invariant.1,
+)
 
 pub returns : goal.returns
 returns c = new_is _ _ _ _ false c.sector-own.ensures c.loop-left.invariant.1 (held_none _ _ _ (omega arith))

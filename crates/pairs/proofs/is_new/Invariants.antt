@@ -1,11 +1,7 @@
 -- `pairs::is_new` meets its contract. The invariant: none of the addresses from `left` on, below n, has the sector. Assumes nothing.
-use mathlib.Core.Bool.{true, false}
-use mathlib.Core.Path.{◌≡◌, refl, ◌∙◌}
+use mathlib.Core.Path.{◌≡◌}
 use Prim.Native.Nat.{◌≤◌}
-use native.Mathlib.Omega.{arith}
-use borrow.Author.Rules.{rules}
 use Rattle.pairs.specs.Pairs.{sector_at, held_below}
-use Rattle.pairs.proofs.Written.{held_none, held_found, held-goes, new_is}
 use Rattle.pairs.proofs.is_new.Given as goal
 
 abbrev pub invariant-loop-left : goal.invariant-loop-left

@@ -1,6 +1,5 @@
 -- `pairs::is_same` meets its contract. Assumes nothing.
 use native.Mathlib.Omega.{arith}
-use borrow.Author.Rules.{rules}
 use Rattle.pairs.proofs.Written.{size-differs, bytes_same}
 use Rattle.pairs.proofs.is_same.Goals as goal
 

@@ -1,6 +1,5 @@
 -- `pairs::parent_refusal` meets its contract. Assumes nothing.
 use native.Mathlib.Omega.{arith}
-use borrow.Author.Rules.{rules}
 use mathlib.Core.Path.{sym}
 use Rattle.format.proofs.Overlaying.{parent-20, parent-21, parent-other}
 use Rattle.pairs.proofs.parent_refusal.Goals as goal

@@ -1,10 +1,7 @@
-use mathlib.Core.Path.{◌≡◌, ap}
-use Prim.Native.Nat.{◌-◌, ◌≤◌}
+use mathlib.Core.Path.{ap}
 use native.Mathlib.Omega.{arith}
-use borrow.Author.Rules.{rules}
-use Rattle.format.specs.Flattening.{written_of, size_of}
-use Rattle.opening.specs.Answers.{contents}
-use Rattle.pairs.proofs.Written.{rest, rest_all, size-found, size-goes, size-done}
+use Rattle.format.specs.Flattening.{size_of}
+use Rattle.pairs.proofs.Written.{rest_all, size-found, size-goes, size-done}
 use Rattle.pairs.proofs.size_of.Goals as goal
 
 pub loop-n-init : goal.loop-n-init

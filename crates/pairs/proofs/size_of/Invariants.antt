@@ -1,11 +1,9 @@
 -- `pairs::size_of` meets its contract. The invariant: the addresses below n have no sector. Assumes nothing.
-use mathlib.Core.Path.{◌≡◌, ap}
+use mathlib.Core.Path.{◌≡◌}
 use Prim.Native.Nat.{◌-◌, ◌≤◌}
-use native.Mathlib.Omega.{arith}
-use borrow.Author.Rules.{rules}
 use Rattle.format.specs.Flattening.{written_of, size_of}
 use Rattle.opening.specs.Answers.{contents}
-use Rattle.pairs.proofs.Written.{rest, rest_all, size-found, size-goes, size-done}
+use Rattle.pairs.proofs.Written.{rest}
 use Rattle.pairs.proofs.size_of.Given as goal
 
 abbrev pub invariant-loop-n : goal.invariant-loop-n

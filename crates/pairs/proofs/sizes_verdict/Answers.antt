@@ -1,5 +1,4 @@
 -- `pairs::sizes_verdict` meets its contract. Assumes nothing.
-use borrow.Author.Rules.{rules}
 use Rattle.pairs.proofs.Written.{sizes-40, sizes-30, sizes-pass}
 use Rattle.pairs.proofs.sizes_verdict.Goals as goal
 

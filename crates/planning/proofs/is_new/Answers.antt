@@ -1,5 +1,4 @@
 -- `planning::is_new` meets its contract. Assumes nothing.
-use borrow.Author.Rules.{rules}
 use native.Mathlib.Omega.{arith}
 use Rattle.planning.proofs.Looking.{earlier-inside, not_new, new-here}
 use Rattle.planning.proofs.is_new.Goals as goal

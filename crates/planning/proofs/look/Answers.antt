@@ -1,5 +1,4 @@
 -- `planning::look` meets its contract. Assumes nothing.
-use borrow.Author.Rules.{rules}
 use Rattle.planning.proofs.Looking.{found_inside, looked-old, looked-new, looked-earlier}
 use Rattle.planning.proofs.look.Goals as goal
 

@@ -1,5 +1,4 @@
 -- `planning::old_item` meets its contract. Assumes nothing.
-use borrow.Author.Rules.{rules}
 use Rattle.opening.proofs.Accepted.{decodes}
 use Rattle.opening.proofs.Entries.{written_is, pointer_is}
 use Rattle.planning.proofs.Looking.{item-none, item-old}

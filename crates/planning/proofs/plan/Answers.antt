@@ -1,9 +1,5 @@
-use borrow.Author.Rules.{rules}
-use Prim.Native.Nat.{◌-◌}
 use native.Mathlib.Omega.{arith}
-use Rattle.format.specs.Committing.{entry_numbers}
-use Rattle.opening.specs.Answers.{contents}
-use Rattle.planning.proofs.Progress.{Planning, plan-starts, plan-goes, plan-done}
+use Rattle.planning.proofs.Progress.{plan-starts, plan-goes, plan-done}
 use Rattle.planning.proofs.plan.Goals as goal
 
 pub loop-a-init : goal.loop-a-init

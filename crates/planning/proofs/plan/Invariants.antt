@@ -1,10 +1,8 @@
 -- `planning::plan` meets its contract. The invariant: what is planned so far and what is left give the whole. Assumes nothing.
-use borrow.Author.Rules.{rules}
 use Prim.Native.Nat.{◌-◌}
-use native.Mathlib.Omega.{arith}
 use Rattle.format.specs.Committing.{entry_numbers}
 use Rattle.opening.specs.Answers.{contents}
-use Rattle.planning.proofs.Progress.{Planning, plan-starts, plan-goes, plan-done}
+use Rattle.planning.proofs.Progress.{Planning}
 use Rattle.planning.proofs.plan.Given as goal
 
 abbrev pub invariant-loop-a : goal.invariant-loop-a

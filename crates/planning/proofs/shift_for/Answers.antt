@@ -1,5 +1,4 @@
 -- `planning::shift_for` meets its contract: the leading zeros and the length in bits make 64. Assumes nothing.
-use borrow.Author.Rules.{rules}
 use mathlib.Core.Path.{◌≡◌, ◌∙◌}
 use Prim.Native.Nat.{ℕ, suc, ◌+◌, ◌-◌, ◌*◌, ◌^◌, ◌≤◌, ◌<◌}
 use native.Mathlib.Nat.{pow-suc, le_antisymm, lt_of_not-le, le_of_suc-le-suc}

@@ -3,7 +3,6 @@ use native.Mathlib.Omega.{arith}
 use Rattle.fields.specs.Layout.{num}
 use Rattle.fields.proofs.Records.{laid-first, laid_next}
 use Rattle.format.specs.Layouts.{entry_bytes}
-use borrow.Author.Rules.{rules}
 use Rattle.records.proofs.put_entry.Goals as goal
 
 pub returns : goal.returns

@@ -3,7 +3,6 @@ use native.Mathlib.Omega.{arith}
 use Rattle.fields.specs.Layout.{num, raw}
 use Rattle.fields.proofs.Records.{laid-first, laid_next, laid_more}
 use Rattle.format.specs.Layouts.{header_bytes}
-use borrow.Author.Rules.{rules}
 use Rattle.records.proofs.put_header.Goals as goal
 
 pub returns : goal.returns

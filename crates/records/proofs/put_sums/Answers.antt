@@ -2,7 +2,6 @@
 use native.Mathlib.Omega.{arith}
 use Rattle.fields.specs.Layout.{num}
 use Rattle.fields.proofs.Records.{laid-first, laid_next}
-use borrow.Author.Rules.{rules}
 use Rattle.records.proofs.put_sums.Goals as goal
 
 pub returns : goal.returns

@@ -6,7 +6,6 @@ use Rattle.fields.specs.Layout.{num}
 use Rattle.fields.proofs.Overwrite.{overwrite-nil}
 use Rattle.fields.proofs.Records.{laid_next, laid_more}
 use Rattle.records.proofs.Sealed.{block-header, header-none, header-some}
-use borrow.Author.Rules.{rules}
 use Rattle.records.proofs.seal_block.Goals as goal
 
 pub returns-then-stored-eq0 : goal.returns-then-stored-eq0

@@ -3,7 +3,6 @@ use native.Mathlib.Omega.{arith}
 use Rattle.fields.specs.Layout.{num, raw}
 use Rattle.fields.proofs.Records.{laid-first, laid_next}
 use Rattle.records.proofs.Sealed.{index-header}
-use borrow.Author.Rules.{rules}
 use Rattle.records.proofs.seal_index.Goals as goal
 
 pub returns : goal.returns

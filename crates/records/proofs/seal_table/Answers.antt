@@ -3,7 +3,6 @@ use native.Mathlib.Omega.{arith}
 use Rattle.fields.specs.Layout.{num}
 use Rattle.fields.proofs.Records.{laid_next, laid_more}
 use Rattle.records.proofs.Sealed.{table-header}
-use borrow.Author.Rules.{rules}
 use Rattle.records.proofs.seal_table.Goals as goal
 
 pub returns : goal.returns

@@ -1,6 +1,5 @@
 -- `records::set_header` meets its contract. Assumes nothing.
 use Rattle.format.specs.Writing.{set_header}
-use borrow.Author.Rules.{rules}
 use Rattle.records.proofs.set_header.Goals as goal
 
 pub returns : goal.returns

@@ -1,11 +1,10 @@
-use mathlib.Core.Path.{◌≡◌, refl}
-use Prim.Native.Nat.{◌-◌, ◌<◌}
+use mathlib.Core.Path.{refl}
+use Prim.Native.Nat.{◌<◌}
 use native.Mathlib.Omega.{arith}
 use lib.ListN.{length}
-use Rattle.search.specs.declared.Item.TheVariants.{Missing}
 use Rattle.search.specs.Found.{item_found}
-use Rattle.search.proofs.First.{Searching, Comparing, search-done, bytes-agree, bytes-differ, bytes-done}
-use Rattle.search.proofs.Stored.{holds, goal, room, among-starts, among-compares}
+use Rattle.search.proofs.First.{search-done, bytes-agree, bytes-differ, bytes-done}
+use Rattle.search.proofs.Stored.{room, among-starts, among-compares}
 use Rattle.search.proofs.among.Goals as goal
 use Rattle.search.proofs.among.Goals.{Else-j-size}
 

@@ -1,12 +1,10 @@
 -- `search::among` meets its contract: the loops search through the sectors and compare the bytes of one. Assumes nothing.
-use mathlib.Core.Path.{◌≡◌, refl}
-use Prim.Native.Nat.{◌-◌, ◌<◌}
-use native.Mathlib.Omega.{arith}
+use mathlib.Core.Path.{◌≡◌}
+use Prim.Native.Nat.{◌-◌}
 use lib.ListN.{length}
 use Rattle.search.specs.declared.Item.TheVariants.{Missing}
-use Rattle.search.specs.Found.{item_found}
-use Rattle.search.proofs.First.{Searching, Comparing, search-done, bytes-agree, bytes-differ, bytes-done}
-use Rattle.search.proofs.Stored.{holds, goal, room, among-starts, among-compares}
+use Rattle.search.proofs.First.{Searching, Comparing}
+use Rattle.search.proofs.Stored.{holds, goal}
 use Rattle.search.proofs.among.Given as goal
 
 abbrev pub invariant-loop-j : goal.invariant-loop-j

@@ -1,14 +1,11 @@
-use borrow.Author.Rules.{rules}
-use mathlib.Core.Path.{◌≡◌, refl}
-use Prim.Native.Nat.{◌-◌, ◌<◌}
+use mathlib.Core.Path.{refl}
+use Prim.Native.Nat.{◌<◌}
 use native.Mathlib.Omega.{arith}
 use lib.ListN.{length}
-use Rattle.format.specs.Committing.{holds_sector, on_disc}
+use Rattle.format.specs.Committing.{on_disc}
 use Rattle.format.proofs.Chains.{by}
-use Rattle.opening.specs.Answers.{contents}
-use Rattle.search.specs.declared.TableEntry.TheVariants.{Missing}
 use Rattle.search.specs.Found.{entry_found}
-use Rattle.search.proofs.First.{Searching, Comparing, search-starts, search-goes, search-done, bytes-agree, bytes-differ, bytes-done}
+use Rattle.search.proofs.First.{search-starts, search-goes, search-done, bytes-agree, bytes-differ, bytes-done}
 use Rattle.search.proofs.Disc.{empty-other, size-other, size_same}
 use Rattle.search.proofs.on_disc_at.Goals as goal
 use Rattle.search.proofs.on_disc_at.Goals.{Else-j-size}

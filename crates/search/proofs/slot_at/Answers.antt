@@ -1,6 +1,5 @@
 -- `search::slot_at` meets its contract. Assumes nothing.
 use mathlib.Core.Path.{◌≡◌}
-use borrow.Author.Rules.{rules}
 use Rattle.format.specs.Reading.{not_written, pointer_at}
 use Rattle.opening.specs.Answers.{contents}
 use Rattle.opening.proofs.Accepted.{decodes}

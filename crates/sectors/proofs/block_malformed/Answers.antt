@@ -1,7 +1,6 @@
 -- `sectors::block_malformed` meets its contract. Assumes nothing.
 use mathlib.Core.Path.{sym}
 use native.Mathlib.Omega.{arith}
-use borrow.Author.Rules.{rules}
 use Rattle.format.specs.Reading.{block_malformed}
 use Rattle.format.proofs.Tests.{same-iff, same_true, differs_true, differs-iff, or-iff, or-true-left, or_true_right}
 use Rattle.sectors.proofs.block_malformed.Goals as goal

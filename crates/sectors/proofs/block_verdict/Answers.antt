@@ -1,6 +1,5 @@
 -- `sectors::block_verdict` meets its contract. Assumes nothing.
 use native.Mathlib.Omega.{arith}
-use borrow.Author.Rules.{rules}
 use Rattle.format.specs.Reading.{block_verdict}
 use Rattle.format.proofs.Tests.{below_true, below-iff, differs_true, differs-iff}
 use Rattle.format.proofs.Chains.{stop, on, stop-last, on-last, by}

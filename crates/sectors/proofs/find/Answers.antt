@@ -1,7 +1,6 @@
 -- `sectors::find` meets its contract. Assumes nothing.
 use mathlib.Core.Path.{◌≡◌}
 use native.Mathlib.Omega.{arith}
-use borrow.Author.Rules.{rules}
 use Rattle.format.specs.Reading.{not_written, unknown_status, pointer_at, sector_verdict}
 use Rattle.format.proofs.Checks.{open-ok}
 use Rattle.format.proofs.Chains.{stop, on, refuses, accepts, by}

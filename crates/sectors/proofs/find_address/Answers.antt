@@ -1,6 +1,5 @@
 -- `sectors::find_address` meets its contract. Assumes nothing.
 use mathlib.Core.Path.{subst}
-use borrow.Author.Rules.{rules}
 use Rattle.format.specs.Reading.{address_verdict, pointer_of}
 use Rattle.format.proofs.Chains.{stop, on-last, refuses, answers}
 use Rattle.opening.specs.Answers.{IsNumbered}

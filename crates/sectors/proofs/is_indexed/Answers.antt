@@ -1,5 +1,4 @@
 -- `sectors::is_indexed` meets its contract. Assumes nothing.
-use borrow.Author.Rules.{rules}
 use Rattle.format.specs.Layouts.{entry_count, entries}
 use Rattle.sectors.proofs.is_indexed.Goals as goal
 

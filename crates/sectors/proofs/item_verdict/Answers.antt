@@ -1,6 +1,5 @@
 -- `sectors::item_verdict` meets its contract. Assumes nothing.
 use native.Mathlib.Omega.{arith}
-use borrow.Author.Rules.{rules}
 use mathlib.Core.Path.{◌≡◌, sym}
 use Rattle.crc64.specs.Crc.{crc_of}
 use Rattle.format.specs.declared.Verdict.TheVariants.{Passes}

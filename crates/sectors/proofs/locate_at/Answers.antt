@@ -1,5 +1,4 @@
 -- `sectors::locate_at` meets its contract. Assumes nothing.
-use borrow.Author.Rules.{rules}
 use mathlib.Core.Logic.{inl}
 use mathlib.Core.Path.{refl}
 use Rattle.sectors.proofs.locate_at.Goals as goal

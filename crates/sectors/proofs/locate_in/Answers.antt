@@ -1,5 +1,4 @@
 -- `sectors::locate_in` meets its contract. Assumes nothing.
-use borrow.Author.Rules.{rules}
 use mathlib.Core.Path.{sym, ap, ◌∙◌}
 use Rattle.format.specs.Answers.{located}
 use Rattle.format.proofs.Answers.{locate-unopened}

@@ -1,5 +1,4 @@
 -- `sectors::locate_near_at` meets its contract. Assumes nothing.
-use borrow.Author.Rules.{rules}
 use mathlib.Core.Path.{◌≡◌, sym, ap, ◌∙◌}
 use Rattle.format.specs.Refusals.{accepted, answer}
 use Rattle.format.specs.Layouts.{index_offset, entries}

@@ -1,11 +1,5 @@
-use borrow.Author.Rules.{rules}
-use mathlib.Core.Path.{◌≡◌, refl}
-use Prim.Native.Nat.{◌+◌, ◌*◌, ◌≤◌}
+use mathlib.Core.Path.{refl}
 use native.Mathlib.Omega.{arith}
-use lib.ListN.{length}
-use Rattle.format.specs.Layouts.{DBLK, entry_length, entries_from}
-use Rattle.format.specs.Opening.{offsets_of}
-use Rattle.format.specs.Reading.{has}
 use Rattle.format.proofs.Chains.{by}
 use Rattle.sectors.proofs.Indexed.{indexed-found, indexed-goes, indexed-done}
 use Rattle.sectors.proofs.names.Goals as goal

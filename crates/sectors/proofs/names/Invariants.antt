@@ -1,14 +1,10 @@
 -- `sectors::names` meets its contract. The invariant: what is left gives what all gives. Assumes nothing.
-use borrow.Author.Rules.{rules}
-use mathlib.Core.Path.{◌≡◌, refl}
+use mathlib.Core.Path.{◌≡◌}
 use Prim.Native.Nat.{◌+◌, ◌*◌, ◌≤◌}
-use native.Mathlib.Omega.{arith}
 use lib.ListN.{length}
 use Rattle.format.specs.Layouts.{DBLK, entry_length, entries_from}
 use Rattle.format.specs.Opening.{offsets_of}
 use Rattle.format.specs.Reading.{has}
-use Rattle.format.proofs.Chains.{by}
-use Rattle.sectors.proofs.Indexed.{indexed-found, indexed-goes, indexed-done}
 use Rattle.sectors.proofs.names.Given as goal
 
 abbrev pub invariant-loop-n : goal.invariant-loop-n

@@ -1,6 +1,5 @@
 -- `sectors::number_verdict` meets its contract. Assumes nothing.
 use native.Mathlib.Omega.{arith}
-use borrow.Author.Rules.{rules}
 use Rattle.format.proofs.Tests.{at_least-true, at_least-iff}
 use Rattle.format.proofs.Chains.{stop-last, on-last}
 use Rattle.sectors.proofs.number_verdict.Goals as goal

@@ -1,6 +1,5 @@
 -- `sectors::pointer_verdict` meets its contract. Assumes nothing.
 use native.Mathlib.Omega.{arith}
-use borrow.Author.Rules.{rules}
 use mathlib.Core.Bool.{not}
 use mathlib.Core.Path.{ap, ◌∙◌}
 use Rattle.format.specs.Layouts.{index_offset}

@@ -1,5 +1,4 @@
 -- `sectors::read_at` meets its contract. Assumes nothing.
-use borrow.Author.Rules.{rules}
 use mathlib.Core.Path.{◌≡◌, sym, ap, ◌∙◌}
 use Rattle.fields.specs.Bytes.{part}
 use Rattle.format.specs.Refusals.{accepted}

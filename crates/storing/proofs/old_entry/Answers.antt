@@ -1,5 +1,4 @@
 -- `storing::old_entry` meets its contract. Assumes nothing.
-use borrow.Author.Rules.{rules}
 use mathlib.Core.Path.{◌∙◌}
 use Rattle.format.proofs.Chains.{by}
 use Rattle.opening.proofs.Accepted.{decodes}

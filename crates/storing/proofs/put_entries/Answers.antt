@@ -1,9 +1,5 @@
-use borrow.Author.Rules.{rules}
 use native.Mathlib.Omega.{arith}
-use Prim.Native.Nat.{◌-◌}
-use Rattle.format.specs.Committing.{entry_numbers}
-use Rattle.opening.specs.Answers.{contents}
-use Rattle.storing.proofs.Pass.{Going, starts, turns, goes, ends}
+use Rattle.storing.proofs.Pass.{starts, turns, goes, ends}
 use Rattle.storing.proofs.put_entries.Goals as goal
 
 pub loop-a-init : goal.loop-a-init

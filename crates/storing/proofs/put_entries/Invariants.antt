@@ -1,10 +1,8 @@
 -- `storing::put_entries` meets its contract. The invariant: what is left, done from here on, leaves what all leaves. Assumes nothing.
-use borrow.Author.Rules.{rules}
-use native.Mathlib.Omega.{arith}
 use Prim.Native.Nat.{◌-◌}
 use Rattle.format.specs.Committing.{entry_numbers}
 use Rattle.opening.specs.Answers.{contents}
-use Rattle.storing.proofs.Pass.{Going, starts, turns, goes, ends}
+use Rattle.storing.proofs.Pass.{Going}
 use Rattle.storing.proofs.put_entries.Given as goal
 
 abbrev pub invariant-loop-a : goal.invariant-loop-a

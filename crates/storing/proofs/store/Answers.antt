@@ -1,5 +1,4 @@
 -- `storing::store` meets its contract. Assumes nothing.
-use borrow.Author.Rules.{rules}
 use Rattle.fields.specs.Bytes.{part}
 use Rattle.storing.proofs.Steps.{readable, found, adds, added}
 use Rattle.storing.proofs.store.Goals as goal

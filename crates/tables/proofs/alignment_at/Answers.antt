@@ -1,6 +1,5 @@
 -- `tables::alignment_at` meets its contract. Assumes nothing.
 use native.Mathlib.Omega.{arith}
-use borrow.Author.Rules.{rules}
 use Rattle.format.specs.Layouts.{table_alignment}
 use Rattle.tables.proofs.alignment_at.Goals as goal
 

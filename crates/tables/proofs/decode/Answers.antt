@@ -1,6 +1,4 @@
 -- `tables::decode` meets its contract. Assumes nothing.
-use borrow.Author.Rules.{rules}
-use lib.Pow.{pow_pos}
 use Rattle.fields.proofs.Numbers.{one_shifted}
 use Rattle.format.specs.Layouts.{decode}
 use Rattle.tables.proofs.decode.Goals as goal

@@ -1,5 +1,4 @@
 -- `tables::extent_verdict` meets its contract. Assumes nothing.
-use borrow.Author.Rules.{rules}
 use Rattle.format.specs.Opening.{extent_verdict}
 use Rattle.tables.proofs.extent_verdict.Goals as goal
 

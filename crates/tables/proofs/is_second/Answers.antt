@@ -1,5 +1,4 @@
 -- `tables::is_second` meets its contract. Assumes nothing.
-use borrow.Author.Rules.{rules}
 use Rattle.format.specs.Writing.{is_second}
 use Rattle.tables.proofs.is_second.Goals as goal
 

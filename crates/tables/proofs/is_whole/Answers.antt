@@ -1,6 +1,5 @@
 -- `tables::is_whole` meets its contract. Assumes nothing.
 use mathlib.Core.Path.{sym}
-use borrow.Author.Rules.{rules}
 use native.Mathlib.Nat.{mul-mod_right}
 use Rattle.format.proofs.Tests.{same-iff}
 use Rattle.tables.proofs.Whole.{quotient}

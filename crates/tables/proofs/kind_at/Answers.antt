@@ -1,5 +1,4 @@
 -- `tables::kind_at` meets its contract. Assumes nothing.
-use borrow.Author.Rules.{rules}
 use Rattle.format.specs.Opening.{kind_by, kind_at}
 use Rattle.format.proofs.Checks.{lacks-not}
 use Rattle.tables.proofs.kind_at.Goals as goal

@@ -1,6 +1,5 @@
 -- `tables::negative_at` meets its contract. Assumes nothing.
 use native.Mathlib.Omega.{arith}
-use borrow.Author.Rules.{rules}
 use Rattle.format.specs.Layouts.{table_negative}
 use Rattle.tables.proofs.negative_at.Goals as goal
 

@@ -1,7 +1,6 @@
 -- `tables::payload_verdict` meets its contract. Assumes nothing.
 use mathlib.Core.Path.{◌≡◌}
 use native.Mathlib.Omega.{arith}
-use borrow.Author.Rules.{rules}
 use Rattle.crc64.specs.Crc.{crc_of}
 use Rattle.format.specs.Layouts.{table_length, table_payload, table_cmp_crc64, table_crc64}
 use Rattle.format.specs.Opening.{sums_differ, payload_verdict}

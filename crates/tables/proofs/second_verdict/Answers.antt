@@ -1,6 +1,5 @@
 -- `tables::second_verdict` meets its contract. Assumes nothing.
 use native.Mathlib.Omega.{arith}
-use borrow.Author.Rules.{rules}
 use Rattle.format.specs.Layouts.{table_negative}
 use Rattle.format.specs.Opening.{extent_verdict}
 use Rattle.format.proofs.Tests.{below_true, below-iff, differs_true, differs-iff}

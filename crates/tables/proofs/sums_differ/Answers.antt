@@ -1,5 +1,4 @@
 -- `tables::sums_differ` meets its contract. Assumes nothing.
-use borrow.Author.Rules.{rules}
 use mathlib.Core.Path.{sym}
 use native.Mathlib.Omega.{arith}
 use Rattle.format.specs.Opening.{sums_differ}

@@ -2,8 +2,6 @@
 use mathlib.Core.Path.{◌≡◌, sym}
 use Prim.Native.Nat.{◌*◌}
 use native.Mathlib.Omega.{arith}
-use borrow.Author.Rules.{rules}
-use borrow.Author.Tests.{not-true, not-false}
 use Rattle.format.specs.Tests.{same}
 use Rattle.format.specs.Layouts.{entry_width, table_shift, table_count, table_length, table_cmp_length}
 use Rattle.format.specs.Opening.{table_malformed}

@@ -1,6 +1,5 @@
 -- `tables::table_verdict` meets its contract. Assumes nothing.
 use native.Mathlib.Omega.{arith}
-use borrow.Author.Rules.{rules}
 use Rattle.format.specs.Opening.{table_verdict}
 use Rattle.format.proofs.Tests.{below_true, below-iff, differs_true, differs-iff}
 use Rattle.format.proofs.Chains.{stop, on, stops, goes, by}

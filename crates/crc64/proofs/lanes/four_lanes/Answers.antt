@@ -1,9 +1,7 @@
-use mathlib.Core.Path.{◌≡◌, sym, ap, ap₂, ◌∙◌}
-use Prim.Native.Nat.{◌+◌, ◌-◌, ◌≤◌, ◌%◌}
+use mathlib.Core.Path.{sym, ap, ap₂, ◌∙◌}
+use Prim.Native.Nat.{◌+◌, ◌≤◌}
 use native.Mathlib.Omega.{arith}
-use borrow.Author.Rules.{rules}
-use lib.ListN.{length, drop}
-use Rattle.crc64.specs.Crc.{run}
+use lib.ListN.{length}
 use Rattle.crc64.specs.Internal.{joined}
 use Rattle.crc64.proofs.Joined.{lanes_start, lanes_next}
 use Rattle.crc64.proofs.Run.{run-done}

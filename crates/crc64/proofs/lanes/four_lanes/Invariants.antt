@@ -1,14 +1,9 @@
 -- `lanes::four_lanes` meets its contract: what is left, into the joined register, is all into the first. Assumes nothing.
-use mathlib.Core.Path.{◌≡◌, sym, ap, ap₂, ◌∙◌}
-use Prim.Native.Nat.{◌+◌, ◌-◌, ◌≤◌, ◌%◌}
-use native.Mathlib.Omega.{arith}
-use borrow.Author.Rules.{rules}
+use mathlib.Core.Path.{◌≡◌}
+use Prim.Native.Nat.{◌-◌, ◌≤◌, ◌%◌}
 use lib.ListN.{length, drop}
 use Rattle.crc64.specs.Crc.{run}
 use Rattle.crc64.specs.Internal.{joined}
-use Rattle.crc64.proofs.Joined.{lanes_start, lanes_next}
-use Rattle.crc64.proofs.Run.{run-done}
-use lib.Bits.{bit_xor}
 use Rattle.crc64.proofs.lanes.four_lanes.Given as goal
 
 abbrev pub invariant-loop-i : goal.invariant-loop-i

@@ -2,7 +2,6 @@
 use mathlib.Core.Path.{ap, ◌∙◌}
 use Prim.Native.Nat.{ℕ}
 use lib.Bits.{bit_xor}
-use borrow.Author.Rules.{rules}
 use Rattle.crc64.specs.Crc.{shifts}
 use Rattle.crc64.specs.Internal.{joined}
 use Rattle.crc64.proofs.lanes.join.Goals as goal

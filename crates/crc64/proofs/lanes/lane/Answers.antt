@@ -1,5 +1,4 @@
 -- `lanes::lane` meets its contract: each look-up is in range, and the eight are 256 shifts. Assumes nothing.
-use native.Mathlib.Omega.{arith}
 use Rattle.crc64.proofs.Lookup.{looks}
 use Rattle.crc64.proofs.lanes.lane.Goals as goal
 

@@ -6,7 +6,6 @@ use lib.ListN.{length, drop, length-take, length-drop}
 use lib.Seq.{take_all}
 use Rattle.crc64.specs.Crc.{run}
 use Rattle.crc64.proofs.Run.{run-split}
-use borrow.Author.Rules.{rules}
 use Rattle.crc64.proofs.lanes.update.Goals as goal
 
 pub slice_bounds-four_lanes-end : goal.slice_bounds-four_lanes-end
@@ -14,10 +13,10 @@ slice_bounds-four_lanes-end c = simp length-take (omega arith)
 
 pub four_lanes-x-requires : goal.four_lanes-x-requires
 four_lanes-x-requires c = record {
-      tables = c.requires;
-      s_len = simp length-take (omega arith);
-      in_bounds = simp length-take (omega arith);
-    }
+  tables = c.requires;
+  s_len = simp length-take (omega arith);
+  in_bounds = simp length-take (omega arith);
+}
 
 pub returns : goal.returns
 returns c =

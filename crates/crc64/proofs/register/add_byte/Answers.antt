@@ -1,5 +1,4 @@
 -- `register::add_byte` meets its contract. Assumes nothing.
-use borrow.Author.Rules.{rules}
 use Rattle.crc64.specs.Crc.{add_byte}
 use Rattle.crc64.proofs.register.add_byte.Goals as goal
 

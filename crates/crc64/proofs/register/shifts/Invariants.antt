@@ -1,8 +1,5 @@
 -- `register::shifts` meets its contract: the shifts that are left, of the present register, are all of the first. Assumes nothing.
-use mathlib.Core.Path.{◌≡◌, ap, ◌∙◌}
-use Prim.Native.Nat.{ℕ, suc, ◌-◌}
-use native.Mathlib.Omega.{arith}
-use borrow.Author.Rules.{rules}
+use mathlib.Core.Path.{◌≡◌}
 use Rattle.crc64.specs.Crc.{shifts}
 use Rattle.crc64.proofs.register.shifts.Given as goal
 

@@ -1,10 +1,7 @@
 -- `register::update` meets its contract: what is left, into the present register, is all into the first. Assumes nothing.
-use mathlib.Core.Path.{◌≡◌, sym, ap, ◌∙◌}
-use Prim.Native.Nat.{ℕ, ◌-◌, ◌+◌, ◌≤◌}
-use native.Mathlib.Omega.{arith}
-use borrow.Author.Rules.{rules}
+use mathlib.Core.Path.{◌≡◌}
+use Prim.Native.Nat.{◌-◌, ◌≤◌}
 use lib.ListN.{length, drop}
-use Rattle.crc64.proofs.Run.{run-next, run-done}
 use Rattle.crc64.specs.Crc.{run}
 use Rattle.crc64.proofs.register.update.Given as goal
 

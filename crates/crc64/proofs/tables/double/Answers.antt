@@ -1,8 +1,6 @@
-use mathlib.Core.Path.{◌≡◌}
-use Prim.Native.Nat.{◌-◌, ◌+◌, ◌*◌, ◌%◌, ◌^◌, ◌≤◌}
+use Prim.Native.Nat.{◌+◌, ◌*◌, ◌%◌, ◌^◌}
 use native.Mathlib.Omega.{arith}
-use borrow.Author.Rules.{rules}
-use Rattle.crc64.specs.Internal.{entry, Filled}
+use Rattle.crc64.specs.Internal.{entry}
 use Rattle.crc64.proofs.Fill.{filled-to, filled-bit, bit_le, bit-of, bit-next}
 use Rattle.crc64.proofs.tables.double.Goals as goal
 

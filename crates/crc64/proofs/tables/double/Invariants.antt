@@ -1,10 +1,7 @@
 -- `tables::double` meets its contract: the entries below 256 k + 2^j + m are filled in. Assumes nothing.
 use mathlib.Core.Path.{◌≡◌}
-use Prim.Native.Nat.{◌-◌, ◌+◌, ◌*◌, ◌%◌, ◌^◌, ◌≤◌}
-use native.Mathlib.Omega.{arith}
-use borrow.Author.Rules.{rules}
+use Prim.Native.Nat.{◌-◌, ◌+◌, ◌*◌, ◌^◌, ◌≤◌}
 use Rattle.crc64.specs.Internal.{entry, Filled}
-use Rattle.crc64.proofs.Fill.{filled-to, filled-bit, bit_le, bit-of, bit-next}
 use Rattle.crc64.proofs.tables.double.Given as goal
 
 abbrev pub invariant-loop-m : goal.invariant-loop-m

@@ -1,7 +1,6 @@
-use Prim.Native.Nat.{◌-◌, ◌+◌, ◌*◌, ◌≤◌}
+use Prim.Native.Nat.{◌+◌, ◌*◌}
 use native.Mathlib.Omega.{arith}
-use borrow.Author.Rules.{rules}
-use Rattle.crc64.specs.Internal.{entry, Filled}
+use Rattle.crc64.specs.Internal.{entry}
 use Rattle.crc64.proofs.Fill.{filled_none, filled-to}
 use Rattle.crc64.proofs.tables.fill.Goals as goal
 

@@ -1,9 +1,6 @@
 -- `tables::fill` meets its contract: the first k tables are filled in. Assumes nothing.
-use Prim.Native.Nat.{◌-◌, ◌+◌, ◌*◌, ◌≤◌}
-use native.Mathlib.Omega.{arith}
-use borrow.Author.Rules.{rules}
+use Prim.Native.Nat.{◌-◌, ◌*◌, ◌≤◌}
 use Rattle.crc64.specs.Internal.{entry, Filled}
-use Rattle.crc64.proofs.Fill.{filled_none, filled-to}
 use Rattle.crc64.proofs.tables.fill.Given as goal
 
 abbrev pub invariant-loop-k : goal.invariant-loop-k

@@ -1,9 +1,8 @@
-use mathlib.Core.Path.{◌≡◌, ap, ◌∙◌}
-use Prim.Native.Nat.{◌-◌, ◌≤◌}
+use mathlib.Core.Path.{ap, ◌∙◌}
 use native.Mathlib.Omega.{arith}
 use borrow.Author.Rules.{rules}
 use Rattle.crc64.specs.Crc.{shift}
-use Rattle.crc64.specs.Internal.{power, Filled}
+use Rattle.crc64.specs.Internal.{power}
 use Rattle.crc64.proofs.Fill.{filled_none, filled-to, filled_more, power-next}
 use Rattle.crc64.proofs.tables.powers.Goals as goal
 

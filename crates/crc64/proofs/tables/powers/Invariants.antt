@@ -1,11 +1,7 @@
 -- `tables::powers` meets its contract: the powers below n are filled in, and the register is the next. Assumes nothing.
-use mathlib.Core.Path.{◌≡◌, ap, ◌∙◌}
+use mathlib.Core.Path.{◌≡◌}
 use Prim.Native.Nat.{◌-◌, ◌≤◌}
-use native.Mathlib.Omega.{arith}
-use borrow.Author.Rules.{rules}
-use Rattle.crc64.specs.Crc.{shift}
 use Rattle.crc64.specs.Internal.{power, Filled}
-use Rattle.crc64.proofs.Fill.{filled_none, filled-to, filled_more, power-next}
 use Rattle.crc64.proofs.tables.powers.Given as goal
 
 abbrev pub invariant-loop-n : goal.invariant-loop-n

@@ -1,8 +1,7 @@
 use mathlib.Core.Path.{◌≡◌, ap, ◌∙◌}
-use Prim.Native.Nat.{ℕ, ◌-◌, ◌+◌, ◌*◌, ◌^◌, ◌≤◌}
+use Prim.Native.Nat.{ℕ, ◌-◌, ◌+◌, ◌*◌, ◌^◌}
 use native.Mathlib.Omega.{arith}
-use borrow.Author.Rules.{rules}
-use Rattle.crc64.specs.Internal.{entry, Filled}
+use Rattle.crc64.specs.Internal.{entry}
 use Rattle.crc64.proofs.Fill.{filled-to, filled_more, entry_zero, power-is}
 use Rattle.crc64.proofs.tables.table.Goals as goal
 

@@ -1,10 +1,6 @@
 -- `tables::table` meets its contract: the entries below 256 k + 2^j are filled in. Assumes nothing.
-use mathlib.Core.Path.{◌≡◌, ap, ◌∙◌}
-use Prim.Native.Nat.{ℕ, ◌-◌, ◌+◌, ◌*◌, ◌^◌, ◌≤◌}
-use native.Mathlib.Omega.{arith}
-use borrow.Author.Rules.{rules}
+use Prim.Native.Nat.{◌-◌, ◌+◌, ◌*◌, ◌^◌, ◌≤◌}
 use Rattle.crc64.specs.Internal.{entry, Filled}
-use Rattle.crc64.proofs.Fill.{filled-to, filled_more, entry_zero, power-is}
 use Rattle.crc64.proofs.tables.table.Given as goal
 
 abbrev pub invariant-loop-j : goal.invariant-loop-j
