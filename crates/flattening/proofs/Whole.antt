@@ -8,7 +8,7 @@ use lib.ListN.{length, length-map}
 use Rattle.fields.specs.Bytes.{overwrite}
 use Rattle.format.specs.declared.Verdict.TheVariants.{Passes}
 use Rattle.format.specs.Lists.{All}
-use Rattle.format.specs.Refusals.{refusal, refused, accepted}
+use Rattle.format.specs.Refusals.{refusal, Answer, refused, accepted}
 use Rattle.format.specs.Opening.{Opened, opening}
 use Rattle.format.specs.Writing.{most_sectors, largest_size, most_addresses, placed}
 use Rattle.format.specs.Creating.{created_used, created_bytes}
@@ -19,7 +19,7 @@ use Rattle.format.proofs.Storing.{stored-few}
 use Rattle.format.proofs.Composing.{Composable}
 use Rattle.format.proofs.Flattening.{sector_list, number_list, pair-some, Flattenable, flattenable, composable, pieces_are, flatten-composed}
 use Rattle.opening.proofs.Accepted.{opened-is}
-use Rattle.pairs.specs.Pairs.{sector_at}
+use Rattle.pairs.specs.Pairs.{Pair, sector_at}
 use Rattle.pairs.proofs.Sectors.{sector-some, sector-is}
 use Rattle.storing.specs.Turns.{no_disc}
 use Rattle.composing.specs.declared.Layout.{Layout}
@@ -48,6 +48,12 @@ pub record Ready (buffer child parent application : List ℕ) (count size : ℕ)
   pub checked : flatten_verdict buffer child parent application ≡ Passes
   pub size_is : size ≡ size_of (written_of child parent)
   pub any : written_of child parent ≢ []
+
+-- by what the functions that write ask for
+pub ready-by : {buffer child parent application : List ℕ} {t : Opened} {p : Answer Opened} {size : ℕ} → Pair child parent t p
+    → flatten_verdict buffer child parent application ≡ Passes → size ≡ size_of (written_of child parent) → written_of child parent ≢ []
+    → Ready buffer child parent application t.count size
+ready-by h checked is any = record { many = count-is _ _ h.opens; checked = checked; size_is = is; any = any }
 
 module _ {buffer child parent application : List ℕ} {count size : ℕ} (q : Ready buffer child parent application count size) where
   k : Flattenable buffer child parent application

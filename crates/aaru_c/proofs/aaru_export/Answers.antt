@@ -1,5 +1,4 @@
 -- `aaru_c::aaru_export` meets its contract. Assumes nothing.
-use borrow.Author.Rules.{rules}
 use Rattle.format.specs.Answers.{exported, answered}
 use Rattle.aaru_c.specs.Returned.{returned, left}
 use Rattle.aaru_c.proofs.aaru_export.Goals as goal

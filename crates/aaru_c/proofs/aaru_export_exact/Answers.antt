@@ -1,5 +1,4 @@
 -- `aaru_c::aaru_export_exact` meets its contract. Assumes nothing.
-use borrow.Author.Rules.{rules}
 use Rattle.format.specs.Answers.{exported_exact, answered}
 use Rattle.aaru_c.specs.Returned.{returned, left}
 use Rattle.aaru_c.proofs.aaru_export_exact.Goals as goal

@@ -1,5 +1,4 @@
 -- `aaru_c::aaru_flatten` meets its contract. Assumes nothing.
-use borrow.Author.Rules.{rules}
 use Rattle.aaru_c.proofs.Leaving.{leaves}
 use Rattle.aaru_c.proofs.aaru_flatten.Goals as goal
 

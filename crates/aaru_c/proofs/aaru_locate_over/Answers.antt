@@ -15,7 +15,7 @@ address : (c : Start) → to_z w64 (of_z w64 c.args.address) ≡ c.args.address
 address c = let f : SFits w64 c.args.address = search rules in to_z-of_z f
 
 is-located : (c : After-locate_over-answer) → let a = c.args in located_over c.locate_over-answer.result ≡ locate_over a.child.now a.parent.now a.address
-is-located c = rw ((let address_is : (to_z w64 (of_z w64 c.args.address) ≡ c.args.address) = let f : SFits w64 c.args.address = search rules in to_z-of_z f in address_is)) at c.locate_over-answer.ensures
+is-located c = let a : SFits w64 c.args.address = search rules in rw (to_z-of_z a) at c.locate_over-answer.ensures
 
 pub returns-in-In : goal.returns-in-In
 unfolding returned located_over

@@ -1,5 +1,4 @@
 -- `aaru_c::numbers` meets its contract. Assumes nothing.
-use borrow.Author.Rules.{rules}
 use Rattle.format.specs.Answers.{updated}
 use Rattle.aaru_c.specs.Returned.{returned}
 use Rattle.aaru_c.proofs.numbers.Goals as goal

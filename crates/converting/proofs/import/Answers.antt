@@ -1,7 +1,6 @@
 -- `converting::import` meets its contract. Assumes nothing.
 use mathlib.Core.Path.{ap}
 use native.Mathlib.Omega.{arith}
-use borrow.Author.Rules.{rules}
 use Rattle.format.specs.Answers.{updated}
 use Rattle.text.proofs.Writes.{writes-prints}
 use Rattle.converting.specs.Texts.{import_text}

@@ -5,7 +5,6 @@ use Rattle.flat.proofs.put_file.Goals as goal
 pub loop-n-init : goal.loop-n-init
 loop-n-init c = going-starts _ _ _ c.requires.0 _
 
--- in what follows d is the place at the loop's head
 pub put_piece-requires : goal.put_piece-requires
 put_piece-requires c =
     let h = c.requires in

@@ -12,7 +12,6 @@ loop-n-init c = (omega arith, λ i l. absurd (omega arith))
 pub slot_at-slot-requires : goal.slot_at-slot-requires
 slot_at-slot-requires c = (c.requires.0, omega arith)
 
--- in what follows d is the place at the loop's head
 pub returns-then-p-size : goal.returns-then-p-size
 returns-then-p-size c =
     sym (refused-at _ _ _ _ (omega arith) c.loop-n.invariant.1

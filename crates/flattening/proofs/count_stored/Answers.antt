@@ -22,7 +22,6 @@ pub overflow_add-stored : goal.overflow_add-stored
 overflow_add-stored c =
     omega (arith, c.loop-n.invariant.1 0, items-few 0 (sector_at c.args.child.now c.args.parent.now) c.loop-n.n)
 
--- in what follows d is the place at the loop's head
 pub loop-n-preserved-then-is_new : goal.loop-n-preserved-then-is_new
 loop-n-preserved-then-is_new c =
     (omega arith, λ block. pair-new block _ _ (c.loop-n.invariant.1 block) (rw c.sector.ensures at c.if-sector-gt0.true) (sym c.if-is_new.true ∙ c.is_new.ensures))

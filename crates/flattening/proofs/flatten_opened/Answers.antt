@@ -15,7 +15,6 @@ use Rattle.flattening.proofs.Whole.{count-is}
 use Rattle.flattening.proofs.flatten_opened.Goals as goal
 use Rattle.flattening.proofs.flatten_opened.Goals.{In_default, In_default-w}
 
--- in what follows s is the start
 pub pair_verdict-v-requires : goal.pair_verdict-v-requires
 pair_verdict-v-requires c = (c.requires.0, c.requires.1, sym c.open-p.ensures)
 

@@ -14,18 +14,20 @@ use Rattle.pairs.specs.Pairs.{sector_at}
 use Rattle.composing.specs.Composes.{stored_of, Plan, Fits}
 use Rattle.composing.proofs.Entries.{stored-lays, stored-filled}
 use Rattle.composing.proofs.Laid.{Most, most-used, most-image, most-end, most-block, fits-lays}
-use Rattle.flattening.proofs.Whole.{count-is, Ready, flat-lays, flat-most, flat-roomy, flat-plan, flat-fits, flat-done}
+use Rattle.flattening.proofs.Whole.{Ready, ready-by, flat-lays, flat-most, flat-roomy, flat-plan, flat-fits, flat-done}
 use Rattle.flattening.proofs.flatten_roomy.Goals as goal
 use Rattle.flattening.proofs.flatten_roomy.Goals.{After-lay_out-at, Start}
 
--- in what follows s is the start, i the place after `put_image`, w that after `put_sectors`, and d that after `lay_out`
+-- in what follows q is that the pair is ready, m the most that is stored, w the plan
 ready : (c : Start) → let a = c.args in Ready a.buffer.now a.child.now a.parent.now a.application.now (contents a.t).count a.size
-ready c = let h = c.requires in record { many = count-is _ _ h.0.opens; checked = h.1; size_is = h.2; any = h.3 }
+ready c = let h = c.requires in ready-by h.0 h.1 h.2 h.3
 
 most : (c : Start)
     → (let a = c.args in
     Most (sector_at a.child.now a.parent.now) (contents a.t).count a.size (length (written_of a.child.now a.parent.now)) a.most)
-most c = flat-most ((let ready_is : (let a = c.args in Ready a.buffer.now a.child.now a.parent.now a.application.now (contents a.t).count a.size) = let h = c.requires in record { many = count-is _ _ h.0.opens; checked = h.1; size_is = h.2; any = h.3 } in ready_is)) c.requires.4
+most c =
+    let q = ready-by c.requires.0 c.requires.1 c.requires.2 c.requires.3 in
+    flat-most q c.requires.4
 
 pub put_image-requires : goal.put_image-requires
 put_image-requires c =
@@ -44,19 +46,28 @@ planned : (c : After-lay_out-at)
     → (let a = c.args in
     Plan (sector_at a.child.now a.parent.now) (contents a.t).count a.size c.put_sectors-stored.result c.lay_out-at.result)
 planned c =
-    flat-plan ((let ready_is : (let a = c.args in Ready a.buffer.now a.child.now a.parent.now a.application.now (contents a.t).count a.size) = let h = c.requires in record { many = count-is _ _ h.0.opens; checked = h.1; size_is = h.2; any = h.3 } in ready_is)) (rw (most-used ((let most_is : (let a = c.args in Most (sector_at a.child.now a.parent.now) (contents a.t).count a.size (length (written_of a.child.now a.parent.now)) a.most) = flat-most ((let ready_is : (let a = c.args in Ready a.buffer.now a.child.now a.parent.now a.application.now (contents a.t).count a.size) = let h = c.requires in record { many = count-is _ _ h.0.opens; checked = h.1; size_is = h.2; any = h.3 } in ready_is)) c.requires.4 in most_is))) at c.put_sectors-stored.ensures.0) (rw c.count-count.ensures at c.lay_out-at.ensures)
+    let q = ready-by c.requires.0 c.requires.1 c.requires.2 c.requires.3 in
+    let m = flat-most q c.requires.4 in
+    flat-plan q (rw (most-used m) at c.put_sectors-stored.ensures.0) (rw c.count-count.ensures at c.lay_out-at.ensures)
 
 room : (c : After-lay_out-at)
     → c.lay_out-at.result.end ≤ length c.args.buffer.now
 room c =
-    le_trans (most-end ((let most_is : (let a = c.args in Most (sector_at a.child.now a.parent.now) (contents a.t).count a.size (length (written_of a.child.now a.parent.now)) a.most) = flat-most ((let ready_is : (let a = c.args in Ready a.buffer.now a.child.now a.parent.now a.application.now (contents a.t).count a.size) = let h = c.requires in record { many = count-is _ _ h.0.opens; checked = h.1; size_is = h.2; any = h.3 } in ready_is)) c.requires.4 in most_is)) ((let planned_is : (let a = c.args in Plan (sector_at a.child.now a.parent.now) (contents a.t).count a.size c.put_sectors-stored.result c.lay_out-at.result) = flat-plan ((let ready_is : (let a = c.args in Ready a.buffer.now a.child.now a.parent.now a.application.now (contents a.t).count a.size) = let h = c.requires in record { many = count-is _ _ h.0.opens; checked = h.1; size_is = h.2; any = h.3 } in ready_is)) (rw (most-used ((let most_is : (let a = c.args in Most (sector_at a.child.now a.parent.now) (contents a.t).count a.size (length (written_of a.child.now a.parent.now)) a.most) = flat-most ((let ready_is : (let a = c.args in Ready a.buffer.now a.child.now a.parent.now a.application.now (contents a.t).count a.size) = let h = c.requires in record { many = count-is _ _ h.0.opens; checked = h.1; size_is = h.2; any = h.3 } in ready_is)) c.requires.4 in most_is))) at c.put_sectors-stored.ensures.0) (rw c.count-count.ensures at c.lay_out-at.ensures) in planned_is))) c.requires.5
+    let q = ready-by c.requires.0 c.requires.1 c.requires.2 c.requires.3 in
+    let m = flat-most q c.requires.4 in
+    let w = flat-plan q (rw (most-used m) at c.put_sectors-stored.ensures.0) (rw c.count-count.ensures at c.lay_out-at.ensures) in
+    le_trans (most-end m w) c.requires.5
 
 -- the new image stands in front
 fits : (c : After-lay_out-at)
     → (let a = c.args in
     Fits c.put_image.new.buf (sector_at a.child.now a.parent.now) (contents a.t).count a.size c.put_sectors-stored.result c.lay_out-at.result)
 fits c =
-    flat-fits ((let ready_is : (let a = c.args in Ready a.buffer.now a.child.now a.parent.now a.application.now (contents a.t).count a.size) = let h = c.requires in record { many = count-is _ _ h.0.opens; checked = h.1; size_is = h.2; any = h.3 } in ready_is)) _ _ _ _ _ ((let planned_is : (let a = c.args in Plan (sector_at a.child.now a.parent.now) (contents a.t).count a.size c.put_sectors-stored.result c.lay_out-at.result) = flat-plan ((let ready_is : (let a = c.args in Ready a.buffer.now a.child.now a.parent.now a.application.now (contents a.t).count a.size) = let h = c.requires in record { many = count-is _ _ h.0.opens; checked = h.1; size_is = h.2; any = h.3 } in ready_is)) (rw (most-used ((let most_is : (let a = c.args in Most (sector_at a.child.now a.parent.now) (contents a.t).count a.size (length (written_of a.child.now a.parent.now)) a.most) = flat-most ((let ready_is : (let a = c.args in Ready a.buffer.now a.child.now a.parent.now a.application.now (contents a.t).count a.size) = let h = c.requires in record { many = count-is _ _ h.0.opens; checked = h.1; size_is = h.2; any = h.3 } in ready_is)) c.requires.4 in most_is))) at c.put_sectors-stored.ensures.0) (rw c.count-count.ensures at c.lay_out-at.ensures) in planned_is)) ((let room_is : (c.lay_out-at.result.end ≤ length c.args.buffer.now) = le_trans (most-end ((let most_is : (let a = c.args in Most (sector_at a.child.now a.parent.now) (contents a.t).count a.size (length (written_of a.child.now a.parent.now)) a.most) = flat-most ((let ready_is : (let a = c.args in Ready a.buffer.now a.child.now a.parent.now a.application.now (contents a.t).count a.size) = let h = c.requires in record { many = count-is _ _ h.0.opens; checked = h.1; size_is = h.2; any = h.3 } in ready_is)) c.requires.4 in most_is)) ((let planned_is : (let a = c.args in Plan (sector_at a.child.now a.parent.now) (contents a.t).count a.size c.put_sectors-stored.result c.lay_out-at.result) = flat-plan ((let ready_is : (let a = c.args in Ready a.buffer.now a.child.now a.parent.now a.application.now (contents a.t).count a.size) = let h = c.requires in record { many = count-is _ _ h.0.opens; checked = h.1; size_is = h.2; any = h.3 } in ready_is)) (rw (most-used ((let most_is : (let a = c.args in Most (sector_at a.child.now a.parent.now) (contents a.t).count a.size (length (written_of a.child.now a.parent.now)) a.most) = flat-most ((let ready_is : (let a = c.args in Ready a.buffer.now a.child.now a.parent.now a.application.now (contents a.t).count a.size) = let h = c.requires in record { many = count-is _ _ h.0.opens; checked = h.1; size_is = h.2; any = h.3 } in ready_is)) c.requires.4 in most_is))) at c.put_sectors-stored.ensures.0) (rw c.count-count.ensures at c.lay_out-at.ensures) in planned_is))) c.requires.5 in room_is)) (rw c.count-count.ensures at c.put_image.ensures)
+    let q = ready-by c.requires.0 c.requires.1 c.requires.2 c.requires.3 in
+    let m = flat-most q c.requires.4 in
+    let w = flat-plan q (rw (most-used m) at c.put_sectors-stored.ensures.0) (rw c.count-count.ensures at c.lay_out-at.ensures) in
+    let r = le_trans (most-end m w) c.requires.5 in
+    flat-fits q _ _ _ _ _ w r (rw c.count-count.ensures at c.put_image.ensures)
 
 -- and behind it the stored sectors
 block : (c : After-lay_out-at)
@@ -64,7 +75,10 @@ block : (c : After-lay_out-at)
     let used = c.lay_out-at.result.used in
     c.put_sectors-stored.new.buf ≡ overwrite c.put_image.new.buf (used + block_header_length) (flatten (stored_of used (sector_at a.child.now a.parent.now) (contents a.t).count).items))
 block c =
-    most-block ((let most_is : (let a = c.args in Most (sector_at a.child.now a.parent.now) (contents a.t).count a.size (length (written_of a.child.now a.parent.now)) a.most) = flat-most ((let ready_is : (let a = c.args in Ready a.buffer.now a.child.now a.parent.now a.application.now (contents a.t).count a.size) = let h = c.requires in record { many = count-is _ _ h.0.opens; checked = h.1; size_is = h.2; any = h.3 } in ready_is)) c.requires.4 in most_is)) ((let planned_is : (let a = c.args in Plan (sector_at a.child.now a.parent.now) (contents a.t).count a.size c.put_sectors-stored.result c.lay_out-at.result) = flat-plan ((let ready_is : (let a = c.args in Ready a.buffer.now a.child.now a.parent.now a.application.now (contents a.t).count a.size) = let h = c.requires in record { many = count-is _ _ h.0.opens; checked = h.1; size_is = h.2; any = h.3 } in ready_is)) (rw (most-used ((let most_is : (let a = c.args in Most (sector_at a.child.now a.parent.now) (contents a.t).count a.size (length (written_of a.child.now a.parent.now)) a.most) = flat-most ((let ready_is : (let a = c.args in Ready a.buffer.now a.child.now a.parent.now a.application.now (contents a.t).count a.size) = let h = c.requires in record { many = count-is _ _ h.0.opens; checked = h.1; size_is = h.2; any = h.3 } in ready_is)) c.requires.4 in most_is))) at c.put_sectors-stored.ensures.0) (rw c.count-count.ensures at c.lay_out-at.ensures) in planned_is)) _ c.put_sectors-stored.ensures.1
+    let q = ready-by c.requires.0 c.requires.1 c.requires.2 c.requires.3 in
+    let m = flat-most q c.requires.4 in
+    let w = flat-plan q (rw (most-used m) at c.put_sectors-stored.ensures.0) (rw c.count-count.ensures at c.lay_out-at.ensures) in
+    most-block m w _ c.put_sectors-stored.ensures.1
 
 pub put_entries-requires : goal.put_entries-requires
 put_entries-requires c =

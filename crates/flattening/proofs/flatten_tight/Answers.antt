@@ -6,21 +6,23 @@ use Rattle.opening.specs.Answers.{contents}
 use Rattle.pairs.specs.Pairs.{sector_at}
 use Rattle.composing.specs.Composes.{Plan, Fits}
 use Rattle.composing.proofs.Laid.{image-fits, fits-lays}
-use Rattle.flattening.proofs.Whole.{count-is, Ready, flat-lays, flat-plan, flat-full, flat-fits, flat-done}
+use Rattle.flattening.proofs.Whole.{Ready, ready-by, flat-lays, flat-plan, flat-full, flat-fits, flat-done}
 use Rattle.flattening.proofs.flatten_tight.Goals as goal
 use Rattle.flattening.proofs.flatten_tight.Goals.{After-lay_out-at, After-put_image, Start}
 
 ready : (c : Start) → let a = c.args in Ready a.buffer.now a.child.now a.parent.now a.application.now (contents a.t).count a.size
-ready c = let h = c.requires in record { many = count-is _ _ h.0.opens; checked = h.1; size_is = h.2; any = h.3 }
+ready c = let h = c.requires in ready-by h.0 h.1 h.2 h.3
 
 pub lay_out-at-requires : goal.lay_out-at-requires
 lay_out-at-requires c = rw c.count-count.ensures (flat-lays (ready (goal.at.lay_out-at-requires c).Start) 0 (c.count_stored-stored.ensures 0))
 
--- this is the plan; in what follows d is the place after `lay_out`
+-- this is the plan
 planned : (c : After-lay_out-at)
     → (let a = c.args in
     Plan (sector_at a.child.now a.parent.now) (contents a.t).count a.size c.count_stored-stored.result c.lay_out-at.result)
-planned c = flat-plan ((let ready_is : (let a = c.args in Ready a.buffer.now a.child.now a.parent.now a.application.now (contents a.t).count a.size) = let h = c.requires in record { many = count-is _ _ h.0.opens; checked = h.1; size_is = h.2; any = h.3 } in ready_is)) (c.count_stored-stored.ensures _) (rw c.count-count.ensures at c.lay_out-at.ensures)
+planned c =
+    let q = ready-by c.requires.0 c.requires.1 c.requires.2 c.requires.3 in
+    flat-plan q (c.count_stored-stored.ensures _) (rw c.count-count.ensures at c.lay_out-at.ensures)
 
 pub returns-then-length-end : goal.returns-then-length-end
 unfolding updated
@@ -36,7 +38,9 @@ fits : (c : After-put_image)
     → (let a = c.args in
     Fits c.put_image.new.buf (sector_at a.child.now a.parent.now) (contents a.t).count a.size c.count_stored-stored.result c.lay_out-at.result)
 fits c =
-    flat-fits ((let ready_is : (let a = c.args in Ready a.buffer.now a.child.now a.parent.now a.application.now (contents a.t).count a.size) = let h = c.requires in record { many = count-is _ _ h.0.opens; checked = h.1; size_is = h.2; any = h.3 } in ready_is)) _ _ _ _ _ ((let planned_is : (let a = c.args in Plan (sector_at a.child.now a.parent.now) (contents a.t).count a.size c.count_stored-stored.result c.lay_out-at.result) = flat-plan ((let ready_is : (let a = c.args in Ready a.buffer.now a.child.now a.parent.now a.application.now (contents a.t).count a.size) = let h = c.requires in record { many = count-is _ _ h.0.opens; checked = h.1; size_is = h.2; any = h.3 } in ready_is)) (c.count_stored-stored.ensures _) (rw c.count-count.ensures at c.lay_out-at.ensures) in planned_is)) (omega arith) (rw c.count-count.ensures at c.put_image.ensures)
+    let q = ready-by c.requires.0 c.requires.1 c.requires.2 c.requires.3 in
+    let w = flat-plan q (c.count_stored-stored.ensures _) (rw c.count-count.ensures at c.lay_out-at.ensures) in
+    flat-fits q _ _ _ _ _ w (omega arith) (rw c.count-count.ensures at c.put_image.ensures)
 
 pub put_entries-requires : goal.put_entries-requires
 put_entries-requires c =

@@ -8,7 +8,6 @@ loop-n-init c = going-starts c.requires.1
 pub sector-sector-requires : goal.sector-sector-requires
 sector-sector-requires c = (c.requires.0, omega arith)
 
--- in what follows d is the place at the loop's head
 pub enter-stored-requires : goal.enter-stored-requires
 enter-stored-requires c =
     going-enters c.requires.1 c.loop-n.invariant (omega arith) c.sector-sector.ensures

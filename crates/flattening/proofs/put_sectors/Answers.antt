@@ -9,7 +9,6 @@ loop-n-init c = standing-starts c.requires.1
 pub sector-sector-requires : goal.sector-sector-requires
 sector-sector-requires c = (c.requires.0, omega arith)
 
--- in what follows g is the place after `sector`, and d the one at the loop's head
 pub store_among-step-requires : goal.store_among-step-requires
 store_among-step-requires c =
     standing-steps c.requires.1 refl c.loop-n.invariant (omega arith) c.sector-sector.ensures (λ z. absurd (omega (arith, c.if-sector-gt0.true)))

@@ -35,9 +35,10 @@ lay_out-at-requires c = import-lays (ok (goal.at.lay_out-at-requires c).In_defau
 -- and this is the plan
 planned : (c : After-lay_out-at)
     → (let a = c.args in Plan (sector_of a.size a.file.now) (length a.file.now / a.size) a.size c.count_stored-stored.result c.lay_out-at.result)
-planned c = import-plan ((let ok_is : (let a = c.args in Importable a.buffer.now a.file.now a.size a.application.now) = (importable _ _ _ _).0 (sym (by c.in_default.is c.import_verdict-v.ensures)) in ok_is)) (c.count_stored-stored.ensures _) c.lay_out-at.ensures
+planned c =
+    let k = (importable _ _ _ _).0 (sym (by c.in_default.is c.import_verdict-v.ensures)) in
+    import-plan k (c.count_stored-stored.ensures _) c.lay_out-at.ensures
 
--- in what follows d is the place after `lay_out`
 pub returns-then-length-end : goal.returns-then-length-end
 unfolding updated
 returns-then-length-end c =
@@ -53,8 +54,9 @@ fits : (c : After-put_image)
     → (let a = c.args in
     Fits c.put_image.new.buf (sector_of a.size a.file.now) (length a.file.now / a.size) a.size c.count_stored-stored.result c.lay_out-at.result)
 fits c =
-    let k = (let ok_is : (let a = c.args in Importable a.buffer.now a.file.now a.size a.application.now) = (importable _ _ _ _).0 (sym (by c.in_default.is c.import_verdict-v.ensures)) in ok_is) in
-    composed-fits _ _ _ _ _ _ _ _ _ _ _ (composable k) (import-hands k) ((let planned_is : (let a = c.args in Plan (sector_of a.size a.file.now) (length a.file.now / a.size) a.size c.count_stored-stored.result c.lay_out-at.result) = import-plan ((let ok_is : (let a = c.args in Importable a.buffer.now a.file.now a.size a.application.now) = (importable _ _ _ _).0 (sym (by c.in_default.is c.import_verdict-v.ensures)) in ok_is)) (c.count_stored-stored.ensures _) c.lay_out-at.ensures in planned_is)) (omega arith) c.put_image.ensures
+    let k = (importable _ _ _ _).0 (sym (by c.in_default.is c.import_verdict-v.ensures)) in
+    let p = import-plan k (c.count_stored-stored.ensures _) c.lay_out-at.ensures in
+    composed-fits _ _ _ _ _ _ _ _ _ _ _ (composable k) (import-hands k) p (omega arith) c.put_image.ensures
 
 pub put_entries-requires : goal.put_entries-requires
 put_entries-requires c =

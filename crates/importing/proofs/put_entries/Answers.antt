@@ -6,7 +6,6 @@ use Rattle.importing.proofs.put_entries.Goals as goal
 pub loop-a-init : goal.loop-a-init
 loop-a-init c = going-starts c.requires.1
 
--- in what follows d is the place at the loop's head, and t the one after its test
 pub overflow_mul-a : goal.overflow_mul-a
 overflow_mul-a c = omega (arith, sector-inside c.requires.0 c.loop-a-test.true)
 

@@ -1,14 +1,8 @@
-use borrow.Author.Rules.{rules}
 use mathlib.Core.Logic.{inl}
 use mathlib.Core.Path.{◌≡◌, refl}
-use Prim.Native.Nat.{◌-◌, ◌≤◌}
 use native.Mathlib.Omega.{arith}
-use lib.ListN.{length}
-use lib.IntN.{pos, neg_ℤ}
 use Rattle.opening.specs.Answers.{contents}
 use Rattle.opening.proofs.Accepted.{few}
-use Rattle.sectors.specs.Found.{Known}
-use Rattle.text.specs.Buffer.{Writes}
 use Rattle.text.proofs.Writes.{writes-none}
 use Rattle.listing.specs.Listing.{lines_from}
 use Rattle.listing.proofs.Pieces.{lines_next}

@@ -1,18 +1,12 @@
 -- `listing::address_lines` meets its contract. The invariant: the lines before the present one are written. Assumes nothing.
-use borrow.Author.Rules.{rules}
-use mathlib.Core.Logic.{inl}
-use mathlib.Core.Path.{◌≡◌, refl}
+use mathlib.Core.Path.{◌≡◌}
 use Prim.Native.Nat.{◌-◌, ◌≤◌}
-use native.Mathlib.Omega.{arith}
 use lib.ListN.{length}
 use lib.IntN.{pos, neg_ℤ}
 use Rattle.opening.specs.Answers.{contents}
-use Rattle.opening.proofs.Accepted.{few}
 use Rattle.sectors.specs.Found.{Known}
 use Rattle.text.specs.Buffer.{Writes}
-use Rattle.text.proofs.Writes.{writes-none}
 use Rattle.listing.specs.Listing.{lines_from}
-use Rattle.listing.proofs.Pieces.{lines_next}
 use Rattle.listing.proofs.address_lines.Given as goal
 
 abbrev pub invariant-loop-n : goal.invariant-loop-n

@@ -1,5 +1,4 @@
 -- `listing::list` meets its contract. Assumes nothing.
-use borrow.Author.Rules.{rules}
 use native.Mathlib.Omega.{arith}
 use Rattle.text.proofs.Writes.{writes-prints}
 use Rattle.listing.proofs.Pieces.{listing-long, listing-image}

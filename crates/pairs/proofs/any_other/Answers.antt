@@ -10,7 +10,6 @@ loop-n-init c = (omega arith, ap (any_other _) (rest_all _ _ _ c.requires.opens)
 pub sector-requires : goal.sector-requires
 sector-requires c = (c.requires, omega arith)
 
--- in what follows d is the place after the call of `sector`
 pub returns-then-other-size : goal.returns-then-other-size
 returns-then-other-size c =
     other-found _ _ _ _ (omega arith) _ c.sector.ensures _ c.loop-n.invariant.1 (omega (arith, c.if-other-gt0.true)) c.if-other-size.true

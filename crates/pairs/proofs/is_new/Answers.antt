@@ -10,7 +10,6 @@ loop-left-init c = (omega arith, refl)
 pub sector-requires : goal.sector-requires
 sector-requires c = let h = c.requires in (h.0, omega (arith, h.1, c.loop-left.invariant.0))
 
--- in what follows d is the place at the loop's head
 pub returns-then-is_same : goal.returns-then-is_same
 returns-then-is_same c =
     new_is _ _ _ _ true c.sector-own.ensures c.loop-left.invariant.1

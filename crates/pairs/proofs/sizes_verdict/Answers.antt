@@ -5,7 +5,6 @@ use Rattle.pairs.proofs.sizes_verdict.Goals as goal
 pub returns-then-any_other : goal.returns-then-any_other
 returns-then-any_other c = sizes-40 _ _ c.requires.1 c.any_other.ensures c.if-any_other.true
 
--- in what follows d is the place after the first test
 pub returns-then-is_over : goal.returns-then-is_over
 returns-then-is_over c =
     let h = c.requires in

@@ -6,7 +6,6 @@ use Rattle.planning.proofs.is_new.Goals as goal
 pub among-earlier-requires : goal.among-earlier-requires
 among-earlier-requires c = omega (arith, earlier-inside _ _ _ c.requires _ c.part-sector.ensures)
 
--- in what follows d is the place after the search
 pub returns-in-Is : goal.returns-in-Is
 returns-in-Is c =
     not_new _ _ _ c.requires _ c.part-sector.ensures _ c.among-earlier.ensures c.in-Is.is

@@ -2,7 +2,6 @@
 use Rattle.planning.proofs.Looking.{found_inside, looked-old, looked-new, looked-earlier}
 use Rattle.planning.proofs.look.Goals as goal
 
--- in what follows d is the place after the search of the disc
 pub pointer_of-p-requires : goal.pointer_of-p-requires
 pointer_of-p-requires c =
     (c.requires.0.0, found_inside _ _ _ _ c.on_disc_of-old.ensures _ c.in-Is.is)

@@ -5,7 +5,6 @@ use Rattle.storing.proofs.put_entries.Goals as goal
 pub loop-a-init : goal.loop-a-init
 loop-a-init c = starts _ _ _ _ _ _ _ _ c.requires.0
 
--- in what follows d is the place at the loop's head
 pub next_entry-n-requires : goal.next_entry-n-requires
 next_entry-n-requires c =
     (turns _ _ _ _ _ _ _ _ c.requires.0 c.loop-a.invariant (omega (arith, c.loop-a-test.true, c.count-count.ensures)), c.requires.1)

@@ -7,7 +7,6 @@ pub on_disc_at-old-requires : goal.on_disc_at-old-requires
 unfolding part
 on_disc_at-old-requires c = rw c.part.ensures c.requires.0
 
--- in what follows d is the place after the search of the disc
 pub pointer_at-requires : goal.pointer_at-requires
 pointer_at-requires c =
     let p = c.requires in

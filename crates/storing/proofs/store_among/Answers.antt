@@ -9,7 +9,6 @@ use Rattle.storing.proofs.store_among.Goals.{After-copy-arg-1}
 pub among-found-requires : goal.among-found-requires
 among-found-requires c = omega (arith, inside _ _ _ _ c.requires)
 
--- in what follows d is the place after the search
 pub returns-in-Is : goal.returns-in-Is
 returns-in-Is c =
     again _ _ _ _ c.requires c.among-found.ensures c.in-Is.is

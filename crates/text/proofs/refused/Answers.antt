@@ -1,5 +1,4 @@
 -- `text::refused` meets its contract. Assumes nothing.
-use borrow.Author.Rules.{rules}
 use Rattle.text.specs.Text.{refused_line}
 use Rattle.text.proofs.refused.Goals as goal
 

@@ -1,8 +1,5 @@
-use mathlib.Core.Path.{◌≡◌, refl}
-use Prim.Native.Nat.{◌-◌, ◌≤◌}
+use mathlib.Core.Path.{refl}
 use native.Mathlib.Omega.{arith}
-use lib.ListN.{length, take}
-use Rattle.text.specs.Buffer.{Writes}
 use Rattle.text.proofs.Writes.{writes-none, writes-next, writes_end}
 use Rattle.text.proofs.write.Goals as goal
 

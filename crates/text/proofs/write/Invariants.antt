@@ -1,11 +1,9 @@
 -- `text::write` meets its contract. The invariant: the bytes up to the present one are written.
 -- Assumes nothing.
-use mathlib.Core.Path.{◌≡◌, refl}
+use mathlib.Core.Path.{◌≡◌}
 use Prim.Native.Nat.{◌-◌, ◌≤◌}
-use native.Mathlib.Omega.{arith}
 use lib.ListN.{length, take}
 use Rattle.text.specs.Buffer.{Writes}
-use Rattle.text.proofs.Writes.{writes-none, writes-next, writes_end}
 use Rattle.text.proofs.write.Given as goal
 
 abbrev pub invariant-loop-i : goal.invariant-loop-i

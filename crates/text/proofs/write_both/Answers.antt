@@ -1,5 +1,4 @@
 -- `text::write_both` meets its contract. Assumes nothing.
-use borrow.Author.Rules.{rules}
 use Rattle.text.proofs.Writes.{writes_then}
 use Rattle.text.proofs.write_both.Goals as goal
 

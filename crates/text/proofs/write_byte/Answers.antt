@@ -1,5 +1,4 @@
 -- `text::write_byte` meets its contract. Assumes nothing.
-use borrow.Author.Rules.{rules}
 use native.Mathlib.Omega.{arith}
 use Rattle.text.proofs.Writes.{writes_byte, writes-full}
 use Rattle.text.proofs.write_byte.Goals as goal

@@ -1,5 +1,4 @@
 -- `lines::head` meets its contract. Assumes nothing.
-use borrow.Author.Rules.{rules}
 use Rattle.listing.proofs.Pieces.{head-sectors, head-refused}
 use Rattle.listing.proofs.lines.head.Goals as goal
 
