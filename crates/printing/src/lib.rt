@@ -1,57 +1,57 @@
-// Internal: what the programs that run cases print, on standard output; and letters, as their rows of numbers have them.
+// Internal: what the programs that run cases print, on standard output; letters, as their rows of numbers have them; and how a program
+// reads standard input.
 #![tactic(auto)]
 
-ghost use Rattle.std.specs.Prelude.{◌≤◌, length};
+ghost use Rattle.std.specs.Prelude.{◌≤◌, length, IfOk};
 
 use fields::magnitude;
 use format::{AddressRange, Counted, Located, Refusal, SectorAddress};
-use libc::STDOUT_FILENO;
+use std::io;
 
+pub mod input;
 pub mod letters;
 
-pub fn text(s: &[u8]) {
-    io::write_all(STDOUT_FILENO, s);
+pub fn text(rt: &impl Print, s: &[u8]) -> io::Result<()> {
+    rt.write_all(s)
 }
 
 // A word and a number.
-pub fn number(word: &[u8], n: u64) {
-    text(word);
-    io::print_decimal(STDOUT_FILENO, n);
+pub fn number(rt: &impl Print, word: &[u8], n: u64) -> io::Result<()> {
+    text(rt, word)?;
+    print!(rt; "{n}")
 }
 
 // A number of 64 bits, in hexadecimal.
-pub fn hex(n: u64) {
-    io::print_hex(STDOUT_FILENO, n, 16);
+pub fn hex(rt: &impl Print, n: u64) -> io::Result<()> {
+    print!(rt; "{n:016x}")
 }
 
 // A byte, in hexadecimal.
-pub fn byte(x: u8) {
-    io::print_hex(STDOUT_FILENO, x as u64, 2);
+pub fn byte(rt: &impl Print, x: u8) -> io::Result<()> {
+    print!(rt; "{x:02x}")
 }
 
 // Bytes, in hexadecimal.
-pub fn bytes(s: &[u8]) {
-    let mut i: usize = 0;
-    // an iteration for each byte
-    while i < s.len() {
-        byte(s[i]);
-        i += 1;
+pub fn bytes(rt: &impl Print, s: &[u8]) -> io::Result<()> {
+    for x in s {
+        byte(rt, *x)?;
     }
+    Ok(())
 }
 
 // A refusal: its number and its place.
-pub fn refused(r: Refusal) {
-    number(b"refused ", r.number as u64);
+pub fn refused(rt: &impl Print, r: Refusal) -> io::Result<()> {
+    number(rt, b"refused ", r.number as u64)?;
     let place = r.place;
-    number(b" at ", place.0);
+    number(rt, b" at ", place.0)
 }
 
 // A whole number, with a minus where it is negative.
-pub fn signed(x: i64) {
+pub fn signed(rt: &impl Print, x: i64) -> io::Result<()> {
     if x < 0 {
-        text(b"-");
+        text(rt, b"-")?;
     }
-    number(b"", magnitude(x));
+    number(rt, b"", magnitude(x))
 }
 
 // An address from 2^63 on stands for minus what it is above that, in rows of numbers.
@@ -66,32 +66,33 @@ pub fn address(n: u64) -> SectorAddress {
 }
 
 // How many sectors there are, and the lowest address where it is not 0.
-pub fn range(s: AddressRange) {
-    number(b"sectors ", s.count);
+pub fn range(rt: &impl Print, s: AddressRange) -> io::Result<()> {
+    number(rt, b"sectors ", s.count)?;
     let lowest = s.lowest;
     if lowest.0 != 0 {
-        text(b" from ");
-        signed(lowest.0);
+        text(rt, b" from ")?;
+        signed(rt, lowest.0)?;
     }
+    Ok(())
 }
 
 // A sector count, or the refusal.
-pub fn counted(answer: Counted) {
+pub fn counted(rt: &impl Print, answer: Counted) -> io::Result<()> {
     match answer {
-        Counted::Sectors(s) => range(s),
-        Counted::Refused(r) => refused(r),
+        Counted::Sectors(s) => range(rt, s),
+        Counted::Refused(r) => refused(rt, r),
     }
 }
 
 // A sector's place and size, or the refusal.
-pub fn located(answer: Located) {
+pub fn located(rt: &impl Print, answer: Located) -> io::Result<()> {
     match answer {
         Located::At(p) => {
             let start = p.start;
-            number(b"", start.0);
-            number(b" ", p.size);
+            number(rt, b"", start.0)?;
+            number(rt, b" ", p.size)
         }
-        Located::Refused(r) => refused(r),
+        Located::Refused(r) => refused(rt, r),
     }
 }
 
@@ -100,15 +101,12 @@ pub fn line_end(lines: &[u8], start: usize) -> usize
     requires { start ≤ length lines.now }
     ensures { (start ≤ result) × (result ≤ length lines.now) }
 {
-    let mut end = start;
-    // an iteration for each byte of the line
-    while end < lines.len() {
+    for end in start..lines.len() {
         if lines[end] == b'\n' {
             return end;
         }
-        end += 1;
     }
-    end
+    lines.len()
 }
 
 // Where the line after the one that ends there starts.
@@ -123,11 +121,11 @@ pub fn next_line(lines: &[u8], end: usize) -> usize
 }
 
 // Prints the line that starts there, and says where the next one does.
-pub fn line(lines: &[u8], start: usize) -> usize
+pub fn line(rt: &impl Print, lines: &[u8], start: usize) -> io::Result<usize>
     requires { start ≤ length lines.now }
-    ensures { result ≤ length lines.now }
+    ensures { IfOk result (λ next. next ≤ length lines.now) }
 {
     let end = line_end(lines, start);
-    text(&lines[start..end]);
-    next_line(lines, end)
+    text(rt, &lines[start..end])?;
+    Ok(next_line(lines, end))
 }
