@@ -154,14 +154,12 @@ pub fn set(image: &mut [u8; 512], start: u64, at: u64, width: u64, number: u64)
 // Writes a record's fields one after another. One that is wider than 8 bytes, or that starts in the buffer's last 7, is left out.
 fn record(image: &mut [u8; 512], widths: &[u64; 13], row: &[u64; 15]) {
     let mut at = row[1];
-    let mut i: usize = 0;
     // an iteration for each field
-    while i < 13 {
+    for i in 0..13 {
         let width = widths[i];
-        i += 1;
         if at <= 504 {
             if width <= 8 {
-                fields::put(image, at, width, row[i + 1]);
+                fields::put(image, at, width, row[i + 2]);
                 at += width;
             }
         }
@@ -170,15 +168,12 @@ fn record(image: &mut [u8; 512], widths: &[u64; 13], row: &[u64; 15]) {
 
 // Writes records.
 fn records(image: &mut [u8; 512], rows: &[[u64; 15]]) {
-    let mut i: usize = 0;
     // an iteration for each record
-    while i < rows.len() {
-        let row = rows[i];
+    for row in rows {
         let kind = row[0] as usize;
-        i += 1;
         if kind < 8 {
             let widths = WIDTHS[kind];
-            record(image, &widths, &row);
+            record(image, &widths, row);
         }
     }
 }

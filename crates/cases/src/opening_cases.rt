@@ -4,6 +4,7 @@ use super::ONES;
 use super::disc::table_last;
 use super::script::{COUNT, CRC, FRESH, PLACE, run};
 use printing::letters::{AARUFRMT, AARUFRMX, DBLX, DDT, DDT2, DICMFRMT, IDX2, INDX};
+use std::io;
 
 // Where its records are, and how many bytes it has.
 const INDEX: u64 = 104;
@@ -28,15 +29,16 @@ const ACCEPTED_ROWS: [[u64; 3]; 7] = [
     [WHOLE, COUNT, 0],
 ];
 
-fn accepted(disc: &[u8; 512]) {
+fn accepted(rt: &impl Print, disc: &[u8; 512]) -> io::Result<()> {
     run(
+        rt,
         disc,
         b"index, block, table, in that order\n\
           minor version 7\n\
           identifier DICMFRMT\n\
           shift 32\n",
         &ACCEPTED_ROWS,
-    );
+    )
 }
 
 const HEADER_ROWS: [[u64; 3]; 17] = [
@@ -59,8 +61,9 @@ const HEADER_ROWS: [[u64; 3]; 17] = [
     [WHOLE, COUNT, 0],
 ];
 
-fn header_cases(disc: &[u8; 512]) {
+fn header_cases(rt: &impl Print, disc: &[u8; 512]) -> io::Result<()> {
     run(
+        rt,
         disc,
         b"1, no bytes\n\
           1 before 2, 103 bytes of AARUFRMX\n\
@@ -72,7 +75,7 @@ fn header_cases(disc: &[u8; 512]) {
           4, indexOffset 2^64 - 1, wraps to 19\n\
           4, indexOffset 2^32 + 104\n",
         &HEADER_ROWS,
-    );
+    )
 }
 
 const INDEX_ROWS: [[u64; 3]; 10] = [
@@ -88,15 +91,16 @@ const INDEX_ROWS: [[u64; 3]; 10] = [
     [WHOLE, COUNT, 0],
 ];
 
-fn index_cases(disc: &[u8; 512]) {
+fn index_cases(rt: &impl Print, disc: &[u8; 512]) -> io::Result<()> {
     run(
+        rt,
         disc,
         b"5 before 4, INDX, entries past the end\n\
           4 before 6, entries past the end\n\
           4, 2^60 + 2 entries, wrap to 2\n\
           6 before 7, block's offset 103\n",
         &INDEX_ROWS,
-    );
+    )
 }
 
 const ENTRY_ROWS: [[u64; 3]; 16] = [
@@ -118,8 +122,9 @@ const ENTRY_ROWS: [[u64; 3]; 16] = [
     [WHOLE, COUNT, 0],
 ];
 
-fn entry_cases(disc: &[u8; 512]) {
+fn entry_cases(rt: &impl Print, disc: &[u8; 512]) -> io::Result<()> {
     run(
+        rt,
         disc,
         b"7 before 8, block's offset 103\n\
           8 before 7 of the next entry\n\
@@ -127,7 +132,7 @@ fn entry_cases(disc: &[u8; 512]) {
           7, table's offset 2^64 - 1, wraps to 3\n\
           7, table's offset 2^32 + 200\n",
         &ENTRY_ROWS,
-    );
+    )
 }
 
 const TABLE_ENTRY_ROWS: [[u64; 3]; 16] = [
@@ -150,8 +155,9 @@ const TABLE_ENTRY_ROWS: [[u64; 3]; 16] = [
 ];
 
 // 9 excludes 10, and 11 too, as with no table there is no header. So both 9 and 10 follow 8, and 11 follows 10.
-fn table_entry_cases(disc: &[u8; 512]) {
+fn table_entry_cases(rt: &impl Print, disc: &[u8; 512]) -> io::Result<()> {
     run(
+        rt,
         disc,
         b"9, table's dataType 2\n\
           8 before 9, no DBLK there\n\
@@ -160,7 +166,7 @@ fn table_entry_cases(disc: &[u8; 512]) {
           10, table named twice\n\
           10 before 11, header past the end\n",
         &TABLE_ENTRY_ROWS,
-    );
+    )
 }
 
 const TABLE_ROWS: [[u64; 3]; 13] = [
@@ -180,8 +186,9 @@ const TABLE_ROWS: [[u64; 3]; 13] = [
 ];
 
 // From case to case the next fault is added, then the earlier one mended.
-fn table_cases(disc: &[u8; 512]) {
+fn table_cases(rt: &impl Print, disc: &[u8; 512]) -> io::Result<()> {
     run(
+        rt,
         disc,
         b"11 before 13, header past the end\n\
           13 before 12, compression 1, shift 33\n\
@@ -190,7 +197,7 @@ fn table_cases(disc: &[u8; 512]) {
           14 before 20, crc64 0, address 3\n\
           14, cmpCrc64 0\n",
         &TABLE_ROWS,
-    );
+    )
 }
 
 const TABLE_LENGTH_ROWS: [[u64; 3]; 17] = [
@@ -213,8 +220,9 @@ const TABLE_LENGTH_ROWS: [[u64; 3]; 17] = [
     [WHOLE, COUNT, 0],
 ];
 
-fn table_length_cases(disc: &[u8; 512]) {
+fn table_length_cases(rt: &impl Print, disc: &[u8; 512]) -> io::Result<()> {
     run(
+        rt,
         disc,
         b"12, type 2\n\
           12, cmpLength 16\n\
@@ -222,16 +230,16 @@ fn table_length_cases(disc: &[u8; 512]) {
           11, length 2^64 - 8, wraps to 241\n\
           11, length 2^32 - 8\n",
         &TABLE_LENGTH_ROWS,
-    );
+    )
 }
 
-pub fn all(image: &mut [u8; 512]) {
+pub fn all(rt: &impl Print, image: &mut [u8; 512]) -> io::Result<()> {
     table_last(image);
-    accepted(image);
-    header_cases(image);
-    index_cases(image);
-    entry_cases(image);
-    table_entry_cases(image);
-    table_cases(image);
-    table_length_cases(image);
+    accepted(rt, image)?;
+    header_cases(rt, image)?;
+    index_cases(rt, image)?;
+    entry_cases(rt, image)?;
+    table_entry_cases(rt, image)?;
+    table_cases(rt, image)?;
+    table_length_cases(rt, image)
 }

@@ -4,6 +4,7 @@ use super::ONES;
 use super::disc::{block_last, table_last};
 use super::script::{CMP, CRC, FRESH, PLACE, run};
 use printing::MINUS;
+use std::io;
 
 // Where the records of `block_last` are, and how many bytes it has, as `table_last` does.
 const INDEX: u64 = 104;
@@ -26,8 +27,9 @@ const ADDRESS_ROWS: [[u64; 3]; 5] = [
 
 // Past the end of the table there is nothing, which counts as an entry of 0; and an entry of 0 names no block. The places of the
 // entries of 2^32 and of 2^61 are those of entry 0 in 32 and in 64 bits.
-fn address_cases(disc: &[u8; 512]) {
+fn address_cases(rt: &impl Print, disc: &[u8; 512]) -> io::Result<()> {
     run(
+        rt,
         disc,
         b"20 before 21, address 3\n\
           20, address 2^32\n\
@@ -35,7 +37,7 @@ fn address_cases(disc: &[u8; 512]) {
           20, address -1\n\
           21 before 22, not written\n",
         &ADDRESS_ROWS,
-    );
+    )
 }
 
 const POINTER_ROWS: [[u64; 3]; 24] = [
@@ -65,8 +67,9 @@ const POINTER_ROWS: [[u64; 3]; 24] = [
     [WHOLE, PLACE, 2],
 ];
 
-fn pointer_cases(disc: &[u8; 512]) {
+fn pointer_cases(rt: &impl Print, disc: &[u8; 512]) -> io::Result<()> {
     run(
+        rt,
         disc,
         b"index, table, block, address 0\n\
           index, table, block, address 2\n\
@@ -77,7 +80,7 @@ fn pointer_cases(disc: &[u8; 512]) {
           22, block's dataType 2\n\
           22, the same, address 2\n",
         &POINTER_ROWS,
-    );
+    )
 }
 
 const BLOCK_ROWS: [[u64; 3]; 17] = [
@@ -101,8 +104,9 @@ const BLOCK_ROWS: [[u64; 3]; 17] = [
 ];
 
 // From case to case the next fault is added, then the earlier one mended.
-fn block_cases(disc: &[u8; 512]) {
+fn block_cases(rt: &impl Print, disc: &[u8; 512]) -> io::Result<()> {
     run(
+        rt,
         disc,
         b"23 before 24, header past the end\n\
           24 before 25, compression 1, type 2\n\
@@ -114,7 +118,7 @@ fn block_cases(disc: &[u8; 512]) {
           27, crc64 0\n\
           27, cmpCrc64 0\n",
         &BLOCK_ROWS,
-    );
+    )
 }
 
 const BLOCK_LENGTH_ROWS: [[u64; 3]; 7] = [
@@ -127,21 +131,22 @@ const BLOCK_LENGTH_ROWS: [[u64; 3]; 7] = [
     [WHOLE, PLACE, 0],
 ];
 
-fn block_length_cases(disc: &[u8; 512]) {
+fn block_length_cases(rt: &impl Print, disc: &[u8; 512]) -> io::Result<()> {
     run(
+        rt,
         disc,
         b"25, sectorSize 0\n\
           25, length 8, sectorSize 3\n\
           25, cmpLength 4\n",
         &BLOCK_LENGTH_ROWS,
-    );
+    )
 }
 
-pub fn all(image: &mut [u8; 512]) {
+pub fn all(rt: &impl Print, image: &mut [u8; 512]) -> io::Result<()> {
     table_last(image);
-    address_cases(image);
+    address_cases(rt, image)?;
     block_last(image);
-    pointer_cases(image);
-    block_cases(image);
-    block_length_cases(image);
+    pointer_cases(rt, image)?;
+    block_cases(rt, image)?;
+    block_length_cases(rt, image)
 }

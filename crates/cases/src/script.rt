@@ -1,9 +1,10 @@
 // Scripts of cases: rows of three numbers. A row writes a field, [at, width, number], or has one of the words below in the
 // width's place.
-ghost use Rattle.std.specs.Prelude.{◌+◌, ◌≤◌, length};
+ghost use Rattle.std.specs.Prelude.{◌+◌, ◌≤◌, length, IfOk};
 
 use super::lines::{count, place};
 use printing::{line, text};
+use std::io;
 
 // [at, CRC, n]: writes a checksum there, of the n bytes that follow it.
 pub const CRC: u64 = 16;
@@ -45,53 +46,58 @@ fn write(image: &mut [u8; 512], at: u64, width: u64, number: u64) {
 }
 
 // What the image answers to a row that asks.
-fn answer(image: &[u8; 512], used: u64, word: u64, address: u64) {
-    if used <= 512 {
-        if word == COUNT {
-            count(image, used);
-        } else {
-            place(image, used, printing::address(address));
-        }
+fn answer(
+    rt: &impl Print,
+    image: &[u8; 512],
+    used: u64,
+    word: u64,
+    address: u64,
+) -> io::Result<()> {
+    if 512 < used {
+        return Ok(());
     }
+    if word == COUNT {
+        return count(rt, image, used);
+    }
+    place(rt, image, used, printing::address(address))
 }
 
 // Does what a row says, and says where the next case's name starts.
 fn step(
+    rt: &impl Print,
     image: &mut [u8; 512],
     disc: &[u8; 512],
     names: &[u8],
     start: usize,
     row: &[u64; 3],
-) -> usize
+) -> io::Result<usize>
     requires { start ≤ length names.now }
-    ensures { result ≤ length names.now }
+    ensures { IfOk result (λ next. next ≤ length names.now) }
 {
     let word = row[1];
     if word <= CMP {
         write(image, row[0], word, row[2]);
-        return start;
+        return Ok(start);
     }
     if word < COUNT {
         fields::copy(image, 0, disc);
-        return start;
+        return Ok(start);
     }
-    let next = line(names, start);
-    text(b": ");
-    answer(image, row[0], word, row[2]);
-    text(b"\n");
-    next
+    let next = line(rt, names, start)?;
+    text(rt, b": ")?;
+    answer(rt, image, row[0], word, row[2])?;
+    text(rt, b"\n")?;
+    Ok(next)
 }
 
 // Runs a script on a disc. The cases' names are lines, in the order of the rows that ask.
-pub fn run(disc: &[u8; 512], names: &[u8], rows: &[[u64; 3]]) {
+pub fn run(rt: &impl Print, disc: &[u8; 512], names: &[u8], rows: &[[u64; 3]]) -> io::Result<()> {
     let mut image = [0u8; 512];
     fields::copy(&mut image, 0, disc);
     let mut start: usize = 0;
-    let mut i: usize = 0;
     // an iteration for each row
-    while i < rows.len() {
-        let row = rows[i];
-        start = step(&mut image, disc, names, start, &row);
-        i += 1;
+    for row in rows {
+        start = step(rt, &mut image, disc, names, start, row)?;
     }
+    Ok(())
 }

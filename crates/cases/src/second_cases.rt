@@ -3,6 +3,7 @@ use super::disc::second;
 use super::script::{CMP, COUNT, CRC, FRESH, PLACE, run};
 use printing::MINUS;
 use printing::letters::DDT;
+use std::io;
 
 // Where its records are, and how many bytes it has.
 const INDEX: u64 = 104;
@@ -30,8 +31,9 @@ const SECTOR_ROWS: [[u64; 3]; 10] = [
     [WHOLE, PLACE, 3],
 ];
 
-fn sector_cases(disc: &[u8; 512]) {
+fn sector_cases(rt: &impl Print, disc: &[u8; 512]) -> io::Result<()> {
     run(
+        rt,
         disc,
         b"DDT2\n\
           address -1\n\
@@ -44,7 +46,7 @@ fn sector_cases(disc: &[u8; 512]) {
           73 before 22, status 2\n\
           22, address 3\n",
         &SECTOR_ROWS,
-    );
+    )
 }
 
 const TABLE_ROWS: [[u64; 3]; 30] = [
@@ -81,8 +83,9 @@ const TABLE_ROWS: [[u64; 3]; 30] = [
 ];
 
 // From case to case the next fault is added, then the earlier one mended.
-fn table_cases(disc: &[u8; 512]) {
+fn table_cases(rt: &impl Print, disc: &[u8; 512]) -> io::Result<()> {
     run(
+        rt,
         disc,
         b"11 before 13, header past the end\n\
           13 before 70, compression 1, levels 2\n\
@@ -96,7 +99,7 @@ fn table_cases(disc: &[u8; 512]) {
           14 before 20, crc64 0, address 4\n\
           10, one table of each kind\n",
         &TABLE_ROWS,
-    );
+    )
 }
 
 const POINTER_ROWS: [[u64; 3]; 20] = [
@@ -123,8 +126,9 @@ const POINTER_ROWS: [[u64; 3]; 20] = [
 ];
 
 // The entry of address 1 is then 0x10000138: 156, 39 and 19 with dataShift 1, 3 and 4, items 0, 0 and 8.
-fn pointer_cases(disc: &[u8; 512]) {
+fn pointer_cases(rt: &impl Print, disc: &[u8; 512]) -> io::Result<()> {
     run(
+        rt,
         disc,
         b"negative 5\n\
           negative 5, address -5\n\
@@ -136,12 +140,12 @@ fn pointer_cases(disc: &[u8; 512]) {
           dataShift 3, block 39 x 4\n\
           22, dataShift 4, block 19 x 4\n",
         &POINTER_ROWS,
-    );
+    )
 }
 
-pub fn all(image: &mut [u8; 512]) {
+pub fn all(rt: &impl Print, image: &mut [u8; 512]) -> io::Result<()> {
     second(image);
-    sector_cases(image);
-    table_cases(image);
-    pointer_cases(image);
+    sector_cases(rt, image)?;
+    table_cases(rt, image)?;
+    pointer_cases(rt, image)
 }

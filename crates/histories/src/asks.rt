@@ -2,6 +2,7 @@
 use aaru::Counted;
 use fields::get;
 use printing::{bytes, located, number, range, refused, text};
+use std::io;
 
 // [DISC, used, 0, 0, 0]: the sector count of the image of so many bytes; then for each address, and the one after the last, the
 // sector's place, size and bytes, or the refusal.
@@ -14,71 +15,69 @@ pub const TABLE: u64 = 8;
 pub const BYTES: u64 = 9;
 
 // Discs have at most 7 sectors here.
-fn sectors(image: &[u8], count: u64) {
+fn sectors(rt: &impl Print, image: &[u8], count: u64) -> io::Result<()> {
     if 7 < count {
-        return;
+        return Ok(());
     }
-    let mut address: u64 = 0;
     // an iteration for each address, and one for that after the last
-    while address <= count {
-        text(b"; ");
+    for address in 0..count + 1 {
+        text(rt, b"; ")?;
         let a = printing::address(address);
-        located(aaru::locate(image, a));
-        text(b" \"");
-        text(aaru::read(image, a));
-        text(b"\"");
-        address += 1;
+        located(rt, aaru::locate(image, a))?;
+        text(rt, b" \"")?;
+        text(rt, aaru::read(image, a))?;
+        text(rt, b"\"")?;
     }
+    Ok(())
 }
 
-fn disc(image: &[u8]) {
+fn disc(rt: &impl Print, image: &[u8]) -> io::Result<()> {
     let answer = aaru::sector_count(image);
     match answer {
-        Counted::Refused(r) => refused(r),
+        Counted::Refused(r) => refused(rt, r),
         Counted::Sectors(s) => {
-            range(s);
-            sectors(image, s.count);
+            range(rt, s)?;
+            sectors(rt, image, s.count)
         }
     }
 }
 
-fn table(buffer: &[u8; 1200], place: u64) {
+fn table(rt: &impl Print, buffer: &[u8; 1200], place: u64) -> io::Result<()> {
     if 1050 < place {
-        return;
+        return Ok(());
     }
-    number(b"shift ", get(buffer, place + 8, 1));
-    text(b", entries");
+    number(rt, b"shift ", get(buffer, place + 8, 1))?;
+    text(rt, b", entries")?;
     let count = get(buffer, place + 9, 8);
     if 7 < count {
-        return;
+        return Ok(());
     }
-    let mut i: u64 = 0;
     // an iteration for each entry
-    while i < count {
-        number(b" ", get(buffer, place + 49 + 8 * i, 8));
-        i += 1;
+    for i in 0..count {
+        number(rt, b" ", get(buffer, place + 49 + 8 * i, 8))?;
     }
+    Ok(())
 }
 
 // Prints what the buffer answers to a row.
-pub fn ask(buffer: &[u8; 1200], row: &[u64; 5]) {
+pub fn ask(rt: &impl Print, buffer: &[u8; 1200], row: &[u64; 5]) -> io::Result<()> {
     let word = row[0];
     let at = row[1];
     if word == TABLE {
-        table(buffer, at);
-        return;
+        return table(rt, buffer, at);
     }
     if word == DISC {
         if at <= 1200 {
-            disc(fields::part(buffer, 0, at));
+            return disc(rt, fields::part(buffer, 0, at));
         }
-        return;
+        return Ok(());
     }
     let n = row[2];
     if 1000 < at {
-        return;
+        return Ok(());
     }
     if n <= 200 {
-        bytes(fields::part(buffer, at, n));
+        return bytes(rt, fields::part(buffer, at, n));
     }
+    Ok(())
 }

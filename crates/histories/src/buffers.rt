@@ -2,6 +2,7 @@
 use super::asks::DISC;
 use super::calls::{AT_0, AT_0_2, AT_1, COMMIT, CREATE, NONE, ROLLBACK};
 use super::script::{FRESH, run};
+use std::io;
 
 const ROWS: [[u64; 5]; 40] = [
     // P1, exactly and a byte short
@@ -50,8 +51,9 @@ const ROWS: [[u64; 5]; 40] = [
     [ROLLBACK, 50, 177, 6, 0],
 ];
 
-pub fn all() {
+pub fn all(rt: &impl Print) -> io::Result<()> {
     run(
+        rt,
         b"P1 in 213 bytes\nits disc\n\
           P1 in 212 bytes\nno disc\n\
           P1 in 382 bytes\nP2 in 382 bytes\nAAAABBBB\nthe index is past 213\nits disc\n\
@@ -71,5 +73,5 @@ pub fn all() {
           no bytes, rollback, used 60\n\
           no bytes, rollback, used 50\n",
         &ROWS,
-    );
+    )
 }

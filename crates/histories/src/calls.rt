@@ -1,6 +1,7 @@
 // The calls that rows make, and the lines that say what they answer and whether they wrote what document 01 allows and nothing else.
 use aaru::{ByteOffset, Refusal, Updated};
 use printing::{MINUS, address, number, refused, text};
+use std::io;
 
 // [CREATE, count, how many application bytes, creationTime, lastWrittenTime]: creates.
 pub const CREATE: u64 = 10;
@@ -142,12 +143,9 @@ fn take(before: &mut [u8; 1200], buffer: &[u8; 1200], start: u64, end: u64) {
     if 1200 < end {
         return;
     }
-    let last = end as usize;
-    let mut i = start as usize;
     // an iteration for each byte
-    while i < last {
+    for i in start as usize..end as usize {
         before[i] = buffer[i];
-        i += 1;
     }
 }
 
@@ -161,22 +159,28 @@ fn appended_at(row: &[u64; 5]) -> u64 {
 
 // Prints a call's answer, and whether all bytes but indexOffset, lastWrittenTime and those appended are as they were before it;
 // if it is refused, whether all are.
-fn report(before: &mut [u8; 1200], buffer: &[u8; 1200], row: &[u64; 5], answer: Updated) {
+fn report(
+    rt: &impl Print,
+    before: &mut [u8; 1200],
+    buffer: &[u8; 1200],
+    row: &[u64; 5],
+    answer: Updated,
+) -> io::Result<()> {
     match answer {
-        Updated::Refused(r) => refused(r),
+        Updated::Refused(r) => refused(rt, r)?,
         Updated::To(p) => {
             let index = p.index;
-            number(b"used ", p.used);
-            number(b", index ", index.0);
+            number(rt, b"used ", p.used)?;
+            number(rt, b", index ", index.0)?;
             take(before, buffer, 80, 88);
             take(before, buffer, 96, 104);
             take(before, buffer, appended_at(row), p.used);
         }
     }
     if fields::matches(before, 0, buffer) {
-        text(b", rest unchanged");
+        text(rt, b", rest unchanged")
     } else {
-        text(b", REST CHANGED");
+        text(rt, b", REST CHANGED")
     }
 }
 
@@ -189,9 +193,15 @@ fn make_within(buffer: &mut [u8], limit: usize, row: &[u64; 5], sectors: &[u8]) 
 }
 
 // Makes the call of a row on the buffer's first `limit` bytes, and prints what came of it.
-pub fn call(buffer: &mut [u8; 1200], limit: usize, row: &[u64; 5], sectors: &[u8]) {
+pub fn call(
+    rt: &impl Print,
+    buffer: &mut [u8; 1200],
+    limit: usize,
+    row: &[u64; 5],
+    sectors: &[u8],
+) -> io::Result<()> {
     let mut before = [0u8; 1200];
     fields::copy(&mut before, 0, buffer);
     let answer = make_within(buffer, limit, row, sectors);
-    report(&mut before, buffer, row, answer);
+    report(rt, &mut before, buffer, row, answer)
 }

@@ -4,6 +4,7 @@ use super::asks::DISC;
 use super::calls::{AT_0_2, AT_1, COMMIT, CREATE, NONE, ROLLBACK};
 use super::script::{CRC, FRESH, SET, run};
 use printing::letters::{DBLK, DDT, IDX2};
+use std::io;
 
 // Where the records of the second commit are; address 1 lies in its block, 0 and 2 in the first one's.
 const BLOCK: u64 = 382;
@@ -72,8 +73,9 @@ const ROWS: [[u64; 5]; 52] = [
     [COMMIT, 647, AT_1, 4, 10],
 ];
 
-pub fn all() {
+pub fn all(rt: &impl Print) -> io::Result<()> {
     run(
+        rt,
         b"P1\nP2\nAAAABBBB\n\
           a second block, address 1\nCCCC\n\
           commit, address 1 is 27\n\n\
@@ -90,5 +92,5 @@ pub fn all() {
           commit, address 1 is 27\nDDDD\n\
           commit, no address is refused\nDDDD\n",
         &ROWS,
-    );
+    )
 }

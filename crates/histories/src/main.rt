@@ -2,6 +2,8 @@
 // file stdout has what they should give, as document 01 lays it out. Check 31 has no case: it asks for a buffer above 4 GiB.
 #![tactic(auto)]
 
+use std::io;
+
 mod script; // cases as rows of numbers
 mod calls; // rows that create, commit and roll back
 mod asks; // rows that read
@@ -17,13 +19,13 @@ mod damage; // two blocks, one of them damaged
 // All 64 bits one: the largest number of 8 bytes.
 const ONES: u64 = 0xffff_ffff_ffff_ffff;
 
-fn main() {
-    worked_disc::all();
-    buffers::all();
-    order::all();
-    takes::all();
-    sharing::all();
-    strange::all();
-    damage::all();
-    second::all();
+fn main(rt: HostRuntime) -> io::Result<()> {
+    worked_disc::all(&rt)?;
+    buffers::all(&rt)?;
+    order::all(&rt)?;
+    takes::all(&rt)?;
+    sharing::all(&rt)?;
+    strange::all(&rt)?;
+    damage::all(&rt)?;
+    second::all(&rt)
 }

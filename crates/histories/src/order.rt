@@ -8,6 +8,7 @@ use super::calls::{
 };
 use super::script::{CRC, FRESH, SET, run};
 use printing::letters::{AARUFRMT, AARUFRMX, DBLK};
+use std::io;
 
 // Where the records of P2 are.
 const BLOCK: u64 = 213;
@@ -53,8 +54,9 @@ const ARGUMENT_ROWS: [[u64; 5]; 32] = [
     [COMMIT, 381, AT_3, 4, 7],
 ];
 
-fn arguments() {
+fn arguments(rt: &impl Print) -> io::Result<()> {
     run(
+        rt,
         b"create, 30 before 33, 0 sectors, 63 application bytes\n\
           create, 30 before 33, 1,048,577 sectors, 65 application bytes\n\
           create, 30 before 35, 1,048,577 sectors\n\
@@ -85,7 +87,7 @@ fn arguments() {
           commit, 1 before 20, used 103\nAAAA\n\
           commit, 4 before 20, used 381\nAAAA\n",
         &ARGUMENT_ROWS,
-    );
+    )
 }
 
 const SECTOR_ROWS: [[u64; 5]; 32] = [
@@ -124,8 +126,9 @@ const SECTOR_ROWS: [[u64; 5]; 32] = [
 ];
 
 // The sectors of the disc are checked whether or not the commit names them.
-fn sectors() {
+fn sectors(rt: &impl Print) -> io::Result<()> {
     run(
+        rt,
         b"P1\nP2\nAAAABBBB\n\
           commit, 14 before 20, address 3\nAAAA\n\
           commit, 20 before 27, address 3\nAAAA\n\
@@ -141,7 +144,7 @@ fn sectors() {
           addresses 0 and 1 are 21, address 2 is 26\n\
           commit, 21 is passed over\nCCCC\n",
         &SECTOR_ROWS,
-    );
+    )
 }
 
 const ROLLBACK_ROWS: [[u64; 5]; 39] = [
@@ -187,8 +190,9 @@ const ROLLBACK_ROWS: [[u64; 5]; 39] = [
 ];
 
 // It is the handed-in offset that is checked, and not the header's; and no sector is.
-fn rolling_back() {
+fn rolling_back(rt: &impl Print) -> io::Result<()> {
     run(
+        rt,
         b"P1\nP2\nAAAABBBB\n\
           rollback, 32 before 4, used 383, offset 103\n\
           rollback, 4, offset 103\n\
@@ -213,11 +217,11 @@ fn rolling_back() {
           rollback, time 2^64 - 1\n\
           its disc\n",
         &ROLLBACK_ROWS,
-    );
+    )
 }
 
-pub fn all() {
-    arguments();
-    sectors();
-    rolling_back();
+pub fn all(rt: &impl Print) -> io::Result<()> {
+    arguments(rt)?;
+    sectors(rt)?;
+    rolling_back(rt)
 }

@@ -1,10 +1,11 @@
 // Scripts of cases: rows of five numbers, the first of which is a word. A row writes into the buffer, asks, or calls. What it gives
 // is printed behind the case's name.
-ghost use Rattle.std.specs.Prelude.{◌≤◌, length};
+ghost use Rattle.std.specs.Prelude.{◌≤◌, length, IfOk};
 
 use super::asks::ask;
 use super::calls::{COMMIT, CREATE, call};
 use printing::{line, line_end, next_line, text};
+use std::io;
 
 // [SET, at, width, number, 0]: writes a field.
 pub const SET: u64 = 0;
@@ -39,41 +40,53 @@ fn write(buffer: &mut [u8; 1200], row: &[u64; 5]) {
 }
 
 // Does what a row says, and says where the next row's line starts. A commit's line is followed by its sectors' bytes.
-fn step(buffer: &mut [u8; 1200], limit: usize, lines: &[u8], start: usize, row: &[u64; 5]) -> usize
+fn step(
+    rt: &impl Print,
+    buffer: &mut [u8; 1200],
+    limit: usize,
+    lines: &[u8],
+    start: usize,
+    row: &[u64; 5],
+) -> io::Result<usize>
     requires { start ≤ length lines.now }
-    ensures { result ≤ length lines.now }
+    ensures { IfOk result (λ next. next ≤ length lines.now) }
 {
     let word = row[0];
     if word == FRESH {
         fields::copy(buffer, 0, &[0xeeu8; 1200]);
-        return start;
+        return Ok(start);
     }
     if word <= CRC {
         write(buffer, row);
-        return start;
+        return Ok(start);
     }
-    let next = line(lines, start);
+    let next = line(rt, lines, start)?;
     if word < COMMIT {
-        text(b": ");
-        answer(buffer, limit, row);
-        text(b"\n");
-        return next;
+        text(rt, b": ")?;
+        answer(rt, buffer, limit, row)?;
+        text(rt, b"\n")?;
+        return Ok(next);
     }
     let last = line_end(lines, next);
-    text(b" \"");
-    text(&lines[next..last]);
-    text(b"\": ");
-    call(buffer, limit, row, &lines[next..last]);
-    text(b"\n");
-    next_line(lines, last)
+    text(rt, b" \"")?;
+    text(rt, &lines[next..last])?;
+    text(rt, b"\": ")?;
+    call(rt, buffer, limit, row, &lines[next..last])?;
+    text(rt, b"\n")?;
+    Ok(next_line(lines, last))
 }
 
 // What comes of a row that asks, or that calls with no sectors.
-fn answer(buffer: &mut [u8; 1200], limit: usize, row: &[u64; 5]) {
+fn answer(
+    rt: &impl Print,
+    buffer: &mut [u8; 1200],
+    limit: usize,
+    row: &[u64; 5],
+) -> io::Result<()> {
     if row[0] < CREATE {
-        ask(buffer, row);
+        ask(rt, buffer, row)
     } else {
-        call(buffer, limit, row, b"");
+        call(rt, buffer, limit, row, b"")
     }
 }
 
@@ -87,16 +100,14 @@ fn limit_after(row: &[u64; 5], limit: usize) -> usize {
 
 // Runs a script, with a buffer of 1,200 bytes at first. The lines are names of cases, in the order of the rows that ask or call,
 // and below a commit's name its sectors' bytes.
-pub fn run(lines: &[u8], rows: &[[u64; 5]]) {
+pub fn run(rt: &impl Print, lines: &[u8], rows: &[[u64; 5]]) -> io::Result<()> {
     let mut buffer = [0xeeu8; 1200];
     let mut limit: usize = 1200;
     let mut start: usize = 0;
-    let mut i: usize = 0;
     // an iteration for each row
-    while i < rows.len() {
-        let row = rows[i];
-        limit = limit_after(&row, limit);
-        start = step(&mut buffer, limit, lines, start, &row);
-        i += 1;
+    for row in rows {
+        limit = limit_after(row, limit);
+        start = step(rt, &mut buffer, limit, lines, start, row)?;
     }
+    Ok(())
 }

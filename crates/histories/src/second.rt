@@ -3,6 +3,7 @@ use super::asks::DISC;
 use super::calls::{AT_0, AT_2, COMMIT, CREATE, NONE, ROLLBACK};
 use super::script::{CRC, SET, run};
 use printing::letters::{DDT2, IDX2};
+use std::io;
 
 const ROWS: [[u64; 5]; 35] = [
     // behind P1 a table at 213, of three entries that are not dumped, with negative 1, and its index at 307
@@ -43,8 +44,9 @@ const ROWS: [[u64; 5]; 35] = [
     [ROLLBACK, 508, 307, 11, 0],
 ];
 
-pub fn all() {
+pub fn all(rt: &impl Print) -> io::Result<()> {
     run(
+        rt,
         b"P1\n\
           DDT2, disc\n\
           commit, 74, no addresses\n\n\
@@ -55,5 +57,5 @@ pub fn all() {
           commit, address 0\nAAAA\nits disc\n\
           rollback, 74 after a commit\n",
         &ROWS,
-    );
+    )
 }

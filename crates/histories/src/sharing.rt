@@ -4,6 +4,7 @@ use super::calls::{
     ALL_FIVE, AT_0, AT_0_1_2, AT_0_2, AT_1, AT_1_3, AT_2, AT_2_3_4, AT_3, COMMIT, CREATE, ROLLBACK,
 };
 use super::script::{CRC, FRESH, SET, run};
+use std::io;
 
 const FALLING: [[u64; 5]; 14] = [
     [CREATE, 5, 64, 4, 5],
@@ -23,8 +24,9 @@ const FALLING: [[u64; 5]; 14] = [
 ];
 
 // The item with the largest number is overwritten, and the shift falls. "CCCC" is then in the image, but not on the disc.
-fn shifts() {
+fn shifts(rt: &impl Print) -> io::Result<()> {
     run(
+        rt,
         b"5 sectors\n\
           all of them\nAAAABBBBCCCCDDDDEEEE\nits table\n\
           addresses 2, 3, 4 as 0 and 1\nAAAABBBBAAAA\nits table\nits disc\n\
@@ -32,7 +34,7 @@ fn shifts() {
           address 0, overwritten before\nCCCC\nits table\nits disc\n\
           back to all of them\naddress 0 as 4\nEEEE\nits table\n",
         &FALLING,
-    );
+    )
 }
 
 const EQUAL: [[u64; 5]; 35] = [
@@ -75,8 +77,9 @@ const EQUAL: [[u64; 5]; 35] = [
     [TABLE, 382, 0, 0, 0],
 ];
 
-fn equal() {
+fn equal(rt: &impl Print) -> io::Result<()> {
     run(
+        rt,
         b"5 sectors\n\
           equal in one commit, addresses 0, 1, 2\nAAAAAAAABBBB\nits table\n\
           equal to the old disc, address 3\nBBBB\nits table\nits disc\n\
@@ -88,7 +91,7 @@ fn equal() {
           addresses 0, 1, 2\nCCCCBBBBCCCC\nits table\nits disc\n\
           P1\nP2\nAAAABBBB\nthe same bytes twice\naddress 1\nAAAA\nits table\n",
         &EQUAL,
-    );
+    )
 }
 
 const SIZES: [[u64; 5]; 11] = [
@@ -105,8 +108,9 @@ const SIZES: [[u64; 5]; 11] = [
     [DISC, 1195, 0, 0, 0],
 ];
 
-fn sizes() {
+fn sizes(rt: &impl Print) -> io::Result<()> {
     run(
+        rt,
         b"P1\n\
           size 4, address 0\nAAAA\n\
           size 2, address 1\nAA\n\
@@ -114,11 +118,11 @@ fn sizes() {
           size 2, addresses 0, 2\nAABB\nits table\nits disc\n\
           size 1, address 1\nA\nits table\nits disc\n",
         &SIZES,
-    );
+    )
 }
 
-pub fn all() {
-    shifts();
-    equal();
-    sizes();
+pub fn all(rt: &impl Print) -> io::Result<()> {
+    shifts(rt)?;
+    equal(rt)?;
+    sizes(rt)
 }

@@ -4,6 +4,7 @@ use super::asks::{BYTES, DISC, TABLE};
 use super::calls::{AT_0, AT_0_2, AT_1, COMMIT, CREATE, NONE, ROLLBACK};
 use super::script::{CRC, FRESH, SET, run};
 use printing::letters::{CKSM, DDT, DICMFRMT, IDX2, NOTE};
+use std::io;
 
 const ROWS: [[u64; 5]; 52] = [
     // an index of CKSM, NOTE, the table, CKSM and a 'DDT*' of dataType 2
@@ -63,8 +64,9 @@ const ROWS: [[u64; 5]; 52] = [
     [DISC, 401, 0, 0, 0],
 ];
 
-pub fn all() {
+pub fn all(rt: &impl Print) -> io::Result<()> {
     run(
+        rt,
         b"P1\n\
           with CKSM entries, disc\n\
           a sector stored\nAAAA\nits index\nits disc\n\
@@ -76,5 +78,5 @@ pub fn all() {
           DICMFRMT, minor version 7, no addresses\n\nits header\n\
           P1\n19 bytes behind it, addresses 0, 2\nAAAABBBB\nits table\nthe 19 bytes\nits disc\n",
         &ROWS,
-    );
+    )
 }

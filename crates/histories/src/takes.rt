@@ -4,6 +4,7 @@ use super::ONES;
 use super::asks::DISC;
 use super::calls::{AT_0, AT_0_1, AT_0_2, AT_1, AT_2, COMMIT, CREATE, NONE, ROLLBACK};
 use super::script::{FRESH, run};
+use std::io;
 
 const HISTORY: [[u64; 5]; 57] = [
     [CREATE, 3, 64, 4, 5],
@@ -66,8 +67,9 @@ const HISTORY: [[u64; 5]; 57] = [
     [DISC, 632, 0, 0, 0],
 ];
 
-pub fn all() {
+pub fn all(rt: &impl Print) -> io::Result<()> {
     run(
+        rt,
         b"take 0\nits disc\n\
           take 1, addresses 0, 2\nAAAABBBB\nits disc\n\
           take 2, address 1\nCCCC\nits disc\n\
@@ -99,5 +101,5 @@ pub fn all() {
           commit at 507\nBBBB\n\
           its disc\n",
         &HISTORY,
-    );
+    )
 }

@@ -5,6 +5,7 @@ use super::calls::{
     CREATE, NONE, ROLLBACK,
 };
 use super::script::{FRESH, run};
+use std::io;
 
 const WORKED: [[u64; 5]; 34] = [
     [CREATE, 3, 64, 4, 5],
@@ -44,8 +45,9 @@ const WORKED: [[u64; 5]; 34] = [
     [DISC, 322, 0, 0, 0],
 ];
 
-fn worked() {
+fn worked(rt: &impl Print) -> io::Result<()> {
     run(
+        rt,
         b"P1\n\
           P1, header\n\
           P1, table and index\n\
@@ -77,7 +79,7 @@ fn worked() {
           P5 after P6, disc\n\
           P1\nP7, no addresses\n\nP7, table and index\nP7, disc\n",
         &WORKED,
-    );
+    )
 }
 
 const P8: [[u64; 5]; 15] = [
@@ -99,18 +101,19 @@ const P8: [[u64; 5]; 15] = [
 ];
 
 // "Largest item 0, 1, 2, 3, 4: shift 0, 1, 2, 2, 3."
-fn shifts() {
+fn shifts(rt: &impl Print) -> io::Result<()> {
     run(
+        rt,
         b"5 sectors\nP8, largest item 0\nA\nP8, its table\n\
           5 sectors\nP8, largest item 1\nAB\nP8, its table\n\
           5 sectors\nP8, largest item 2\nABC\nP8, its table\n\
           5 sectors\nP8, largest item 3\nABCD\nP8, its table\n\
           5 sectors\nP8, largest item 4\nABCDE\nP8, its table\n",
         &P8,
-    );
+    )
 }
 
-pub fn all() {
-    worked();
-    shifts();
+pub fn all(rt: &impl Print) -> io::Result<()> {
+    worked(rt)?;
+    shifts(rt)
 }
