@@ -1,8 +1,8 @@
 /*
  * AaruFormat disc images, read and written by a proved library.
  *
- *     rt staticlib aaru_c
- *     cc program.c -Ibindings/c -Ltarget/staticlib -laaru_c
+ *     (cd crates/aaru_c && rt lib)
+ *     cc program.c -Ibindings/c -Lcrates/aaru_c/out -laaru_c
  *
  * An image is the first `used` bytes of a buffer that the caller lends. A call returns 0 if it is accepted, else the
  * number of the check that refuses it: of all that apply, the first in the order that is said below for each call. No
