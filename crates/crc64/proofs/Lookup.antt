@@ -28,11 +28,11 @@ entry_of k b h =
     ap₂ shifts q r
 
 module _ (t : List ℕ) (right : Tables t) where
-  -- what a look_up gives
+  -- what a look-up gives
   look_up : (k b : ℕ) → k < 8 → b < 256 → get_or t (256 * k + b) 0 ≡ shifts (200 + 8 * k) b
   look_up k b hk hb = right.at (256 * k + b) (omega arith) ∙ entry_of k b hb
 
-  -- the shifts of x, from those of all but its lowest byte and a look_up for that
+  -- the shifts of x, from those of all but its lowest byte and a look-up for that
   looked : (k x y : ℕ) → k < 8 → shifts (192 + 8 * k) (x / 2 ^ 8) ≡ y → bit_xor y (get_or t (256 * k + x % 2 ^ 8) 0) ≡ shifts (200 + 8 * k) x
   looked k x y hk e =
       let n : 192 + 8 * k + 8 ≡ 200 + 8 * k = omega arith in
@@ -45,7 +45,7 @@ module _ (t : List ℕ) (right : Tables t) where
   base : (x : ℕ) → x < 256 → get_or t (x % 2 ^ 8) 0 ≡ shifts 200 x
   base x h = let e : x % 2 ^ 8 ≡ 256 * 0 + x = omega arith in ap (λ (i : ℕ). get_or t i 0) e ∙ look_up 0 x (omega arith) h
 
-  -- one look_up for each byte of a word is 256 shifts
+  -- one look-up for each byte of a word is 256 shifts
   pub looks : (x : ℕ) → x < 2 ^ 64 → let x1 = x / 2 ^ 8 in let x2 = x1 / 2 ^ 8 in let x3 = x2 / 2 ^ 8 in let x4 = x3 / 2 ^ 8 in let x5 = x4 / 2 ^ 8 in let x6 = x5 / 2 ^ 8 in let x7 = x6 / 2 ^ 8 in
       bit_xor (bit_xor (bit_xor (bit_xor (bit_xor (bit_xor (bit_xor
       (get_or t (x7 % 2 ^ 8) 0)

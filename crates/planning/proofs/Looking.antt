@@ -16,7 +16,7 @@ use Rattle.format.proofs.Tests.{choose-true, choose-false}
 use Rattle.format.proofs.Storing.{on_disc-found}
 use Rattle.search.specs.Found.{entry_found, item_found}
 use Rattle.search.specs.declared.TableEntry.{TableEntry}
-use Rattle.search.specs.declared.TableEntry.TheVariants as at_entry_lem
+use Rattle.search.specs.declared.TableEntry.TheVariants as entry
 use Rattle.search.specs.declared.Item.{Item}
 use Rattle.search.specs.declared.Item.TheVariants as item
 use Rattle.search.proofs.Stored.{room}
@@ -59,19 +59,19 @@ module _ (size : ℕ) (sectors : List ℕ) (k : ℕ) (inside : k * size + size �
     unfolding is_new missing item_found
     new-here e = ap missing (sym (ap item_found e) ∙ earlier)
 
-pub found_inside : (img : List ℕ) (t : Opened) (d : List ℕ) (r : TableEntry) → entry_found r ≡ on_disc img t d → (a : EntryNumber) → r ≡ at_entry_lem.Is a → a.0 < t.count
+pub found_inside : (img : List ℕ) (t : Opened) (d : List ℕ) (r : TableEntry) → entry_found r ≡ on_disc img t d → (a : EntryNumber) → r ≡ entry.Is a → a.0 < t.count
 unfolding entry_found
 found_inside img t d r disc a e = (on_disc-found img t d a.0 (sym (rw e at disc))).inside
 
 -- ---- the handed-in sector k, whose bytes are d; r and b are what the searches answer
 module _ (img : List ℕ) (t : Opened) (size : ℕ) (sectors : List ℕ) (k stored : ℕ)
     (d : List ℕ) (is : d ≡ sector_of size sectors k) (r : TableEntry) (disc : entry_found r ≡ on_disc img t d) where
-  pub looked-old : (a : EntryNumber) (p : Pointer) → r ≡ at_entry_lem.Is a → p ≡ pointer_at img t a.0
+  pub looked-old : (a : EntryNumber) (p : Pointer) → r ≡ entry.Is a → p ≡ pointer_at img t a.0
       → record { item = p.item; stored = stored; k = k + 1 } ≡ looked img t size sectors k stored
   unfolding looked looked_for entry_found
   looked-old a p e f = rw (← is, ← disc, e, f)
 
-  module _ {b : Bool} (lost : r ≡ at_entry_lem.Missing) (new : b ≡ is_new size sectors k) where
+  module _ {b : Bool} (lost : r ≡ entry.Missing) (new : b ≡ is_new size sectors k) where
     pub looked-new : b ≡ true → record { item = record { 0 = stored }; stored = stored + 1; k = k + 1 } ≡ looked img t size sectors k stored
     unfolding looked looked_for entry_found
     looked-new e = rw (← is, ← disc, lost, ← new, e)

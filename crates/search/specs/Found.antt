@@ -11,7 +11,7 @@ use Rattle.format.specs.Committing.{sectors_verdict}
 use Rattle.search.specs.declared.TableEntry.{TableEntry}
 use Rattle.search.specs.declared.Item.{Item}
 use Rattle.search.specs.declared.Slot.{Slot}
-use Rattle.search.specs.declared.TableEntry.TheVariants as at_entry_lem
+use Rattle.search.specs.declared.TableEntry.TheVariants as entry
 use Rattle.search.specs.declared.Item.TheVariants as item
 use Rattle.search.specs.declared.Slot.TheVariants as slot
 
@@ -21,8 +21,8 @@ Checked img t = (opening img ≡ accepted t) × (sectors_verdict img (entries im
 
 -- the table entry found
 unfoldable pub entry_found : TableEntry → Option ℕ
-entry_found (at_entry_lem.Is a) = some a.0
-entry_found at_entry_lem.Missing = none
+entry_found (entry.Is a) = some a.0
+entry_found entry.Missing = none
 
 -- the item found
 unfoldable pub item_found : Item → Option ℕ

@@ -25,7 +25,7 @@ use Rattle.format.proofs.Tests.{choose-true, choose-false}
 use Rattle.format.proofs.Storing.{OnDisc, on_disc-found, length-pieces, Source, old, new, step_ok}
 use Rattle.format.proofs.Appended.{pointer-small}
 use Rattle.search.specs.declared.TableEntry.{TableEntry}
-use Rattle.search.specs.declared.TableEntry.TheVariants as at_entry_lem
+use Rattle.search.specs.declared.TableEntry.TheVariants as entry
 use Rattle.search.specs.declared.Item.{Item}
 use Rattle.search.specs.declared.Item.TheVariants as item
 use Rattle.search.specs.Found.{Checked, entry_found, item_found}
@@ -162,7 +162,7 @@ module _ (buf : List ℕ) (used : ℕ) (t : Opened) (sector : List ℕ) (n : ℕ
   on-disc r p e = ap (λ (x : List ℕ). on_disc x t sector) (sym p) ∙ sym e
 
   -- found on the disc; there the pointer is read
-  module _ {s s' : List ℕ} {r : TableEntry} {a : EntryNumber} (es : s ≡ part buf 0 used) (e : entry_found r ≡ on_disc s t sector) (q : r ≡ at_entry_lem.Is a)
+  module _ {s s' : List ℕ} {r : TableEntry} {a : EntryNumber} (es : s ≡ part buf 0 used) (e : entry_found r ≡ on_disc s t sector) (q : r ≡ entry.Is a)
       (es' : s' ≡ part buf 0 used) where
     at_address : on_disc img t sector ≡ some a.0
     unfolding entry_found
@@ -177,7 +177,7 @@ module _ (buf : List ℕ) (used : ℕ) (t : Opened) (sector : List ℕ) (n : ℕ
     found {p} ep = stands buf used sector n h p (rw (at_address, ep, es') refl)
 
   -- not found there: as of a sector that no disc holds
-  module _ {s : List ℕ} {r : TableEntry} (es : s ≡ part buf 0 used) (e : entry_found r ≡ on_disc s t sector) (q : r ≡ at_entry_lem.Missing) where
+  module _ {s : List ℕ} {r : TableEntry} (es : s ≡ part buf 0 used) (e : entry_found r ≡ on_disc s t sector) (q : r ≡ entry.Missing) where
     lost : step_in buf used t sector n ≡ add_in buf used sector n
     unfolding entry_found
     lost =
