@@ -1,4 +1,4 @@
-// Links the static library that `rt lib` writes in crates/bench; `aaru` links its own.
+// Links the static library that bench/run has written in crates/bench; `aaru` links its own.
 fn main() {
     let library = concat!(env!("CARGO_MANIFEST_DIR"), "/../crates/bench/out");
     println!("cargo:rustc-link-search=native={library}");

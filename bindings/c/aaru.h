@@ -1,7 +1,7 @@
 /*
  * AaruFormat disc images, read and written by a proved library.
  *
- *     (cd crates/aaru_c && rt lib)
+ *     (cd crates/aaru_c && rt lib --cpu=x86-64)
  *     cc program.c -Ibindings/c -Lcrates/aaru_c/out -laaru_c
  *
  * An image is the first `used` bytes of a buffer that the caller lends. A call returns 0 if it is accepted, else the
@@ -19,7 +19,7 @@
  *     else that it is handed, and nobody else reads or writes it during the call. What it only reads may overlap, as a
  *     child that is its own parent, but nobody may write it during the call.
  * The library has no heap and no state of its own; calls on different buffers may run at the same time. Compiled for
- * x86-64-v2, no call takes more than 20 KiB of stack.
+ * x86-64, no call takes more than 20 KiB of stack.
  *
  * Checks of the image, made by each call that opens one, in this order. The place is 0 for 1, 2 and 3; for 4, 5, 6, 9
  * and 10 the index's offset as it was read, or handed to aaru_rollback, even past the end; for 7 and 8 that of the
