@@ -1,2 +1,3 @@
 pub mod Sectors
 pub mod Written
+pub mod ParentRefusal

@@ -21,6 +21,7 @@ use format::{ByteOffset, EntryNumber, Refusal, SectorAddress, Verdict};
 use opening::{Numbered, Opened, Opening};
 
 // A refusal of the parent, as the pair gives it: 20 and 21 as 21, any other with 100 added. A read's are at most 73, so that the sum is no larger number's.
+#[tactic(auto, using(crate::proofs::ParentRefusal::parent_numbers))]
 pub fn parent_refusal(r: Refusal) -> Refusal
     requires { r.number ≤ 73 }
     ensures { result ≡ parent_refusal r }
