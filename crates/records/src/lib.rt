@@ -150,6 +150,7 @@ pub fn set_header(buf: &mut [u8], offset: ByteOffset, time: u64)
 }
 
 // Writes a new image: header, a table of `count` entries that are 0, an index of the table's entry.
+#[tactic(auto, unfolding(format::specs::Creating::created_used, format::specs::Creating::created_index_at))]
 pub fn put_image(
     buf: &mut [u8],
     count: u64,

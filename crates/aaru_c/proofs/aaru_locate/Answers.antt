@@ -2,20 +2,19 @@
 use borrow.Author.Rules.{rules}
 use mathlib.Core.Path.{◌≡◌}
 use mir.Syntax.{w64}
-use mir.Val.{SFits, to_z, of_z}
+use mir.Val.{SFits}
 use mir.Facts.{to_z-of_z}
 use Rattle.format.specs.Reading.{locate}
 use Rattle.format.specs.Answers.{located}
 use Rattle.aaru_c.specs.Returned.{returned}
 use Rattle.aaru_c.proofs.aaru_locate.Goals as goal
-use Rattle.aaru_c.proofs.aaru_locate.Goals.{After-locate-answer, Start}
+use Rattle.aaru_c.proofs.aaru_locate.Goals.{After-locate-answer}
 
--- the address, as it is read back from its bits
-address : (c : Start) → to_z w64 (of_z w64 c.args.address) ≡ c.args.address
-address c = let f : SFits w64 c.args.address = search rules in to_z-of_z f
-
+-- the address is read back from its bits
 is-located : (c : After-locate-answer) → let a = c.args in located c.locate-answer.result ≡ locate a.image.now a.address
-is-located c = let a : SFits w64 c.args.address = search rules in rw (to_z-of_z a) at c.locate-answer.ensures
+is-located c =
+    let fits : SFits w64 c.args.address = search rules in
+    rw (to_z-of_z fits) at c.locate-answer.ensures
 
 pub returns-in-At : goal.returns-in-At
 unfolding returned located
