@@ -8,29 +8,26 @@ ghost use Rattle.format.specs.Reading.{locate, read};
 ghost use Rattle.format.specs.Creating.{create};
 ghost use Rattle.format.specs.Committing.{commit};
 ghost use Rattle.format.specs.RollingBack.{rollback};
-ghost use Rattle.format.specs.Answers.{counted, located, bytes_read, updated, answered};
+ghost use Rattle.format.specs.Answers.{bytes_read, answered};
 
 pub use format::{
     AddressRange, ByteOffset, Counted, Located, Place, Placed, Refusal, SectorAddress, Updated,
 };
 use format::{CREATED_ENTRIES, Verdict};
-use opening::Opening;
+use opening::Result<Opened, Refusal>;
 
 // How many sectors the image has and which address is the lowest, or why it does not open: 1 to 14, 70 to 72.
-pub fn sector_count(image: &[u8]) -> Counted
-    ensures { counted result ≡ sector_count image.now }
+pub fn sector_count(image: &[u8]) -> Result<AddressRange, Refusal>
+    ensures { result ≡ sector_count image.now }
 {
-    let opened = opening::open(image);
-    match opened {
-        Opening::Refused(r) => Counted::Refused(r),
-        Opening::Opens(t) => Counted::Sectors(opening::range(t)),
-    }
+    let t = opening::open(image)?;
+    Ok(opening::range(t))
 }
 
 // Where the sector at address a lies in the image, or why it can't be read: opening's numbers, 20 to 27, 73. Beside opening it costs at
 // most one pass over the index and one over the sector's block.
-pub fn locate(image: &[u8], a: SectorAddress) -> Located
-    ensures { located result ≡ locate image.now a.0 }
+pub fn locate(image: &[u8], a: SectorAddress) -> Result<Place, Refusal>
+    ensures { result ≡ locate image.now a.0 }
 {
     sectors::locate_in(image, a)
 }
@@ -41,8 +38,8 @@ pub fn read<'a>(image: &'a [u8], a: SectorAddress) -> &'a [u8]
 {
     let opened = opening::open(image);
     match opened {
-        Opening::Refused(_) => fields::part(image, 0, 0),
-        Opening::Opens(t) => sectors::read_of(image, t, a),
+        Err(_) => fields::part(image, 0, 0),
+        Ok(t) => sectors::read_of(image, t, a),
     }
 }
 
@@ -58,13 +55,10 @@ pub fn create(
     mediaType: u32,
     created: u64,
     written: u64,
-) -> Updated
-    ensures { answered (updated result) buffer.new ≡ create buffer.old count application.now major minor mediaType created written }
+) -> Result<Placed, Refusal>
+    ensures { answered result buffer.new ≡ create buffer.old count application.now major minor mediaType created written }
 {
-    let v = arguments::create_verdict(buffer, count, application);
-    if let Verdict::Refuses(r) = v {
-        return Updated::Refused(r);
-    }
+    arguments::create_verdict(buffer, count, application)?;
     records::put_image(
         buffer,
         count,
@@ -78,7 +72,7 @@ pub fn create(
     let at = CREATED_ENTRIES + 8 * count;
     let used = at + 20 + 16; // an index's header and one entry
     let index = ByteOffset(at);
-    Updated::To(Placed { used, index })
+    Ok(Placed { used, index })
 }
 
 // Commits sectors of `size` bytes, which stand one after another in `sectors`, to the addresses of the list: these read as handed in
@@ -96,38 +90,26 @@ pub fn commit(
     size: u64,
     sectors: &[u8],
     time: u64,
-) -> Updated
-    ensures { answered (updated result) buffer.new ≡ commit buffer.old used addresses.now size sectors.now time }
+) -> Result<Placed, Refusal>
+    ensures { answered result buffer.new ≡ commit buffer.old used addresses.now size sectors.now time }
 {
-    let v = arguments::commit_verdict(buffer, used, addresses, size, sectors);
-    if let Verdict::Refuses(r) = v {
-        return Updated::Refused(r);
-    }
-    let opened = opening::open(fields::part(buffer, 0, used));
-    match opened {
-        Opening::Refused(r) => Updated::Refused(r),
-        Opening::Opens(t) => appending::commit(buffer, used, t, addresses, size, sectors, time),
-    }
+    arguments::commit_verdict(buffer, used, addresses, size, sectors)?;
+    let t = opening::open(fields::part(buffer, 0, used))?;
+    appending::commit(buffer, used, t, addresses, size, sectors, time)
 }
 
 // Makes the index at `offset` the disc's: where a creation or a commit answered that offset, the disc reads as right after that call. Or
 // says why it can't: 31, 32, 1 to 3, then opening's other numbers with this offset in place of the header's, 74. It sets the header's
 // indexOffset and lastWrittenTime alone. The answer is `used` and the offset. Linear in the index's and the table's bytes.
-pub fn rollback(buffer: &mut [u8], used: u64, offset: ByteOffset, time: u64) -> Updated
-    ensures { answered (updated result) buffer.new ≡ rollback buffer.old used offset.0 time }
+pub fn rollback(buffer: &mut [u8], used: u64, offset: ByteOffset, time: u64) -> Result<Placed, Refusal>
+    ensures { answered result buffer.new ≡ rollback buffer.old used offset.0 time }
 {
-    let v = arguments::buffer_verdict(buffer, used);
-    if let Verdict::Refuses(r) = v {
-        return Updated::Refused(r);
-    }
-    let w = opening::writable_verdict(fields::part(buffer, 0, used), offset);
-    if let Verdict::Refuses(r) = w {
-        return Updated::Refused(r);
-    }
+    arguments::buffer_verdict(buffer, used)?;
+    opening::writable_verdict(fields::part(buffer, 0, used), offset)?;
     records::set_header(buffer, offset, time);
     // the image stays as long as it is, so that what was committed later can be had back
     let end = used;
-    Updated::To(Placed {
+    Ok(Placed {
         used: end,
         index: offset,
     })

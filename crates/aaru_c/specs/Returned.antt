@@ -1,10 +1,10 @@
 -- What a call of the C interface leaves to its caller: the number that it returns, the values behind its pointers, and the bytes of the
 -- buffer.
-use Rattle.std.specs.Prelude.{List, ℕ, ℤ}
+use Rattle.std.specs.Prelude.{List, ℕ, ℤ, Ok, Err}
 use Rattle.format.specs.declared.AddressRange.{AddressRange}
 use Rattle.format.specs.declared.Place.{Place}
 use Rattle.format.specs.declared.Sourced.{Sourced}
-use Rattle.format.specs.Refusals.{Answer, refused, accepted}
+use Rattle.format.specs.Refusals.{Answer}
 use Rattle.format.specs.Writing.{Outcome}
 
 pub record Returned (A : Type 0) : Type 0 where
@@ -16,8 +16,8 @@ pub record Returned (A : Type 0) : Type 0 where
 -- the place; a refused one returns its number, sets the place and leaves the values. No refusal has the number 0 (`Demand1Refusals` in
 -- format/specs/Demands), so 0 means "accepted" and nothing else.
 unfoldable pub returned : {A : Type 0} → Answer A → A → ℕ → Returned A
-returned (accepted a) values place = record { number = 0; values = a; place = place }
-returned (refused r) values place = record { number = r.number; values = values; place = r.place.0 }
+returned (Ok a) values place = record { number = 0; values = a; place = place }
+returned (Err r) values place = record { number = r.number; values = values; place = r.place.0 }
 
 -- the values of aaru_sector_count
 abbrev pub count_and_lowest : ℕ → ℤ → AddressRange

@@ -15,12 +15,11 @@ ghost use Rattle.format.specs.Importing.{import};
 ghost use Rattle.format.specs.Overlaying.{locate_over};
 ghost use Rattle.format.specs.Flattening.{flatten};
 ghost use Rattle.format.specs.Writing.{placed};
-ghost use Rattle.format.specs.Answers.{updated};
 ghost use Rattle.aaru_c.specs.Returned.{returned, count_and_lowest, start_and_size, which_start_and_size, left};
 
 use aaru::{ByteOffset, Counted, Located, Refusal, SectorAddress, Updated};
 use flat::{Exported, ExportedExact};
-use overlay::LocatedOver;
+use overlay::Result<Sourced, Refusal>;
 
 // What a refused call returns, and sets.
 fn refused(r: Refusal, place: &mut u64) -> u32
@@ -42,14 +41,14 @@ pub extern "C" fn aaru_sector_count(
 {
     let answer = aaru::sector_count(image);
     match answer {
-        Counted::Sectors(s) => {
+        Ok(s) => {
             *sectors = s.count;
             let first = s.lowest;
             let address = first.0;
             *lowest = address;
             0
         }
-        Counted::Refused(r) => refused(r, place),
+        Err(r) => refused(r, place),
     }
 }
 
@@ -66,12 +65,12 @@ pub extern "C" fn aaru_locate(
 {
     let answer = aaru::locate(image, SectorAddress(address));
     match answer {
-        Located::At(p) => {
+        Ok(p) => {
             *start = p.start.0;
             *size = p.size;
             0
         }
-        Located::Refused(r) => refused(r, place),
+        Err(r) => refused(r, place),
     }
 }
 
@@ -90,28 +89,28 @@ pub extern "C" fn aaru_locate_over(
 {
     let answer = overlay::locate_over(child, parent, SectorAddress(address));
     match answer {
-        LocatedOver::In(s) => {
+        Ok(s) => {
             let at = s.place;
             *which = s.image;
             *start = at.start.0;
             *size = at.size;
             0
         }
-        LocatedOver::Refused(r) => refused(r, place),
+        Err(r) => refused(r, place),
     }
 }
 
 // What a call that writes returns, and leaves behind its three pointers.
-fn numbers(answer: Updated, used: &mut u64, index: &mut u64, place: &mut u64) -> u32
+fn numbers(answer: Result<Placed, Refusal>, used: &mut u64, index: &mut u64, place: &mut u64) -> u32
     ensures { record { number = result; values = placed used.new index.new; place = place.new } ≡ returned (updated answer) (placed used.old index.old) place.old }
 {
     match answer {
-        Updated::To(p) => {
+        Ok(p) => {
             *used = p.used;
             *index = p.index.0;
             0
         }
-        Updated::Refused(r) => refused(r, place),
+        Err(r) => refused(r, place),
     }
 }
 
@@ -194,12 +193,12 @@ pub extern "C" fn aaru_export(
 {
     let answer = flat::export(image, out);
     match answer {
-        Exported::To(file) => {
+        Ok(file) => {
             *written = file.length;
             *filled = file.filled;
             0
         }
-        Exported::Refused(r) => refused(r, place),
+        Err(r) => refused(r, place),
     }
 }
 
@@ -215,11 +214,11 @@ pub extern "C" fn aaru_export_exact(
 {
     let answer = flat::export_exact(image, out);
     match answer {
-        ExportedExact::Length(n) => {
+        Ok(n) => {
             *written = n;
             0
         }
-        ExportedExact::Refused(r) => refused(r, place),
+        Err(r) => refused(r, place),
     }
 }
 

@@ -10,12 +10,12 @@ use native.Mathlib.Omega.{arith}
 use lib.ListN.{length, take, length-append}
 use lib.IntN.{ℤ}
 use lib.Seq.{length-take-le}
+use Rattle.std.specs.Prelude.{Ok}
 use Rattle.fields.specs.Bytes.{part, overwrite}
 use Rattle.fields.proofs.Overwrite.{length-overwrite, take-overwrite}
 use Rattle.format.specs.declared.Placed.{Placed}
 use Rattle.format.specs.declared.Pointer.{Pointer}
 use Rattle.format.specs.declared.TableKind.TheVariants.{First}
-use Rattle.format.specs.declared.Verdict.TheVariants.{Passes}
 use Rattle.format.specs.Lists.{All, done, more}
 use Rattle.format.specs.declared.Updated.TheVariants as update
 use Rattle.format.specs.Layouts.{header_length, index_offset, entry_count, entries, index_bytes, entry_length, block_header_length, table_header_length, table_header, table_bytes, table_entry_length}
@@ -195,7 +195,7 @@ module _ (buf : List ℕ) (used : ℕ) (t : Opened) (addresses : List ℤ) (size
   many : length numbers ≡ length addresses
   many = length-numbers t addresses
 
-  sectors-pass : sectors_verdict img (entries img (index_offset img)) t ≡ Passes
+  sectors-pass : sectors_verdict img (entries img (index_offset img)) t ≡ Ok tt
   sectors-pass =
       sym (then-rest _ _ (row-passes _ (refusal 20 0) inside))
       ∙ sym (then-rest _ _ (row-passes _ (refusal 74 0) ((second-iff t.kind).1 first)))

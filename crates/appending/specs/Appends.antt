@@ -1,7 +1,5 @@
 -- A commit to an opened disc: what its parts ask for, and where what it appends stands.
-use Rattle.std.specs.Prelude.{List, ◌≡◌, ℕ, ◌+◌, ◌*◌, ◌≤◌, length, take, ℤ}
-use Rattle.format.specs.declared.Verdict.TheVariants.{Passes}
-use Rattle.format.specs.Refusals.{accepted}
+use Rattle.std.specs.Prelude.{List, ◌≡◌, ℕ, ◌+◌, ◌*◌, ◌≤◌, length, take, ℤ, Ok}
 use Rattle.format.specs.Layouts.{index_offset, index_header_length, entry_length, entries, table_header_length, table_entry_length}
 use Rattle.format.specs.Opening.{Opened, opening}
 use Rattle.format.specs.Facts.{block_length_for}
@@ -14,9 +12,9 @@ use Rattle.appending.specs.declared.Layout.{Layout}
 
 -- all checks but 35 have passed, and the image is opened as t
 pub record Passed (buf : List ℕ) (used : ℕ) (t : Opened) (addresses : List ℤ) (size : ℕ) (sectors : List ℕ) : Type 0 where
-  pub arguments : arguments_verdict buf used addresses size sectors ≡ Passes
-  pub opens : opening (take used buf) ≡ accepted t
-  pub disc : disc_verdict (take used buf) (index_offset (take used buf)) addresses ≡ Passes
+  pub arguments : arguments_verdict buf used addresses size sectors ≡ Ok tt
+  pub opens : opening (take used buf) ≡ Ok t
+  pub disc : disc_verdict (take used buf) (index_offset (take used buf)) addresses ≡ Ok tt
 
 -- where the new table and the new index stand, behind the image and the new block; where they end; how many index entries are kept
 unfoldable pub layout_for : List ℕ → Opened → ℕ → ℕ → Layout

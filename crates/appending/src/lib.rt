@@ -8,13 +8,11 @@
 ghost use Rattle.std.specs.Prelude.{false, ◌++◌, ◌≡◌, ℕ, ◌≤◌, length, take};
 ghost use Rattle.fields.specs.Bytes.{overwrite};
 ghost use Rattle.format.specs.declared.TableKind.TheVariants.{First};
-ghost use Rattle.format.specs.declared.Verdict.TheVariants.{Passes};
-ghost use Rattle.format.specs.Refusals.{accepted};
 ghost use Rattle.format.specs.Layouts.{index_offset};
 ghost use Rattle.format.specs.Opening.{opening};
 ghost use Rattle.format.specs.Writing.{largest_size, most_addresses, longest_buffer, set_header};
 ghost use Rattle.format.specs.Committing.{arguments_verdict, any_outside, entry_numbers, new_block, new_table, index_start, appended, appended_bytes, commit};
-ghost use Rattle.format.specs.Answers.{updated, answered};
+ghost use Rattle.format.specs.Answers.{answered};
 ghost use Rattle.opening.specs.Answers.{contents};
 ghost use Rattle.planning.specs.Plans.{stored_by, pointers_by};
 ghost use Rattle.format.specs.Facts.{block_length_for, block_entry};
@@ -57,7 +55,7 @@ fn block_entries(stored: u64) -> u64
 
 // Where what is appended to the image will stand, if so many sectors are stored.
 fn lay_out(s: &[u8], t: Opened, size: u64, stored: u64) -> Layout
-    requires { (opening s.now ≡ accepted (contents t)) × (length s.now ≤ longest_buffer) × (stored ≤ most_addresses) × (size ≤ largest_size) × ((contents t).kind ≡ First) }
+    requires { (opening s.now ≡ Ok (contents t)) × (length s.now ≤ longest_buffer) × (stored ≤ most_addresses) × (size ≤ largest_size) × ((contents t).kind ≡ First) }
     ensures { result ≡ layout_for s.now (contents t) size stored }
 {
     let kept = indexing::count_kept(s, ByteOffset(get(s, INDEX_OFFSET, 8)));
@@ -137,9 +135,9 @@ fn append(
     size: u64,
     sectors: &[u8],
     time: u64,
-) -> Updated
+) -> Result<Placed, Refusal>
     requires { Passed buf.old used (contents t) addresses.now size sectors.now }
-    ensures { answered (updated result) buf.new ≡ commit buf.old used addresses.now size sectors.now time }
+    ensures { answered result buf.new ≡ commit buf.old used addresses.now size sectors.now time }
 {
     let plan = planning::plan(part(buf, 0, used), t, addresses, size, sectors);
     let stored = plan.stored;
@@ -149,10 +147,10 @@ fn append(
     let length = buf.len() as u64;
     if length < end {
         let place = ByteOffset(0);
-        return Updated::Refused(Refusal { number: 35, place });
+        return Err(Refusal { number: 35, place });
     }
     put_all(buf, used, t, addresses, size, sectors, time, plan, at);
-    Updated::To(Placed { used: end, index })
+    Ok(Placed { used: end, index })
 }
 
 // A commit to a disc that opened as t, whose arguments passed: 74, 20, the sectors' numbers but 21, 35.
@@ -164,13 +162,10 @@ pub fn commit(
     size: u64,
     sectors: &[u8],
     time: u64,
-) -> Updated
-    requires { (arguments_verdict buf.old used addresses.now size sectors.now ≡ Passes) × (opening (take used buf.old) ≡ accepted (contents t)) }
-    ensures { answered (updated result) buf.new ≡ commit buf.old used addresses.now size sectors.now time }
+) -> Result<Placed, Refusal>
+    requires { (arguments_verdict buf.old used addresses.now size sectors.now ≡ Ok tt) × (opening (take used buf.old) ≡ Ok (contents t)) }
+    ensures { answered result buf.new ≡ commit buf.old used addresses.now size sectors.now time }
 {
-    let v = checking::disc_verdict_of(part(buf, 0, used), t, addresses);
-    if let Verdict::Refuses(r) = v {
-        return Updated::Refused(r);
-    }
+    checking::disc_verdict_of(part(buf, 0, used), t, addresses)?;
     append(buf, used, t, addresses, size, sectors, time)
 }

@@ -36,39 +36,39 @@ fn name_refused(application: &[u8]) -> bool
 }
 
 // A creation: 31, 30, 33, 35.
-pub fn create_verdict(buffer: &[u8], count: u64, application: &[u8]) -> Verdict
+pub fn create_verdict(buffer: &[u8], count: u64, application: &[u8]) -> Result<(), Refusal>
     ensures { result ≡ create_verdict buffer.now count application.now }
 {
     let place = ByteOffset(0);
     let length = buffer.len() as u64;
     if LONGEST_BUFFER < length {
-        return Verdict::Refuses(Refusal { number: 31, place });
+        return Err(Refusal { number: 31, place });
     }
     if count_refused(count) {
-        return Verdict::Refuses(Refusal { number: 30, place });
+        return Err(Refusal { number: 30, place });
     }
     if name_refused(application) {
-        return Verdict::Refuses(Refusal { number: 33, place });
+        return Err(Refusal { number: 33, place });
     }
     if length < CREATED_LENGTH + 8 * count {
-        return Verdict::Refuses(Refusal { number: 35, place });
+        return Err(Refusal { number: 35, place });
     }
-    Verdict::Passes
+    Ok(())
 }
 
 // The buffer of a commit or a rollback: 31, 32.
-pub fn buffer_verdict(buffer: &[u8], used: u64) -> Verdict
+pub fn buffer_verdict(buffer: &[u8], used: u64) -> Result<(), Refusal>
     ensures { result ≡ buffer_verdict buffer.now used }
 {
     let place = ByteOffset(0);
     let length = buffer.len() as u64;
     if LONGEST_BUFFER < length {
-        return Verdict::Refuses(Refusal { number: 31, place });
+        return Err(Refusal { number: 31, place });
     }
     if length < used {
-        return Verdict::Refuses(Refusal { number: 32, place });
+        return Err(Refusal { number: 32, place });
     }
-    Verdict::Passes
+    Ok(())
 }
 
 // A commit's sector size and number of addresses: check 30.
@@ -108,25 +108,22 @@ pub fn commit_verdict(
     addresses: &[i64],
     size: u64,
     sectors: &[u8],
-) -> Verdict
+) -> Result<(), Refusal>
     ensures { result ≡ arguments_verdict buffer.now used addresses.now size sectors.now }
 {
-    let v = buffer_verdict(buffer, used);
-    if let Verdict::Refuses(r) = v {
-        return Verdict::Refuses(r);
-    }
+    buffer_verdict(buffer, used)?;
     let place = ByteOffset(0);
     let count = addresses.len() as u64;
     if size_refused(size, count) {
-        return Verdict::Refuses(Refusal { number: 30, place });
+        return Err(Refusal { number: 30, place });
     }
     if sectors.len() as u64 != count * size {
-        return Verdict::Refuses(Refusal { number: 33, place });
+        return Err(Refusal { number: 33, place });
     }
     if is_rising(addresses) {
-        return Verdict::Passes;
+        return Ok(());
     }
-    Verdict::Refuses(Refusal { number: 34, place })
+    Err(Refusal { number: 34, place })
 }
 
 // An import's sector size and the length of its file: check 30.
@@ -146,36 +143,36 @@ fn file_refused(size: u64, length: u64) -> bool
 }
 
 // An import's arguments: 31, 30, 42, 33.
-pub fn import_verdict(buffer: &[u8], file: &[u8], size: u64, application: &[u8]) -> Verdict
+pub fn import_verdict(buffer: &[u8], file: &[u8], size: u64, application: &[u8]) -> Result<(), Refusal>
     ensures { result ≡ import_verdict buffer.now file.now size application.now }
 {
     let place = ByteOffset(0);
     if LONGEST_BUFFER < buffer.len() as u64 {
-        return Verdict::Refuses(Refusal { number: 31, place });
+        return Err(Refusal { number: 31, place });
     }
     let length = file.len() as u64;
     if file_refused(size, length) {
-        return Verdict::Refuses(Refusal { number: 30, place });
+        return Err(Refusal { number: 30, place });
     }
     if length % size != 0 {
-        return Verdict::Refuses(Refusal { number: 42, place });
+        return Err(Refusal { number: 42, place });
     }
     if name_refused(application) {
-        return Verdict::Refuses(Refusal { number: 33, place });
+        return Err(Refusal { number: 33, place });
     }
-    Verdict::Passes
+    Ok(())
 }
 
 // The buffer and the application's name of a flattening: 31, 33.
-pub fn lent_verdict(buffer: &[u8], application: &[u8]) -> Verdict
+pub fn lent_verdict(buffer: &[u8], application: &[u8]) -> Result<(), Refusal>
     ensures { result ≡ lent_verdict buffer.now application.now }
 {
     let place = ByteOffset(0);
     if LONGEST_BUFFER < buffer.len() as u64 {
-        return Verdict::Refuses(Refusal { number: 31, place });
+        return Err(Refusal { number: 31, place });
     }
     if name_refused(application) {
-        return Verdict::Refuses(Refusal { number: 33, place });
+        return Err(Refusal { number: 33, place });
     }
-    Verdict::Passes
+    Ok(())
 }

@@ -4,21 +4,20 @@ use mathlib.Core.Path.{◌≡◌, refl, sym, ap, ◌∙◌}
 use Prim.Native.Nat.{ℕ, zero, suc, ◌+◌, ◌≤◌, ◌<◌}
 use native.Mathlib.Nat.{eq-or-lt_of_le}
 use native.Mathlib.Omega.{arith}
+use Rattle.std.specs.Prelude.{Ok, Err}
 use Rattle.format.specs.declared.Refusal.{Refusal}
-use Rattle.format.specs.declared.Verdict.{Verdict}
-use Rattle.format.specs.declared.Verdict.TheVariants.{Passes, Refuses}
-use Rattle.format.specs.Refusals.{◌then◌, first_refusal}
+use Rattle.format.specs.Refusals.{◌then◌, first_refusal, Verdict}
 use Rattle.format.proofs.Refusals.{not-passes, then-rest, then-stays}
 use Rattle.checking.specs.declared.First.{First}
 use Rattle.checking.specs.Checked.{IsFirst}
 
 -- a first address, and none
-pub first-at : (f : ℕ → Verdict) (n a : ℕ) (r : Refusal) → a < n → ((i : ℕ) → i < a → f i ≡ Passes) → f a ≡ Refuses r
-    → IsFirst f n (record { number = record { 0 = a }; verdict = Refuses r })
+pub first-at : (f : ℕ → Verdict) (n a : ℕ) (r : Refusal) → a < n → ((i : ℕ) → i < a → f i ≡ Ok tt) → f a ≡ Err r
+    → IsFirst f n (record { number = record { 0 = a }; verdict = Err r })
 first-at f n a r l b e = record { within = omega arith; before = b; here = λ k. (e, not-passes); none = λ z. absurd (omega arith) }
 
-pub first-none : (f : ℕ → Verdict) (n a : ℕ) → a ≡ n → ((i : ℕ) → i < a → f i ≡ Passes)
-    → IsFirst f n (record { number = record { 0 = a }; verdict = Passes })
+pub first-none : (f : ℕ → Verdict) (n a : ℕ) → a ≡ n → ((i : ℕ) → i < a → f i ≡ Ok tt)
+    → IsFirst f n (record { number = record { 0 = a }; verdict = Ok tt })
 first-none f n a e b = record { within = omega arith; before = b; here = λ k. absurd (omega arith); none = λ z. refl }
 
 -- a check that says the same has the same first address
@@ -48,8 +47,8 @@ module _ (f : ℕ → Verdict) (n : ℕ) (r : First) (p : IsFirst f n r) where
   first-refusal = from n 0 (omega arith) (omega arith)
 
 -- by the checks before it
-pub refused-at : (f : ℕ → Verdict) (n a : ℕ) (r : Refusal) → a < n → ((i : ℕ) → i < a → f i ≡ Passes) → f a ≡ Refuses r → first_refusal f n 0 ≡ Refuses r
+pub refused-at : (f : ℕ → Verdict) (n a : ℕ) (r : Refusal) → a < n → ((i : ℕ) → i < a → f i ≡ Ok tt) → f a ≡ Err r → first_refusal f n 0 ≡ Err r
 refused-at f n a r l b e = first-refusal f n _ (first-at f n a r l b e)
 
-pub refused_none : (f : ℕ → Verdict) (n : ℕ) → ((i : ℕ) → i < n → f i ≡ Passes) → first_refusal f n 0 ≡ Passes
+pub refused_none : (f : ℕ → Verdict) (n : ℕ) → ((i : ℕ) → i < n → f i ≡ Ok tt) → first_refusal f n 0 ≡ Ok tt
 refused_none f n b = first-refusal f n _ (first-none f n n refl b)

@@ -5,11 +5,10 @@ use mathlib.Core.Logic.Iff
 use mathlib.Core.Logic.{inl, ◌↔◌}
 use mathlib.Core.Path.{◌≡◌, refl, sym, ap, ◌∙◌}
 use Prim.Native.Nat.{ℕ, ◌/◌, ◌<◌}
+use Rattle.std.specs.Prelude.{Ok, Err}
 use Rattle.format.specs.declared.Pointer.{Pointer}
 use Rattle.format.specs.declared.Refusal.{Refusal}
-use Rattle.format.specs.declared.Verdict.{Verdict}
-use Rattle.format.specs.declared.Verdict.TheVariants.{Passes, Refuses}
-use Rattle.format.specs.Refusals.{refusal, ◌then◌}
+use Rattle.format.specs.Refusals.{refusal, ◌then◌, Verdict}
 use Rattle.format.specs.Layouts.{sector_size, block_length}
 use Rattle.format.specs.Opening.{Opened}
 use Rattle.format.specs.Reading.{table_entry_at, pointer_at, has, block_verdict}
@@ -21,20 +20,20 @@ use Rattle.format.proofs.Chains.{on-last}
 use Rattle.checking.specs.Checked.{indexed, form_verdict, entry_form, wrong_sum, only_after, damaged, mark, looked_verdict}
 
 -- ---- a pointer, but for the checksums
-pub form-ok : (img : List ℕ) (at : ℕ) (p : Pointer) → (form_verdict img at p ≡ Passes)
+pub form-ok : (img : List ℕ) (at : ℕ) (p : Pointer) → (form_verdict img at p ≡ Ok tt)
     ↔ ((has p.block.0 (indexed img) ≡ true) × (BlockOk img p.block.0 × (p.item.0 < block_length img p.block.0 / sector_size img p.block.0)))
 unfolding form_verdict
 form-ok img at p = then-iff (row-iff _ not_iff) (then-iff (block-ok img p.block.0) (row-iff _ at_least-iff))
 
 -- a table entry: what passes points into a well-formed block that is indexed
-pub entry-form-ok : (img : List ℕ) (t : Opened) (n : ℕ) → entry_form img t n ≡ Passes
+pub entry-form-ok : (img : List ℕ) (t : Opened) (n : ℕ) → entry_form img t n ≡ Ok tt
     → (has (pointer_at img t n).block.0 (indexed img) ≡ true) × BlockOk img (pointer_at img t n).block.0
 unfolding entry_form
 entry-form-ok img t n e = let k = ((then-iff (row-iff (refusal 73 0) Iff.rfl) (form-ok img (table_entry_at t n) (pointer_at img t n))).0 e).1 in (k.0, k.1.0)
 
 -- ---- a damaged block
 module _ (img : List ℕ) (b : ℕ) where
-  pub damaged-refused : (r : Refusal) → Refuses r ≡ block_verdict img b → false ≡ damaged img b
+  pub damaged-refused : (r : Refusal) → Err r ≡ block_verdict img b → false ≡ damaged img b
   unfolding damaged only_after
   damaged-refused r e = ap (λ (v : Verdict). only_after v (wrong_sum img b)) e
 
@@ -49,7 +48,7 @@ module _ (img : List ℕ) (t : Opened) (looks : ℕ → Bool) where
   unfolding looked_verdict
   looked-at left a e = choose-true _ _ _ e
 
-  pub passed_over : (left : List ℕ) (a : ℕ) → looks a ≡ false → looked_verdict img t looks left a ≡ Passes
+  pub passed_over : (left : List ℕ) (a : ℕ) → looks a ≡ false → looked_verdict img t looks left a ≡ Ok tt
   unfolding looked_verdict
   passed_over left a e = choose-false _ _ _ e
 
@@ -59,5 +58,5 @@ module _ (img : List ℕ) (t : Opened) (looks : ℕ → Bool) where
   form-only a e = looked-at (indexed img) a e ∙ alone _ refl
     where
       alone : (v : Verdict) → entry_form img t a ≡ v → (v then mark img (indexed img) (pointer_at img t a).block.0) ≡ v
-      alone Passes q = sym (on-last _ ((and-iff not_iff Iff.rfl).1 (inl (entry-form-ok img t a q).0)))
-      alone (Refuses r) q = refl
+      alone (Ok tt) q = sym (on-last _ ((and-iff not_iff Iff.rfl).1 (inl (entry-form-ok img t a q).0)))
+      alone (Err r) q = refl

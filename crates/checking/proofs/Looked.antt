@@ -6,7 +6,7 @@ use mathlib.Core.Logic.{◌≢◌, ◌⊎◌, inl, inr, ⊎_elim}
 use mathlib.Core.Path.{◌≡◌, refl, sym, ap, ◌∙◌, subst}
 use Prim.Native.Nat.{ℕ, ◌+◌, ◌-◌, ◌≤◌, ◌<◌}
 use native.Mathlib.Omega.{arith}
-use Rattle.format.specs.declared.Verdict.TheVariants.{Passes, Refuses}
+use Rattle.std.specs.Prelude.{Ok, Err}
 use Rattle.format.specs.Tests.{same, ◌and◌}
 use Rattle.format.specs.Refusals.{refusal, row, ◌then◌}
 use Rattle.format.specs.Layouts.{DBLK, entry_length, entry_at, entries_from}
@@ -58,7 +58,7 @@ module _ (img : List ℕ) (t : Opened) (looks : ℕ → Bool) where
     -- a damaged block: its first address below the limit is the new limit
     pub found : damaged img b ≡ true → has b left ≡ false → {first : First} → FirstLeft img t looks (b ∷ left) first
         → (m : ℕ) → m < first.number.0 → Into b m → ((a : ℕ) → a < m → ¬ Into b a)
-        → FirstLeft img t looks left (record { number = record { 0 = m }; verdict = Refuses (refusal 27 b) })
+        → FirstLeft img t looks left (record { number = record { 0 = m }; verdict = Err (refusal 27 b) })
     found d h {first} p m l i away =
         let w : first.number.0 ≤ t.count = p.within in
         first-at _ _ m _ (omega arith) (λ a k. sym (elsewhere a (away a k)) ∙ p.before a (omega arith))
@@ -74,7 +74,7 @@ module _ (img : List ℕ) (t : Opened) (looks : ℕ → Bool) where
           none = p.none;
         }
       where
-        keeps : (a : ℕ) → looked_verdict img t looks (b ∷ left) a ≢ Passes → looked_verdict img t looks left a ≡ looked_verdict img t looks (b ∷ left) a
+        keeps : (a : ℕ) → looked_verdict img t looks (b ∷ left) a ≢ Ok tt → looked_verdict img t looks left a ≡ looked_verdict img t looks (b ∷ left) a
         keeps a ne =
             ⊎_elim (λ i. into left a i ∙ then-stays _ _ (λ e. ne (into-before a i ∙ e)) ∙ sym (into-before a i)) (λ n. sym (elsewhere a n)) (into-or-not a)
 

@@ -6,13 +6,12 @@ use mathlib.Core.Logic.{◌≢◌, inl, inr, ⊎_elim}
 use mathlib.Core.Path.{◌≡◌, refl, sym, ap, ◌∙◌, subst}
 use Prim.Native.Nat.{ℕ, ◌≤◌, ◌<◌}
 use native.Mathlib.Omega.{arith}
+use Rattle.std.specs.Prelude.{Ok, Err}
 use Rattle.format.specs.declared.Entry.{Entry}
 use Rattle.format.specs.declared.Pointer.{Pointer}
 use Rattle.format.specs.declared.Refusal.{Refusal}
-use Rattle.format.specs.declared.Verdict.{Verdict}
-use Rattle.format.specs.declared.Verdict.TheVariants.{Passes, Refuses}
 use Rattle.format.specs.Tests.{same, ◌and◌, choose}
-use Rattle.format.specs.Refusals.{refusal, row, ◌then◌, first_refusal}
+use Rattle.format.specs.Refusals.{refusal, row, ◌then◌, first_refusal, Verdict}
 use Rattle.format.specs.Layouts.{DBLK, index_offset, entries}
 use Rattle.format.specs.Opening.{is_user_data, Opened}
 use Rattle.format.specs.Reading.{table_entry_at, not_written, unknown_status, pointer_at, has, block_verdict, item_verdict, pointer_verdict, sector_verdict}
@@ -28,8 +27,8 @@ use Rattle.checking.proofs.Forms.{looked-at, passed_over}
 
 only-after : (v w : Verdict) (d : Bool) (r : Refusal) → (v then (w then row (true and only_after v d) r)) ≡ (v then (w then row d r))
 unfolding ◌then◌ ◌and◌ only_after
-only-after Passes w d r = refl
-only-after (Refuses q) w d r = refl
+only-after (Ok tt) w d r = refl
+only-after (Err q) w d r = refl
 
 module _ (img : List ℕ) (t : Opened) where
   pointer-whole : (at : ℕ) (q : Pointer) → (form_verdict img at q then mark img [] q.block.0) ≡ pointer_verdict img (entries img (index_offset img)) at q
@@ -52,7 +51,7 @@ module _ (img : List ℕ) (t : Opened) where
         ∙ sym (keeps-others _ (λ g. never ((gives-21 img (entries img (index_offset img)) t a).0 g) e) ∙ then-rest _ _ ((row-iff (refusal 21 0) Iff.rfl).1 e)))
         (on-or-off (not_written img t a))
 
-    address-whole : (a : ℕ) → a < t.count → looked_verdict img t looks [] a ≡ choose (within a) (wanted a) Passes
+    address-whole : (a : ℕ) → a < t.count → looked_verdict img t looks [] a ≡ choose (within a) (wanted a) (Ok tt)
     address-whole a l =
         ⊎_elim (λ k. in_scope_lem a k ∙ sym (choose-true _ _ _ k))
         (λ k. passed_over img t looks [] a (both a ∙ (and-iff Iff.rfl Iff.rfl).1 (inr k)) ∙ sym (choose-false _ _ _ k)) (on-or-off (within a))
@@ -71,22 +70,22 @@ module _ (img : List ℕ) (t : Opened) where
 
 -- ---- 21 too: the first entry below it that is not written, or itself
 -- a verdict that is not left out is itself
-pub kept : (v : Verdict) → other_than_21 v ≢ Passes → v ≡ other_than_21 v
+pub kept : (v : Verdict) → other_than_21 v ≢ Ok tt → v ≡ other_than_21 v
 unfolding other_than_21
-kept Passes h = absurd (h refl)
-kept (Refuses r) h = ⊎_elim (λ e. absurd (h (choose-true _ _ _ e))) (λ e. sym (choose-false _ _ _ e)) (on-or-off (same r.number 21))
+kept (Ok tt) h = absurd (h refl)
+kept (Err r) h = ⊎_elim (λ e. absurd (h (choose-true _ _ _ e))) (λ e. sym (choose-false _ _ _ e)) (on-or-off (same r.number 21))
 
 module _ (img : List ℕ) (t : Opened) {first : First} (p : FirstRefused img t first) where
   abbrev check : ℕ → Verdict
   check = sector_verdict img (entries img (index_offset img)) t
 
-  passes : (n : ℕ) → n < first.number.0 → not_written img t n ≡ false → check n ≡ Passes
+  passes : (n : ℕ) → n < first.number.0 → not_written img t n ≡ false → check n ≡ Ok tt
   passes n l w =
       let es : List Entry = entries img (index_offset img) in
       (sector-ok img es t n).1 (off_rest w ((address-ok img es t n).0 (p.before n l)))
 
   pub gap-first : (n : ℕ) → n < first.number.0 → ((i : ℕ) → i < n → not_written img t i ≡ false) → not_written img t n ≡ true
-      → FirstOfAll img t (record { number = record { 0 = n }; verdict = Refuses (refusal 21 0) })
+      → FirstOfAll img t (record { number = record { 0 = n }; verdict = Err (refusal 21 0) })
   gap-first n l b e =
       first-at check t.count n (refusal 21 0) (omega (arith, p.within)) (λ i k. passes i (omega arith) (b i k)) (sector-21 img (entries img (index_offset img)) t n e)
 

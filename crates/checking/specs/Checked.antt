@@ -1,12 +1,10 @@
 -- The check of all sectors with each block summed once: what is checked at each point, and the first address that it refuses.
 use Prim.{Unit}
-use Rattle.std.specs.Prelude.{Bool, true, false, not, List, ◌≢◌, ◌⊎◌, ◌≡◌, ℕ, ◌/◌, ◌≤◌, ◌<◌, ℤ, pos, neg_ℤ, ◌+ℤ◌}
+use Rattle.std.specs.Prelude.{Bool, true, false, not, List, ◌≢◌, ◌⊎◌, ◌≡◌, ℕ, ◌/◌, ◌≤◌, ◌<◌, ℤ, pos, neg_ℤ, ◌+ℤ◌, Ok, Err}
 use Rattle.crc64.specs.Crc.{crc_of}
 use Rattle.format.specs.declared.Pointer.{Pointer}
-use Rattle.format.specs.declared.Verdict.{Verdict}
-use Rattle.format.specs.declared.Verdict.TheVariants.{Passes, Refuses}
 use Rattle.format.specs.Tests.{below, at_least, ◌and◌, choose}
-use Rattle.format.specs.Refusals.{refusal, row, ◌then◌, accepted}
+use Rattle.format.specs.Refusals.{refusal, row, ◌then◌, Verdict}
 use Rattle.format.specs.Layouts.{DBLK, index_offset, entries, entries_from, sector_size, block_length, block_cmp_crc64, block_crc64, block_payload}
 use Rattle.format.specs.Opening.{sums_differ, offsets_of, Opened, opening}
 use Rattle.format.specs.Reading.{outside, entry_number, table_entry_at, not_written, unknown_status, pointer_at, has, block_verdict, sector_verdict}
@@ -35,7 +33,7 @@ in_scope child (scope.Gaps c) t n = leaves child (contents c.opened) c.limit.0 t
 -- the child is the one that opened so
 unfoldable pub Lent : List ℕ → Scope → Type 0
 Lent child scope.All = Unit {0}
-Lent child (scope.Gaps c) = opening child ≡ accepted (contents c.opened)
+Lent child (scope.Gaps c) = opening child ≡ Ok (contents c.opened)
 
 -- it is written and in the scope
 unfoldable pub looked_at : List ℕ → Opened → List ℕ → Scope → ℕ → Bool
@@ -69,8 +67,8 @@ wrong_sum img b = sums_differ (crc_of (block_payload img b)) (block_cmp_crc64 im
 
 -- a test that is asked only where the checks before it pass
 unfoldable pub only_after : Verdict → Bool → Bool
-only_after Passes b = b
-only_after (Refuses r) b = false
+only_after (Ok tt) b = b
+only_after (Err r) b = false
 
 -- the block at b is well formed, and one of its checksums is wrong
 unfoldable pub damaged : List ℕ → ℕ → Bool
@@ -82,14 +80,14 @@ mark img left b = row (not (has b left) and damaged img b) (refusal 27 b)
 
 -- table entry n, if it is looked at, while the blocks `left` are still to be: all checks but that of their checksums
 unfoldable pub looked_verdict : List ℕ → Opened → (ℕ → Bool) → List ℕ → ℕ → Verdict
-looked_verdict img t looks left n = choose (looks n) (entry_form img t n then mark img left (pointer_at img t n).block.0) Passes
+looked_verdict img t looks left n = choose (looks n) (entry_form img t n then mark img left (pointer_at img t n).block.0) (Ok tt)
 
 -- the first of `count` table entries that a check refuses, and how; the count where there is none
 pub record IsFirst (check : ℕ → Verdict) (count : ℕ) (first : First) : Type 0 where
   pub within : first.number.0 ≤ count
-  pub before : (a : ℕ) → a < first.number.0 → check a ≡ Passes
-  pub here : first.number.0 < count → (check first.number.0 ≡ first.verdict) × (first.verdict ≢ Passes)
-  pub none : first.number.0 ≡ count → first.verdict ≡ Passes
+  pub before : (a : ℕ) → a < first.number.0 → check a ≡ Ok tt
+  pub here : first.number.0 < count → (check first.number.0 ≡ first.verdict) × (first.verdict ≢ Ok tt)
+  pub none : first.number.0 ≡ count → first.verdict ≡ Ok tt
 
 -- the first table entry that is refused, of those that are looked at, while the blocks `left` are still to be
 abbrev pub FirstLeft : List ℕ → Opened → (ℕ → Bool) → List ℕ → First → Type 0
@@ -110,4 +108,4 @@ FirstRefused img t first = IsFirst (λ (a : ℕ). other_than_21 (sector_verdict 
 -- of those for which a test says yes
 abbrev pub FirstWithin : List ℕ → Opened → (ℕ → Bool) → First → Type 0
 FirstWithin img t within first =
-    IsFirst (λ (a : ℕ). choose (within a) (other_than_21 (sector_verdict img (entries img (index_offset img)) t a)) Passes) t.count first
+    IsFirst (λ (a : ℕ). choose (within a) (other_than_21 (sector_verdict img (entries img (index_offset img)) t a)) (Ok tt)) t.count first

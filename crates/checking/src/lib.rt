@@ -9,7 +9,7 @@
 
 ghost use Rattle.std.specs.Prelude.{true, false, not, List, ◌∷◌, ◌≡◌, ℕ, ◌+◌, ◌-◌, ◌*◌, ◌^◌, ◌≤◌, ◌<◌, length};
 ghost use Rattle.format.specs.Tests.{◌and◌};
-ghost use Rattle.format.specs.Refusals.{accepted, first_refusal};
+ghost use Rattle.format.specs.Refusals.{first_refusal};
 ghost use Rattle.format.specs.Layouts.{index_offset, entry_length, entries};
 ghost use Rattle.format.specs.Opening.{opening};
 ghost use Rattle.format.specs.Reading.{table_entry, unwritten, has, pointer_at, sector_verdict};
@@ -25,7 +25,7 @@ use opening::{Image, Numbered, Opened};
 #[derive(Clone, Copy)]
 pub struct First {
     pub number: EntryNumber,
-    pub verdict: Verdict,
+    pub verdict: Result<(), Refusal>,
 }
 
 // Which table entries are looked at: all, or those of a parent whose addresses a child has not written.
@@ -60,14 +60,14 @@ fn any_outside(t: Opened, addresses: &[i64]) -> bool
 // Whether the child leaves table entry n of the parent that opened as t to it: its address has a table entry of the child below the limit, and that
 // one is not written.
 fn is_left(child: &[u8], c: Child, t: Opened, n: EntryNumber) -> bool
-    requires { (opening child.now ≡ accepted (contents c.opened)) × (n.0 < 2 ^ 63) }
+    requires { (opening child.now ≡ Ok (contents c.opened)) × (n.0 < 2 ^ 63) }
     ensures { result ≡ leaves child.now (contents c.opened) c.limit.0 (contents t) n.0 }
 {
     let u = c.opened;
     let numbered = opening::entry_number(u, opening::address(t, n));
     match numbered {
-        Numbered::Outside => false,
-        Numbered::At(m) => {
+        None => false,
+        Some(m) => {
             let limit = c.limit;
             if m.0 < limit.0 {
                 return opening::is_unwritten(u, opening::table_entry(child, u, m));
@@ -101,8 +101,8 @@ fn is_looked_at(child: &[u8], scope: Scope, t: Opened, n: EntryNumber, e: u64) -
 
 // What p, whose table entry stands at `place`, points to, but for the block's checksums: checks 22 to 26. Of the block that is known only
 // the item's number is looked at.
-fn form_verdict(s: &[u8], t: Opened, place: ByteOffset, p: Pointer, known: ByteOffset) -> Verdict
-    requires { (opening s.now ≡ accepted (contents t)) × Formed s.now known.0 }
+fn form_verdict(s: &[u8], t: Opened, place: ByteOffset, p: Pointer, known: ByteOffset) -> Result<(), Refusal>
+    requires { (opening s.now ≡ Ok (contents t)) × Formed s.now known.0 }
     ensures { result ≡ form_verdict s.now place.0 p }
 {
     let b = p.block;
@@ -110,30 +110,27 @@ fn form_verdict(s: &[u8], t: Opened, place: ByteOffset, p: Pointer, known: ByteO
         return sectors::number_verdict(s, p);
     }
     if sectors::is_indexed(s, ByteOffset(get(s, INDEX_OFFSET, 8)), b) {
-        let v = sectors::block_verdict(s, b);
-        if let Verdict::Refuses(r) = v {
-            return Verdict::Refuses(r);
-        }
+        sectors::block_verdict(s, b)?;
         return sectors::number_verdict(s, p);
     }
-    Verdict::Refuses(Refusal { number: 22, place })
+    Err(Refusal { number: 22, place })
 }
 
 // Table entry n, whose number is e, which is written and encodes p, but for its block's checksums: 73, then checks 22 to 26.
-fn entry_form(s: &[u8], t: Opened, n: EntryNumber, e: u64, p: Pointer, known: ByteOffset) -> Verdict
-    requires { (opening s.now ≡ accepted (contents t)) × (n.0 < (contents t).count) × (e ≡ table_entry s.now (contents t) n.0) × (p ≡ pointer_at s.now (contents t) n.0) × Formed s.now known.0 }
+fn entry_form(s: &[u8], t: Opened, n: EntryNumber, e: u64, p: Pointer, known: ByteOffset) -> Result<(), Refusal>
+    requires { (opening s.now ≡ Ok (contents t)) × (n.0 < (contents t).count) × (e ≡ table_entry s.now (contents t) n.0) × (p ≡ pointer_at s.now (contents t) n.0) × Formed s.now known.0 }
     ensures { result ≡ entry_form s.now (contents t) n.0 }
 {
     if opening::is_unknown(t, e) {
         let place = ByteOffset(0);
-        return Verdict::Refuses(Refusal { number: 73, place });
+        return Err(Refusal { number: 73, place });
     }
     form_verdict(s, t, opening::entry_place(t, n), p, known)
 }
 
 // The first table entry of the scope that is refused other than with 21, by all checks but that of the checksums.
 fn first_form(s: &[u8], t: Opened, child: &[u8], scope: Scope) -> First
-    requires { (opening s.now ≡ accepted (contents t)) × Lent child.now scope }
+    requires { (opening s.now ≡ Ok (contents t)) × Lent child.now scope }
     ensures { FirstLeft s.now (contents t) (looked_at s.now (contents t) child.now scope) (indexed s.now) result }
 {
     let count = opening::count(t);
@@ -147,10 +144,10 @@ fn first_form(s: &[u8], t: Opened, child: &[u8], scope: Scope) -> First
         if is_looked_at(child, scope, t, here, e) {
             let p = opening::entry_decoded(t, e);
             let v = entry_form(s, t, here, e, p, known);
-            if let Verdict::Refuses(r) = v {
+            if let Err(r) = v {
                 return First {
                     number: here,
-                    verdict: Verdict::Refuses(r),
+                    verdict: Err(r),
                 };
             }
             known = p.block;
@@ -158,7 +155,7 @@ fn first_form(s: &[u8], t: Opened, child: &[u8], scope: Scope) -> First
     }
     First {
         number: EntryNumber(count),
-        verdict: Verdict::Passes,
+        verdict: Ok(()),
     }
 }
 
@@ -167,7 +164,7 @@ fn is_damaged(s: &[u8], b: ByteOffset) -> bool
     ensures { result ≡ damaged s.now b.0 }
 {
     let v = sectors::block_verdict(s, b);
-    if let Verdict::Refuses(_) = v {
+    if let Err(_) = v {
         return false;
     }
     let block = b.0;
@@ -180,7 +177,7 @@ fn is_damaged(s: &[u8], b: ByteOffset) -> bool
 
 // The first table entry of the scope below `first` that points into the damaged block at b, with 27; `first` where there is none.
 fn first_into(s: &[u8], t: Opened, child: &[u8], scope: Scope, b: ByteOffset, first: First) -> First
-    requires { (opening s.now ≡ accepted (contents t)) × Lent child.now scope × (first.number.0 ≤ (contents t).count) × (damaged s.now b.0 ≡ true) }
+    requires { (opening s.now ≡ Ok (contents t)) × Lent child.now scope × (first.number.0 ≤ (contents t).count) × (damaged s.now b.0 ≡ true) }
     ensures { (left : List ℕ) → has b.0 left ≡ false → FirstLeft s.now (contents t) (looked_at s.now (contents t) child.now scope) (b.0 ∷ left) first → FirstLeft s.now (contents t) (looked_at s.now (contents t) child.now scope) left result }
 {
     let limit = first.number;
@@ -196,7 +193,7 @@ fn first_into(s: &[u8], t: Opened, child: &[u8], scope: Scope, b: ByteOffset, fi
             if block.0 == b.0 {
                 return First {
                     number: here,
-                    verdict: Verdict::Refuses(Refusal {
+                    verdict: Err(Refusal {
                         number: 27,
                         place: b,
                     }),
@@ -218,7 +215,7 @@ fn with_block(
     left: u64,
     first: First,
 ) -> First
-    requires { (opening s.now ≡ accepted (contents t)) × Lent child.now scope × (0 < left) × (p.0 + entry_length * left ≤ length s.now) × FirstFrom s.now (contents t) (looked_at s.now (contents t) child.now scope) left p.0 first }
+    requires { (opening s.now ≡ Ok (contents t)) × Lent child.now scope × (0 < left) × (p.0 + entry_length * left ≤ length s.now) × FirstFrom s.now (contents t) (looked_at s.now (contents t) child.now scope) left p.0 first }
     ensures { FirstFrom s.now (contents t) (looked_at s.now (contents t) child.now scope) (left - 1) (p.0 + entry_length) result }
 {
     let e = index::entry(s, p);
@@ -237,7 +234,7 @@ fn with_block(
 
 // All sectors of the scope by rising address, that is, by the numbers of their table entries: the first that is refused other than with 21.
 fn first_within(s: &[u8], t: Opened, child: &[u8], scope: Scope) -> First
-    requires { (opening s.now ≡ accepted (contents t)) × Lent child.now scope }
+    requires { (opening s.now ≡ Ok (contents t)) × Lent child.now scope }
     ensures { FirstWithin s.now (contents t) (in_scope child.now scope (contents t)) result }
 {
     let mut first = first_form(s, t, child, scope);
@@ -255,7 +252,7 @@ fn first_within(s: &[u8], t: Opened, child: &[u8], scope: Scope) -> First
 
 // The first of all sectors that is refused other than with 21.
 pub fn first_refused(s: &[u8], t: Opened) -> First
-    requires { opening s.now ≡ accepted (contents t) }
+    requires { opening s.now ≡ Ok (contents t) }
     ensures { FirstRefused s.now (contents t) result }
 {
     first_within(s, t, s, Scope::All)
@@ -263,15 +260,15 @@ pub fn first_refused(s: &[u8], t: Opened) -> First
 
 // The first of the sectors that a child, which opened as u, leaves to this parent by its table entries below the limit.
 pub fn first_left(s: &[u8], t: Opened, child: &[u8], u: Opened, limit: EntryNumber) -> First
-    requires { (opening s.now ≡ accepted (contents t)) × (opening child.now ≡ accepted (contents u)) }
+    requires { (opening s.now ≡ Ok (contents t)) × (opening child.now ≡ Ok (contents u)) }
     ensures { FirstWithin s.now (contents t) (leaves child.now (contents u) limit.0 (contents t)) result }
 {
     first_within(s, t, child, Scope::Gaps(Child { opened: u, limit }))
 }
 
 // The refusal of the first of all.
-pub fn sectors_verdict(s: &[u8], t: Opened) -> Verdict
-    requires { opening s.now ≡ accepted (contents t) }
+pub fn sectors_verdict(s: &[u8], t: Opened) -> Result<(), Refusal>
+    requires { opening s.now ≡ Ok (contents t) }
     ensures { result ≡ sectors_verdict s.now (entries s.now (index_offset s.now)) (contents t) }
 {
     let first = first_refused(s, t);
@@ -280,7 +277,7 @@ pub fn sectors_verdict(s: &[u8], t: Opened) -> Verdict
 
 // The first table entry that is refused, 21 too: one below `first`, the first that is refused other than with 21, that is not written, or `first`.
 pub fn first_unwritten(s: &[u8], t: Opened, first: First) -> First
-    requires { (opening s.now ≡ accepted (contents t)) × FirstRefused s.now (contents t) first }
+    requires { (opening s.now ≡ Ok (contents t)) × FirstRefused s.now (contents t) first }
     ensures { FirstOfAll s.now (contents t) result }
 {
     let limit = first.number;
@@ -293,7 +290,7 @@ pub fn first_unwritten(s: &[u8], t: Opened, first: First) -> First
             let place = ByteOffset(0);
             return First {
                 number: here,
-                verdict: Verdict::Refuses(Refusal { number: 21, place }),
+                verdict: Err(Refusal { number: 21, place }),
             };
         }
     }
@@ -301,8 +298,8 @@ pub fn first_unwritten(s: &[u8], t: Opened, first: First) -> First
 }
 
 // All sectors by rising address, 21 too: the first refusal.
-pub fn every_verdict(s: &[u8], t: Opened) -> Verdict
-    requires { opening s.now ≡ accepted (contents t) }
+pub fn every_verdict(s: &[u8], t: Opened) -> Result<(), Refusal>
+    requires { opening s.now ≡ Ok (contents t) }
     ensures { result ≡ first_refusal (sector_verdict s.now (entries s.now (index_offset s.now)) (contents t)) (contents t).count 0 }
 {
     let first = first_unwritten(s, t, first_refused(s, t));
@@ -310,32 +307,29 @@ pub fn every_verdict(s: &[u8], t: Opened) -> Verdict
 }
 
 // A commit's checks of the disc that opened as t: 74, 20, then all sectors.
-fn disc_verdict_at(s: &[u8], t: Opened, addresses: &[i64]) -> Verdict
-    requires { opening s.now ≡ accepted (contents t) }
+fn disc_verdict_at(s: &[u8], t: Opened, addresses: &[i64]) -> Result<(), Refusal>
+    requires { opening s.now ≡ Ok (contents t) }
     ensures { result ≡ disc_verdict s.now (index_offset s.now) addresses.now }
 {
-    let v = opening::kind_verdict(t);
-    if let Verdict::Refuses(r) = v {
-        return Verdict::Refuses(r);
-    }
+    opening::kind_verdict(t)?;
     if any_outside(t, addresses) {
         let place = ByteOffset(0);
-        return Verdict::Refuses(Refusal { number: 20, place });
+        return Err(Refusal { number: 20, place });
     }
     sectors_verdict(s, t)
 }
 
 // Over an opened image, which it takes apart.
-pub fn disc_verdict<'a, 'b>(image: Image<'a>, addresses: &'b [i64]) -> Verdict
-    requires { opening image.bytes.now ≡ accepted (held image) }
+pub fn disc_verdict<'a, 'b>(image: Image<'a>, addresses: &'b [i64]) -> Result<(), Refusal>
+    requires { opening image.bytes.now ≡ Ok (held image) }
     ensures { result ≡ disc_verdict image.entry.bytes.now (index_offset image.entry.bytes.now) addresses.now }
 {
     disc_verdict_at(opening::bytes(image), opening::numbers(image), addresses)
 }
 
 // Makes the opened image and hands it on.
-pub fn disc_verdict_of(s: &[u8], t: Opened, addresses: &[i64]) -> Verdict
-    requires { opening s.now ≡ accepted (contents t) }
+pub fn disc_verdict_of(s: &[u8], t: Opened, addresses: &[i64]) -> Result<(), Refusal>
+    requires { opening s.now ≡ Ok (contents t) }
     ensures { result ≡ disc_verdict s.now (index_offset s.now) addresses.now }
 {
     disc_verdict(opening::view(s, t), addresses)

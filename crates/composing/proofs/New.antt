@@ -8,12 +8,13 @@ use Prim.Native.Nat.{ℕ, zero, suc, ◌+◌, ◌≤◌, ◌<◌}
 use native.Mathlib.Nat.{le_refl, add-zero, zero-add, eq-or-lt_of_le}
 use native.Mathlib.Omega.{arith}
 use lib.ListN.{length, take, length-append}
+use Rattle.std.specs.Prelude.{Ok, Err}
 use Rattle.fields.specs.Bytes.{overwrite}
 use Rattle.fields.proofs.Overwrite.{length-overwrite}
 use Rattle.format.specs.declared.Pointer.{Pointer}
 use Rattle.format.specs.Lists.{All, done, more}
 use Rattle.format.specs.Tests.{same, choose}
-use Rattle.format.specs.Refusals.{refusal, refused, accepted}
+use Rattle.format.specs.Refusals.{refusal}
 use Rattle.format.specs.Layouts.{application_length, index_offset, entries}
 use Rattle.format.specs.Opening.{Opened, opened}
 use Rattle.format.specs.Writing.{most_sectors, placed, set_header}
@@ -207,7 +208,7 @@ module _ (buffer : List ℕ) (count : ℕ) (numbers : List ℕ) (size : ℕ) (se
 
   -- there is no room
   pub composed-full : length buffer < at.end
-      → answered (refused (refusal 35 0)) buffer ≡ composed buffer count numbers size sectors application major minor mediaType creationTime lastWrittenTime
+      → answered (Err (refusal 35 0)) buffer ≡ composed buffer count numbers size sectors application major minor mediaType creationTime lastWrittenTime
   composed-full h =
       outcome-stops buffer _ _ (stop-last (below_true _ _ (omega (arith, used-is))))
       ∙ sym (composed-is buffer count numbers size sectors application major minor mediaType creationTime lastWrittenTime k)
@@ -230,7 +231,7 @@ module _ (buffer : List ℕ) (count : ℕ) (numbers : List ℕ) (size : ℕ) (se
         }
 
     pub composed-done : {b₂ : List ℕ} → b₂ ≡ composed_in b₁ f size count lastWrittenTime
-        → answered (accepted (placed at.end at.index.0)) b₂ ≡ composed buffer count numbers size sectors application major minor mediaType creationTime lastWrittenTime
+        → answered (Ok (placed at.end at.index.0)) b₂ ≡ composed buffer count numbers size sectors application major minor mediaType creationTime lastWrittenTime
     composed-done e₂ =
         outcome-done buffer (on-last _ (below-iff.1 (omega (arith, used-is)))) (sym (λ j. placed (used-is j) (index_is j)))
         (e₂ ∙ (λ j. set_header (overwrite (e₁ j) (created_used count) (appended_bytes (sym added j))) (index_start (created_used count) (sym added j)) lastWrittenTime))

@@ -5,9 +5,9 @@ use mathlib.Core.Path.{◌≡◌, refl, sym, ap, ◌∙◌}
 use Prim.Native.Nat.{ℕ, ◌<◌}
 use native.Mathlib.Omega.{arith}
 use lib.ListN.{length, replicate, length-replicate}
+use Rattle.format.specs.Refusals.{Verdict}
 use Rattle.fields.specs.Bytes.{overwrite}
 use Rattle.format.specs.declared.Placed.{Placed}
-use Rattle.format.specs.declared.Verdict.{Verdict}
 use Rattle.format.specs.Layouts.{index_offset}
 use Rattle.format.specs.Opening.{opened}
 use Rattle.format.specs.Writing.{Outcome, outcome, placed}

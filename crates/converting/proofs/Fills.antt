@@ -4,11 +4,10 @@ use mathlib.Core.Path.{◌≡◌, refl, sym, ap, ◌∙◌}
 use Prim.Native.Nat.{ℕ, ◌≤◌, ◌<◌}
 use native.Mathlib.Omega.{arith}
 use lib.ListN.{length, take, length-replicate}
+use Rattle.std.specs.Prelude.{Ok, Err}
 use Rattle.fields.specs.Bytes.{overwrite}
 use Rattle.format.specs.declared.Refusal.{Refusal}
-use Rattle.format.specs.declared.Verdict.{Verdict}
-use Rattle.format.specs.declared.Verdict.TheVariants.{Passes, Refuses}
-use Rattle.format.specs.Refusals.{Answer, refused, accepted}
+use Rattle.format.specs.Refusals.{Answer, Verdict}
 use Rattle.format.specs.Writing.{Outcome, outcome}
 use Rattle.format.specs.Answers.{answered}
 use Rattle.format.proofs.Buffers.{outcome-accepted, outcome-refused}
@@ -25,9 +24,9 @@ pub record Fills {A : Type 0} (size : A → ℕ) (call : List ℕ → Outcome A)
   pub value : A
   pub image : List ℕ
   pub is : (buffer : List ℕ) → call buffer ≡ outcome buffer (verdict (length buffer)) value (overwrite buffer 0 image)
-  pub sized : (n : ℕ) → verdict n ≡ Passes → size value ≡ length image
-  pub room : (n : ℕ) → verdict n ≡ Passes → length image ≤ n
-  pub few : (n : ℕ) (r : Refusal) → verdict n ≡ Refuses r → r.number < 100
+  pub sized : (n : ℕ) → verdict n ≡ Ok tt → size value ≡ length image
+  pub room : (n : ℕ) → verdict n ≡ Ok tt → length image ≤ n
+  pub few : (n : ℕ) (r : Refusal) → verdict n ≡ Err r → r.number < 100
 
 -- a longer input
 pub long-text : {A : Type 0} (size : A → ℕ) (o : Outcome A) (input : List ℕ) → longest_input < length input → text size input o ≡ TOO-LONG ++ NEWLINE
@@ -44,13 +43,13 @@ module _ {A : Type 0} {size : A → ℕ} {call : List ℕ → Outcome A} (f : Fi
       unless-short input _ h
       ∙ ap (λ (o : Outcome A). shown size o.result o.buffer) (f.is blank ∙ ap (λ n. outcome blank (f.verdict n) f.value (overwrite blank 0 f.image)) (length-replicate {A = ℕ} 65536 0))
 
-  passes-text : f.verdict 65536 ≡ Passes → text size input (call blank) ≡ f.image
+  passes-text : f.verdict 65536 ≡ Ok tt → text size input (call blank) ≡ f.image
   unfolding outcome shown
   passes-text v =
       text-is ∙ (rw v refl) ∙ ap (λ n. take n (overwrite blank 0 f.image)) (f.sized 65536 v)
       ∙ front f.image blank (omega (arith, f.room 65536 v, length-replicate {A = ℕ} 65536 0))
 
-  refuses-text : (r : Refusal) → f.verdict 65536 ≡ Refuses r → text size input (call blank) ≡ refused_line r.number
+  refuses-text : (r : Refusal) → f.verdict 65536 ≡ Err r → text size input (call blank) ≡ refused_line r.number
   unfolding outcome shown
   refuses-text r v = text-is ∙ (rw v refl)
 
@@ -58,7 +57,7 @@ module _ {A : Type 0} {size : A → ℕ} {call : List ℕ → Outcome A} (f : Fi
     by-verdict : call buffer ≡ outcome buffer (f.verdict 65536) f.value (overwrite buffer 0 f.image)
     by-verdict = f.is buffer ∙ ap (λ n. outcome buffer (f.verdict n) f.value (overwrite buffer 0 f.image)) long
 
-    pub prints-image : {u : Answer A} (a : A) {after : List ℕ} → u ≡ accepted a → answered u after ≡ call buffer → Prints buffer (text size input (call blank)) after (size a)
+    pub prints-image : {u : Answer A} (a : A) {after : List ℕ} → u ≡ Ok a → answered u after ≡ call buffer → Prints buffer (text size input (call blank)) after (size a)
     unfolding answered
     prints-image a {after} q e =
         let w = (rw q at e) ∙ by-verdict in
@@ -70,7 +69,7 @@ module _ {A : Type 0} {size : A → ℕ} {call : List ℕ → Outcome A} (f : Fi
           room = rw long (f.room 65536 k.passes);
         })
 
-    pub prints-refusal : {u : Answer A} (r : Refusal) {middle after : List ℕ} {n : ℕ} → u ≡ refused r → answered u middle ≡ call buffer
+    pub prints-refusal : {u : Answer A} (r : Refusal) {middle after : List ℕ} {n : ℕ} → u ≡ Err r → answered u middle ≡ call buffer
         → Writes middle 0 (refused_line r.number) after n → Prints buffer (text size input (call blank)) after n
     unfolding answered
     prints-refusal r {middle} {after} {n} q e w =

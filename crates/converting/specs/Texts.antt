@@ -1,9 +1,9 @@
 -- What the programs `export` and `import` print. 4/13: "A program for each, from standard input to standard output through buffers of 65,536 bytes, prints
 -- `too long` for a longer input and, for every refusal, 35 and 41 too, `refused` as the listing does; the importing one takes size 2,048 and zeros for
 -- creating's other arguments." 9/13: "The former rule stays under its own name; 4/13's program and round trip ask for it."
-use Rattle.std.specs.Prelude.{List, ℕ, take, replicate}
+use Rattle.std.specs.Prelude.{List, ℕ, take, replicate, Ok, Err}
 use Rattle.format.specs.declared.Placed.{Placed}
-use Rattle.format.specs.Refusals.{Answer, refused, accepted}
+use Rattle.format.specs.Refusals.{Answer}
 use Rattle.format.specs.Writing.{Outcome}
 use Rattle.format.specs.Exporting.{export_exact}
 use Rattle.format.specs.Importing.{import}
@@ -11,8 +11,8 @@ use Rattle.text.specs.Text.{refused_line, unless_long}
 
 -- so many bytes of a buffer as an accepted call answers, by this of its values; or the line of its refusal
 unfoldable pub shown : {A : Type 0} → (A → ℕ) → Answer A → List ℕ → List ℕ
-shown size (accepted a) buffer = take (size a) buffer
-shown size (refused r) buffer = refused_line r.number
+shown size (Ok a) buffer = take (size a) buffer
+shown size (Err r) buffer = refused_line r.number
 
 unfoldable pub text : {A : Type 0} → (A → ℕ) → List ℕ → Outcome A → List ℕ
 text size input o = unless_long input (shown size o.result o.buffer)

@@ -15,8 +15,8 @@ pub fn export(input: &[u8], out: &mut [u8; 65536]) -> usize
     }
     let answer = flat::export_exact(input, out);
     match answer {
-        ExportedExact::Length(n) => n as usize,
-        ExportedExact::Refused(r) => text::refused(out, 0, r.number as u64),
+        Ok(n) => n as usize,
+        Err(r) => text::refused(out, 0, r.number as u64),
     }
 }
 
@@ -30,7 +30,7 @@ pub fn import(input: &[u8], out: &mut [u8; 65536]) -> usize
     let application = [0u8; 64];
     let answer = flat::import(out, input, 2048, &application, 0, 0, 0, 0, 0);
     match answer {
-        Updated::To(p) => p.used as usize,
-        Updated::Refused(r) => text::refused(out, 0, r.number as u64),
+        Ok(p) => p.used as usize,
+        Err(r) => text::refused(out, 0, r.number as u64),
     }
 }

@@ -8,11 +8,11 @@ use native.Mathlib.Nat.{sub-zero, zero-mul, mul-zero, suc-mul, mul-le-mul_right,
 use native.Mathlib.Numerals.{add-one}
 use native.Mathlib.Omega.{arith}
 use lib.ListN.{length, replicate}
+use Rattle.std.specs.Prelude.{Ok, Err}
 use Rattle.fields.specs.Bytes.{part, overwrite}
 use Rattle.fields.proofs.Steps.{sub-step, sub-done}
 use Rattle.fields.proofs.Overwrite.{length-overwrite, overwrite-then, overwrite-nil}
 use Rattle.format.specs.declared.Place.{Place}
-use Rattle.format.specs.declared.Verdict.TheVariants.{Passes, Refuses}
 use Rattle.format.specs.Tests.{same, differs, below, ◌and◌, choose}
 use Rattle.format.specs.Lists.{of_each, how_many}
 use Rattle.format.specs.Refusals.{refusal, row}
@@ -57,7 +57,7 @@ module _ (img : List ℕ) (t : Opened) where
 
 -- ---- 40: all written ones have it
 module _ (img : List ℕ) (t : Opened) (n : ℕ) where
-  pub size-gap : slot.Empty ≡ slot_at img t n → size_verdict img t n ≡ Passes
+  pub size-gap : slot.Empty ≡ slot_at img t n → size_verdict img t n ≡ Ok tt
   size-gap e = (size_ok img t n).1 (inl (slot-gap img t n e))
 
   module _ {p : Place} (e : slot.Sector p ≡ slot_at img t n) {size : ℕ} (s : size ≡ flat_size img t) where
@@ -65,22 +65,22 @@ module _ (img : List ℕ) (t : Opened) (n : ℕ) where
     unfolding size_at
     here = ap (λ (q : Place). q.size) (slot-place img t n p e)
 
-    pub size_same : p.size ≡ size → size_verdict img t n ≡ Passes
+    pub size_same : p.size ≡ size → size_verdict img t n ≡ Ok tt
     size_same q = (size_ok img t n).1 (inr (here ∙ q ∙ s))
 
-    pub size-other : p.size ≢ size → size_verdict img t n ≡ Refuses (refusal 40 0)
+    pub size-other : p.size ≢ size → size_verdict img t n ≡ Err (refusal 40 0)
     unfolding size_verdict
     size-other q = row-refuses _ _ (and-true _ _ (ap not (slot-written img t n p e)) (differs_true _ _ (λ z. q (sym here ∙ z ∙ sym s))))
 
 -- ---- 41: room for n sectors
 module _ (l n size : ℕ) where
-  pub room-none : size ≡ 0 → Passes ≡ row (below l (n * size)) (refusal 41 0)
+  pub room-none : size ≡ 0 → Ok tt ≡ row (below l (n * size)) (refusal 41 0)
   room-none e = sym (row-passes _ (refusal 41 0) (below-iff.1 (rw (e, mul-zero) (omega arith))))
 
-  pub room-short : 0 < size → l / size < n → Refuses (refusal 41 0) ≡ row (below l (n * size)) (refusal 41 0)
+  pub room-short : 0 < size → l / size < n → Err (refusal 41 0) ≡ row (below l (n * size)) (refusal 41 0)
   room-short p h = sym (row-refuses _ _ (below_true _ _ ((div-lt_iff_lt-mul p).0 h)))
 
-  pub room-enough : 0 < size → n ≤ l / size → Passes ≡ row (below l (n * size)) (refusal 41 0)
+  pub room-enough : 0 < size → n ≤ l / size → Ok tt ≡ row (below l (n * size)) (refusal 41 0)
   room-enough p h = sym (row-passes _ (refusal 41 0) (below-iff.1 ((le-div_iff_mul-le p).0 h)))
 
 -- ---- how many a test says yes to: so many of the numbers below a

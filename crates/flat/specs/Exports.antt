@@ -1,6 +1,5 @@
 -- What the functions of this crate ask for.
-use Rattle.std.specs.Prelude.{List, ◌≡◌, ℕ}
-use Rattle.format.specs.declared.Verdict.TheVariants.{Passes}
+use Rattle.std.specs.Prelude.{List, ◌≡◌, ℕ, Ok}
 use Rattle.format.specs.Refusals.{first_refusal}
 use Rattle.format.specs.Opening.{Opened}
 use Rattle.format.specs.Exporting.{flat_size, size_verdict}
@@ -10,4 +9,4 @@ use Rattle.search.specs.Found.{Checked}
 pub record Uniform (img : List ℕ) (t : Opened) (size : ℕ) : Type 0 where
   pub checked : Checked img t
   pub size_is : size ≡ flat_size img t
-  pub sizes : first_refusal (size_verdict img t) t.count 0 ≡ Passes
+  pub sizes : first_refusal (size_verdict img t) t.count 0 ≡ Ok tt

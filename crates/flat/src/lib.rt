@@ -8,11 +8,11 @@
 ghost use Rattle.std.specs.Prelude.{◌≡◌, ◌+◌, ◌*◌, ◌≤◌, ◌<◌, length};
 ghost use Rattle.fields.specs.Bytes.{overwrite};
 ghost use Rattle.format.specs.Tests.{same, differs, below, ◌and◌};
-ghost use Rattle.format.specs.Refusals.{refusal, row, accepted, first_refusal};
+ghost use Rattle.format.specs.Refusals.{refusal, row, first_refusal};
 ghost use Rattle.format.specs.Opening.{opening};
 ghost use Rattle.format.specs.Writing.{outcome};
 ghost use Rattle.format.specs.Exporting.{flat_size, piece_at, flat_file, gap_count, size_verdict, file_verdict, export_exact, export};
-ghost use Rattle.format.specs.Answers.{exported, exported_exact, answered};
+ghost use Rattle.format.specs.Answers.{answered};
 ghost use Rattle.opening.specs.Answers.{contents};
 ghost use Rattle.search.specs.Found.{Checked};
 ghost use Rattle.flat.specs.Exports.{Uniform};
@@ -23,7 +23,7 @@ pub use format::{Exported, ExportedExact, Flat, Refusal, Updated};
 // an import, with its contract
 pub use importing::import;
 use opening::{Opened, Opening};
-use search::Slot;
+use search::Option<Place>;
 
 // The size of the lowest written sector; 0 where none is written.
 fn flat_size(s: &[u8], t: Opened) -> u64
@@ -36,7 +36,7 @@ fn flat_size(s: &[u8], t: Opened) -> u64
     while n < count {
         let slot = search::slot_at(s, t, EntryNumber(n));
         n += 1;
-        if let Slot::Sector(p) = slot {
+        if let Some(p) = slot {
             return p.size;
         }
     }
@@ -44,7 +44,7 @@ fn flat_size(s: &[u8], t: Opened) -> u64
 }
 
 // 40 if a written sector has another size.
-fn sizes_verdict(s: &[u8], t: Opened, size: u64) -> Verdict
+fn sizes_verdict(s: &[u8], t: Opened, size: u64) -> Result<(), Refusal>
     requires { Checked s.now (contents t) × (size ≡ flat_size s.now (contents t)) }
     ensures { result ≡ first_refusal (size_verdict s.now (contents t)) (contents t).count 0 }
 {
@@ -54,29 +54,29 @@ fn sizes_verdict(s: &[u8], t: Opened, size: u64) -> Verdict
     while n < count {
         let slot = search::slot_at(s, t, EntryNumber(n));
         n += 1;
-        if let Slot::Sector(p) = slot {
+        if let Some(p) = slot {
             if p.size != size {
                 let place = ByteOffset(0);
-                return Verdict::Refuses(Refusal { number: 40, place });
+                return Err(Refusal { number: 40, place });
             }
         }
     }
-    Verdict::Passes
+    Ok(())
 }
 
 // 41 if the buffer has no room for so many sectors of this size. It divides, since their product could be too large for a number.
-fn room_verdict(out: &[u8], count: u64, size: u64) -> Verdict
+fn room_verdict(out: &[u8], count: u64, size: u64) -> Result<(), Refusal>
     ensures { result ≡ row (below (length out.now) (count * size)) (refusal 41 0) }
 {
     if size == 0 {
-        return Verdict::Passes;
+        return Ok(());
     }
     let length = out.len() as u64;
     if length / size < count {
         let place = ByteOffset(0);
-        return Verdict::Refuses(Refusal { number: 41, place });
+        return Err(Refusal { number: 41, place });
     }
-    Verdict::Passes
+    Ok(())
 }
 
 // Writes what stands in the file for table entry n: its sector, or zeros.
@@ -86,8 +86,8 @@ fn put_piece(s: &[u8], t: Opened, n: EntryNumber, out: &mut [u8], at: u64, size:
 {
     let slot = search::slot_at(s, t, n);
     match slot {
-        Slot::Empty => clear(out, at, size),
-        Slot::Sector(p) => {
+        None => clear(out, at, size),
+        Some(p) => {
             let start = p.start;
             copy(out, at, part(s, start.0, p.size));
         }
@@ -112,38 +112,29 @@ fn put_file(s: &[u8], t: Opened, out: &mut [u8], size: u64) -> u64
 }
 
 // What both rules do once the sectors are checked: 40, 41, and the file.
-fn export_file(s: &[u8], t: Opened, out: &mut [u8]) -> ExportedExact
+fn export_file(s: &[u8], t: Opened, out: &mut [u8]) -> Result<u64, Refusal>
     requires { Checked s.now (contents t) }
-    ensures { answered (exported_exact result) out.new ≡ outcome out.old (file_verdict s.now (contents t) out.old) (length (flat_file s.now (contents t))) (overwrite out.old 0 (flat_file s.now (contents t))) }
+    ensures { answered result out.new ≡ outcome out.old (file_verdict s.now (contents t) out.old) (length (flat_file s.now (contents t))) (overwrite out.old 0 (flat_file s.now (contents t))) }
 {
     let size = flat_size(s, t);
-    let v = sizes_verdict(s, t, size);
-    if let Verdict::Refuses(r) = v {
-        return ExportedExact::Refused(r);
-    }
+    sizes_verdict(s, t, size)?;
     let count = opening::count(t);
-    let w = room_verdict(out, count, size);
-    if let Verdict::Refuses(r) = w {
-        return ExportedExact::Refused(r);
-    }
-    ExportedExact::Length(put_file(s, t, out, size))
+    room_verdict(out, count, size)?;
+    Ok(put_file(s, t, out, size))
 }
 
 // The exact export of a disc that opened as t.
-fn export_exact_at(s: &[u8], t: Opened, out: &mut [u8]) -> ExportedExact
-    requires { opening s.now ≡ accepted (contents t) }
-    ensures { answered (exported_exact result) out.new ≡ export_exact s.now out.old }
+fn export_exact_at(s: &[u8], t: Opened, out: &mut [u8]) -> Result<u64, Refusal>
+    requires { opening s.now ≡ Ok (contents t) }
+    ensures { answered result out.new ≡ export_exact s.now out.old }
 {
-    let v = checking::every_verdict(s, t);
-    if let Verdict::Refuses(r) = v {
-        return ExportedExact::Refused(r);
-    }
+    checking::every_verdict(s, t)?;
     export_file(s, t, out)
 }
 
 // How many sectors are not written.
 fn count_gaps(s: &[u8], t: Opened) -> u64
-    requires { opening s.now ≡ accepted (contents t) }
+    requires { opening s.now ≡ Ok (contents t) }
     ensures { result ≡ gap_count s.now (contents t) }
 {
     let count = opening::count(t);
@@ -171,46 +162,37 @@ fn is_blank(count: u64, gaps: u64) -> bool
 }
 
 // The export of a disc that opened as t.
-fn export_at(s: &[u8], t: Opened, out: &mut [u8]) -> Exported
-    requires { opening s.now ≡ accepted (contents t) }
-    ensures { answered (exported result) out.new ≡ export s.now out.old }
+fn export_at(s: &[u8], t: Opened, out: &mut [u8]) -> Result<Flat, Refusal>
+    requires { opening s.now ≡ Ok (contents t) }
+    ensures { answered result out.new ≡ export s.now out.old }
 {
-    let v = checking::sectors_verdict(s, t);
-    if let Verdict::Refuses(r) = v {
-        return Exported::Refused(r);
-    }
+    checking::sectors_verdict(s, t)?;
     let filled = count_gaps(s, t);
     if is_blank(opening::count(t), filled) {
         let place = ByteOffset(0);
-        return Exported::Refused(Refusal { number: 21, place });
+        return Err(Refusal { number: 21, place });
     }
     let answer = export_file(s, t, out);
     match answer {
-        ExportedExact::Refused(r) => Exported::Refused(r),
-        ExportedExact::Length(length) => Exported::To(Flat { length, filled }),
+        Err(r) => Err(r),
+        Ok(length) => Ok(Flat { length, filled }),
     }
 }
 
 // Fills the front of `out` with all sectors of the disc by rising address, and answers how many bytes that is; or says why it can't: opening's numbers, the
 // first refusal of a sector by rising address, 21 too, 40 where sizes differ, 41 where the buffer is too short. Later bytes stay as they are.
-pub fn export_exact(image: &[u8], out: &mut [u8]) -> ExportedExact
-    ensures { answered (exported_exact result) out.new ≡ export_exact image.now out.old }
+pub fn export_exact(image: &[u8], out: &mut [u8]) -> Result<u64, Refusal>
+    ensures { answered result out.new ≡ export_exact image.now out.old }
 {
-    let opened = opening::open(image);
-    match opened {
-        Opening::Refused(r) => ExportedExact::Refused(r),
-        Opening::Opens(t) => export_exact_at(image, t, out),
-    }
+    let t = opening::open(image)?;
+    export_exact_at(image, t, out)
 }
 
 // The same with zeros in place of each sector that is not written, as many as the lowest written one has bytes; it answers too how many sectors these are. 21
 // is given only where a disc has sectors and none is written, after the sectors' other numbers and before 40.
-pub fn export(image: &[u8], out: &mut [u8]) -> Exported
-    ensures { answered (exported result) out.new ≡ export image.now out.old }
+pub fn export(image: &[u8], out: &mut [u8]) -> Result<Flat, Refusal>
+    ensures { answered result out.new ≡ export image.now out.old }
 {
-    let opened = opening::open(image);
-    match opened {
-        Opening::Refused(r) => Exported::Refused(r),
-        Opening::Opens(t) => export_at(image, t, out),
-    }
+    let t = opening::open(image)?;
+    export_at(image, t, out)
 }

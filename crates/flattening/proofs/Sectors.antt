@@ -9,10 +9,11 @@ use native.Mathlib.Nat.{add-zero, zero-add, eq-or-lt_of_le}
 use native.Mathlib.Omega.{arith}
 use lib.ListN.{length}
 use borrow.Author.Tests.{not-true}
+use Rattle.std.specs.Prelude.{Ok, Err}
 use Rattle.fields.specs.Bytes.{equal}
 use Rattle.fields.proofs.Equal.{equal-iff, equal-true}
 use Rattle.format.specs.Lists.{All}
-use Rattle.format.specs.Refusals.{Answer, refused, accepted}
+use Rattle.format.specs.Refusals.{Answer}
 use Rattle.format.specs.Answers.{bytes_read}
 use Rattle.format.specs.Flattening.{Written, with_sector, written_from}
 use Rattle.format.proofs.Tests.{never, not_iff, or-on, or-iff}
@@ -54,8 +55,8 @@ module _ (block : ℕ) (f : ℕ → List ℕ) (n : ℕ) {stored : ℕ} (c : stor
 -- ---- what a commit is handed: one address more at the end
 with_append : (n : ℕ) (x : Answer (List ℕ)) (ws vs : List Written) → with_sector n x (ws ++ vs) ≡ with_sector n x ws ++ vs
 unfolding with_sector
-with_append n (accepted d) ws vs = refl
-with_append n (refused r) ws vs = refl
+with_append n (Ok d) ws vs = refl
+with_append n (Err r) ws vs = refl
 
 module _ (disc : ℕ → Answer (List ℕ)) where
   written-more : (k n : ℕ) → written_from disc (suc k) n ≡ written_from disc k n ++ with_sector (n + k) (disc (n + k)) []
@@ -66,19 +67,19 @@ module _ (disc : ℕ → Answer (List ℕ)) where
       ap (with_sector n (disc n)) (written-more k (suc n) ∙ ap (λ m. written_from disc k (suc n) ++ with_sector m (disc m) []) e) ∙ with_append n (disc n) _ _
 
   -- where no sector is empty
-  module _ (some : (n : ℕ) (d : List ℕ) → disc n ≡ accepted d → d ≢ []) where
+  module _ (some : (n : ℕ) (d : List ℕ) → disc n ≡ Ok d → d ≢ []) where
     abbrev f : ℕ → List ℕ
     f n = bytes_read (disc n)
 
     one_number : (n : ℕ) (x : Answer (List ℕ)) → disc n ≡ x → number_list (with_sector n x []) ≡ where_any (bytes_read x) n
     unfolding with_sector bytes_read where_any
-    one_number n (accepted d) e = sym (where-some d n (not-empty d (some n d e)))
-    one_number n (refused r) e = refl
+    one_number n (Ok d) e = sym (where-some d n (not-empty d (some n d e)))
+    one_number n (Err r) e = refl
 
     one-sector : (n : ℕ) (x : Answer (List ℕ)) → disc n ≡ x → sector_list (with_sector n x []) ≡ where_any (bytes_read x) (bytes_read x)
     unfolding with_sector bytes_read where_any
-    one-sector n (accepted d) e = sym (where-some d d (not-empty d (some n d e)))
-    one-sector n (refused r) e = refl
+    one-sector n (Ok d) e = sym (where-some d d (not-empty d (some n d e)))
+    one-sector n (Err r) e = refl
 
     pub numbers-are : (k : ℕ) → number_list (written_from disc k 0) ≡ numbers_of f k
     unfolding numbers_of written_from
@@ -95,17 +96,17 @@ module _ (disc : ℕ → Answer (List ℕ)) where
         ∙ (λ j. sectors-are k j ++ (ap (λ m. sector_list (with_sector m (disc m) [])) (zero-add k) ∙ one-sector k (disc k) refl) j)
 
   -- ---- each has the size of all
-  sized-with : (size m : ℕ) (x : Answer (List ℕ)) (ws : List Written) (n : ℕ) (d : List ℕ) → All (Sized size) (sector_list (with_sector m x ws)) → x ≡ accepted d → length d ≡ size
+  sized-with : (size m : ℕ) (x : Answer (List ℕ)) (ws : List Written) (n : ℕ) (d : List ℕ) → All (Sized size) (sector_list (with_sector m x ws)) → x ≡ Ok d → length d ≡ size
   unfolding with_sector
-  sized-with size m (accepted c) ws n d h e = let q : c ≡ d = cc in rw (← q) (all_head h)
-  sized-with size m (refused r) ws n d h e = let z : ◌≡◌ {A = ℕ} 0 1 = cc in absurd (omega arith)
+  sized-with size m (Ok c) ws n d h e = let q : c ≡ d = cc in rw (← q) (all_head h)
+  sized-with size m (Err r) ws n d h e = let z : ◌≡◌ {A = ℕ} 0 1 = cc in absurd (omega arith)
 
   rest-with : (size m : ℕ) (x : Answer (List ℕ)) (ws : List Written) → All (Sized size) (sector_list (with_sector m x ws)) → All (Sized size) (sector_list ws)
   unfolding with_sector
-  rest-with size m (accepted c) ws h = all_tail h
-  rest-with size m (refused r) ws h = h
+  rest-with size m (Ok c) ws h = all_tail h
+  rest-with size m (Err r) ws h = h
 
-  pub sized-at : (size k i n : ℕ) (d : List ℕ) → All (Sized size) (sector_list (written_from disc k i)) → i ≤ n → n < i + k → disc n ≡ accepted d → length d ≡ size
+  pub sized-at : (size k i n : ℕ) (d : List ℕ) → All (Sized size) (sector_list (written_from disc k i)) → i ≤ n → n < i + k → disc n ≡ Ok d → length d ≡ size
   unfolding written_from
   sized-at size zero i n d h l m e = absurd (omega arith)
   sized-at size (suc k) i n d h l m e =
@@ -117,12 +118,12 @@ module _ (disc : ℕ → Answer (List ℕ)) where
     pub from : i ≤ at
     pub inside : at < i + k
     pub sector : List ℕ
-    pub has : disc at ≡ accepted sector
+    pub has : disc at ≡ Ok sector
 
   somewhere-with : (k i : ℕ) (x : Answer (List ℕ)) → disc i ≡ x → (written_from disc k (suc i) ≢ [] → Somewhere k (suc i)) → with_sector i x (written_from disc k (suc i)) ≢ [] → Somewhere (suc k) i
   unfolding with_sector
-  somewhere-with k i (accepted d) e rest h = record { at = i; from = omega arith; inside = omega arith; sector = d; has = e }
-  somewhere-with k i (refused r) e rest h =
+  somewhere-with k i (Ok d) e rest h = record { at = i; from = omega arith; inside = omega arith; sector = d; has = e }
+  somewhere-with k i (Err r) e rest h =
       let s = rest h in record { at = s.at; from = omega (arith, s.from); inside = omega (arith, s.inside); sector = s.sector; has = s.has }
 
   pub somewhere : (k i : ℕ) → written_from disc k i ≢ [] → Somewhere k i

@@ -4,10 +4,10 @@ use mathlib.Core.Path.{◌≡◌, refl, sym, ap, ◌∙◌}
 use Prim.Native.Nat.{ℕ}
 use native.Mathlib.Omega.{arith}
 use lib.ListN.{length}
+use Rattle.std.specs.Prelude.{Ok, Err}
 use Rattle.format.specs.declared.Refusal.{Refusal}
 use Rattle.format.specs.declared.TableKind.TheVariants.{First}
-use Rattle.format.specs.declared.Verdict.TheVariants.{Passes, Refuses}
-use Rattle.format.specs.Refusals.{refusal, row, ◌then◌, refused, accepted}
+use Rattle.format.specs.Refusals.{refusal, row, ◌then◌}
 use Rattle.format.specs.Layouts.{index_offset}
 use Rattle.format.specs.Opening.{Opened, opening}
 use Rattle.format.specs.Writing.{is_second, writable_verdict}
@@ -21,29 +21,29 @@ use Rattle.format.proofs.Flattening.{flatten-is}
 
 module _ (buffer child parent application : List ℕ) where
   -- a refusal of the checks is the call's
-  pub flatten-stops : (major minor mediaType creationTime lastWrittenTime : ℕ) {r : Refusal} → Refuses r ≡ flatten_verdict buffer child parent application
-      → answered (refused r) buffer ≡ flatten buffer child parent application major minor mediaType creationTime lastWrittenTime
+  pub flatten-stops : (major minor mediaType creationTime lastWrittenTime : ℕ) {r : Refusal} → Err r ≡ flatten_verdict buffer child parent application
+      → answered (Err r) buffer ≡ flatten buffer child parent application major minor mediaType creationTime lastWrittenTime
   flatten-stops major minor mediaType creationTime lastWrittenTime e =
       outcome-stops buffer _ _ (stops _ e) ∙ sym (flatten-is buffer child parent application major minor mediaType creationTime lastWrittenTime)
 
   -- 31 and 33
-  pub lent-stops : {r : Refusal} → Refuses r ≡ lent_verdict buffer application → Refuses r ≡ flatten_verdict buffer child parent application
+  pub lent-stops : {r : Refusal} → Err r ≡ lent_verdict buffer application → Err r ≡ flatten_verdict buffer child parent application
   unfolding flatten_verdict
   lent-stops e = stops _ e
 
-  module _ (l : lent_verdict buffer application ≡ Passes) where
+  module _ (l : lent_verdict buffer application ≡ Ok tt) where
     -- the child's opening numbers
-    pub child-stops : {r : Refusal} → refused r ≡ opening child → Refuses r ≡ flatten_verdict buffer child parent application
+    pub child-stops : {r : Refusal} → Err r ≡ opening child → Err r ≡ flatten_verdict buffer child parent application
     unfolding flatten_verdict writable_verdict opening
     child-stops {r} e = goes (sym l) (stops _ (stops _ (sym (answer-refused _ _ r (sym e)))))
 
-    module _ (t : Opened) (o : opening child ≡ accepted t) where
+    module _ (t : Opened) (o : opening child ≡ Ok t) where
       writable-is : writable_verdict child (index_offset child) ≡ row (is_second t.kind) (refusal 74 0)
       unfolding writable_verdict opening
       writable-is = let q = answer-accepted _ _ t o in then-rest _ _ q.0 ∙ ap (λ (u : Opened). row (is_second u.kind) (refusal 74 0)) q.1
 
       -- 74
-      pub kind-stops : {r : Refusal} → Refuses r ≡ row (is_second t.kind) (refusal 74 0) → Refuses r ≡ flatten_verdict buffer child parent application
+      pub kind-stops : {r : Refusal} → Err r ≡ row (is_second t.kind) (refusal 74 0) → Err r ≡ flatten_verdict buffer child parent application
       unfolding flatten_verdict
       kind-stops e = goes (sym l) (stops _ (e ∙ sym writable-is))
 

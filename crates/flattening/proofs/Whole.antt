@@ -5,10 +5,10 @@ use mathlib.Core.Path.{◌≡◌, refl, sym, ap, ◌∙◌, subst}
 use Prim.Native.Nat.{ℕ, ◌≤◌, ◌<◌}
 use native.Mathlib.Omega.{arith}
 use lib.ListN.{length, length-map}
+use Rattle.std.specs.Prelude.{Ok, Err}
 use Rattle.fields.specs.Bytes.{overwrite}
-use Rattle.format.specs.declared.Verdict.TheVariants.{Passes}
 use Rattle.format.specs.Lists.{All}
-use Rattle.format.specs.Refusals.{refusal, Answer, refused, accepted}
+use Rattle.format.specs.Refusals.{refusal, Answer}
 use Rattle.format.specs.Opening.{Opened, opening}
 use Rattle.format.specs.Writing.{most_sectors, largest_size, most_addresses, placed}
 use Rattle.format.specs.Creating.{created_used, created_bytes}
@@ -30,7 +30,7 @@ use Rattle.composing.proofs.New.{Hands, composed-full, composed-fits, composed-d
 use Rattle.flattening.proofs.Sectors.{numbers-are, sectors-are, sized-at, somewhere}
 
 -- the child's count is that of its table
-pub count-is : (child : List ℕ) (t : Opened) → opening child ≡ accepted t → t.count ≡ count_of child
+pub count-is : (child : List ℕ) (t : Opened) → opening child ≡ Ok t → t.count ≡ count_of child
 count-is child t e = ap (λ (u : Opened). u.count) (sym (opened-is child t e))
 
 -- a list that has members
@@ -45,13 +45,13 @@ split (w ∷ ws) h = record { head = w; rest = ws; is = refl }
 
 pub record Ready (buffer child parent application : List ℕ) (count size : ℕ) : Type 0 where
   pub many : count ≡ count_of child
-  pub checked : flatten_verdict buffer child parent application ≡ Passes
+  pub checked : flatten_verdict buffer child parent application ≡ Ok tt
   pub size_is : size ≡ size_of (written_of child parent)
   pub any : written_of child parent ≢ []
 
 -- by what the functions that write ask for
 pub ready-by : {buffer child parent application : List ℕ} {t : Opened} {p : Answer Opened} {size : ℕ} → Pair child parent t p
-    → flatten_verdict buffer child parent application ≡ Passes → size ≡ size_of (written_of child parent) → written_of child parent ≢ []
+    → flatten_verdict buffer child parent application ≡ Ok tt → size ≡ size_of (written_of child parent) → written_of child parent ≢ []
     → Ready buffer child parent application t.count size
 ready-by h checked is any = record { many = count-is _ _ h.opens; checked = checked; size_is = is; any = any }
 
@@ -133,7 +133,7 @@ module _ {buffer child parent application : List ℕ} {count size : ℕ} (q : Re
     plan : Plan f (count_of child) (size_of ws) stored at
     plan = rw (← q.many, ← size_is) p
 
-    pub flat-full : length buffer < at.end → answered (refused (refusal 35 0)) buffer ≡ flatten buffer child parent application major minor mediaType creationTime lastWrittenTime
+    pub flat-full : length buffer < at.end → answered (Err (refusal 35 0)) buffer ≡ flatten buffer child parent application major minor mediaType creationTime lastWrittenTime
     flat-full h =
         composed-full _ _ _ _ _ _ major minor mediaType creationTime lastWrittenTime c hands plan h
         ∙ sym (flatten-composed buffer child parent application major minor mediaType creationTime lastWrittenTime k s.head s.rest s.is)
@@ -146,7 +146,7 @@ module _ {buffer child parent application : List ℕ} {count size : ℕ} (q : Re
       flat-fits = rw (q.many, size_is) (composed-fits _ _ _ _ _ _ major minor mediaType creationTime lastWrittenTime c hands plan h made)
 
       pub flat-done : {b₂ : List ℕ} → b₂ ≡ composed_in b₁ f size count lastWrittenTime
-          → answered (accepted (placed at.end at.index.0)) b₂ ≡ flatten buffer child parent application major minor mediaType creationTime lastWrittenTime
+          → answered (Ok (placed at.end at.index.0)) b₂ ≡ flatten buffer child parent application major minor mediaType creationTime lastWrittenTime
       flat-done e₂ =
           composed-done _ _ _ _ _ _ major minor mediaType creationTime lastWrittenTime c hands plan h made (rw (q.many, size_is) at e₂)
           ∙ sym (flatten-composed buffer child parent application major minor mediaType creationTime lastWrittenTime k s.head s.rest s.is)

@@ -11,12 +11,10 @@ ghost use mathlib.Core.List.{[], flatten as flattened};
 ghost use Rattle.std.specs.Prelude.{◌≢◌, ◌≡◌, ℕ, ◌+◌, ◌≤◌, length};
 ghost use Rattle.fields.specs.Bytes.{overwrite};
 ghost use Rattle.format.specs.declared.TableKind.TheVariants.{First};
-ghost use Rattle.format.specs.declared.Verdict.TheVariants.{Passes};
-ghost use Rattle.format.specs.Refusals.{accepted};
 ghost use Rattle.format.specs.Layouts.{block_header_length};
 ghost use Rattle.format.specs.Opening.{opening};
 ghost use Rattle.format.specs.Flattening.{written_of, size_of, lent_verdict, flatten_verdict, flatten};
-ghost use Rattle.format.specs.Answers.{updated, answered};
+ghost use Rattle.format.specs.Answers.{answered};
 ghost use Rattle.opening.specs.Answers.{contents, outcome};
 ghost use Rattle.pairs.specs.Pairs.{Pair, sector_at};
 ghost use Rattle.composing.specs.Composes.{stored_of, layout_of, filled, Lays};
@@ -37,7 +35,7 @@ struct Stamp {
 }
 
 // How many of the pair's sectors are stored, wherever the block will be.
-fn count_stored<'a>(child: &'a [u8], t: Opened, parent: &'a [u8], p: Opening) -> u64
+fn count_stored<'a>(child: &'a [u8], t: Opened, parent: &'a [u8], p: Result<Opened, Refusal>) -> u64
     requires { Pair child.now parent.now (contents t) (outcome p) }
     ensures { (block : ℕ) → result ≡ length (stored_of block (sector_at child.now parent.now) (contents t).count).items }
 {
@@ -63,7 +61,7 @@ fn put_entries<'a, 'b>(
     child: &'a [u8],
     t: Opened,
     parent: &'a [u8],
-    p: Opening,
+    p: Result<Opened, Refusal>,
     at: Layout,
 )
     requires { Pair child.now parent.now (contents t) (outcome p) × Lays buf.old (sector_at child.now parent.now) (contents t).count (size_of (written_of child.now parent.now)) at }
@@ -86,7 +84,7 @@ fn put_sectors<'a, 'b>(
     child: &'a [u8],
     t: Opened,
     parent: &'a [u8],
-    p: Opening,
+    p: Result<Opened, Refusal>,
     most: Layout,
 ) -> u64
     requires { Pair child.now parent.now (contents t) (outcome p) × Lays buf.old (sector_at child.now parent.now) (contents t).count (size_of (written_of child.now parent.now)) most }
@@ -114,14 +112,14 @@ fn flatten_tight<'a, 'b, 'c>(
     child: &'a [u8],
     t: Opened,
     parent: &'a [u8],
-    p: Opening,
+    p: Result<Opened, Refusal>,
     size: u64,
     application: &'c [u8],
     new: Stamp,
-) -> Updated
-    requires { Pair child.now parent.now (contents t) (outcome p) × (flatten_verdict buffer.old child.now parent.now application.now ≡ Passes)
+) -> Result<Placed, Refusal>
+    requires { Pair child.now parent.now (contents t) (outcome p) × (flatten_verdict buffer.old child.now parent.now application.now ≡ Ok tt)
         × (size ≡ size_of (written_of child.now parent.now)) × (written_of child.now parent.now ≢ []) }
-    ensures { answered (updated result) buffer.new ≡ flatten buffer.old child.now parent.now application.now new.major new.minor new.mediaType new.created new.written }
+    ensures { answered result buffer.new ≡ flatten buffer.old child.now parent.now application.now new.major new.minor new.mediaType new.created new.written }
 {
     let count = opening::count(t);
     let stored = count_stored(child, t, parent, p);
@@ -131,7 +129,7 @@ fn flatten_tight<'a, 'b, 'c>(
     let length = buffer.len() as u64;
     if length < end {
         let place = ByteOffset(0);
-        return Updated::Refused(Refusal { number: 35, place });
+        return Err(Refusal { number: 35, place });
     }
     records::put_image(
         buffer,
@@ -145,7 +143,7 @@ fn flatten_tight<'a, 'b, 'c>(
     );
     put_entries(buffer, child, t, parent, p, at);
     composing::finish(buffer, count, size, stored, at, new.written);
-    Updated::To(Placed { used: end, index })
+    Ok(Placed { used: end, index })
 }
 
 // The same where there is room even if all sectors are stored, as `most` has it: they are written right away, which tells how many are stored, and so where the
@@ -155,16 +153,16 @@ fn flatten_roomy<'a, 'b, 'c>(
     child: &'a [u8],
     t: Opened,
     parent: &'a [u8],
-    p: Opening,
+    p: Result<Opened, Refusal>,
     size: u64,
     most: Layout,
     application: &'c [u8],
     new: Stamp,
-) -> Updated
-    requires { Pair child.now parent.now (contents t) (outcome p) × (flatten_verdict buffer.old child.now parent.now application.now ≡ Passes)
+) -> Result<Placed, Refusal>
+    requires { Pair child.now parent.now (contents t) (outcome p) × (flatten_verdict buffer.old child.now parent.now application.now ≡ Ok tt)
         × (size ≡ size_of (written_of child.now parent.now)) × (written_of child.now parent.now ≢ [])
         × (most ≡ layout_of (contents t).count size (length (written_of child.now parent.now))) × (most.end ≤ length buffer.old) }
-    ensures { answered (updated result) buffer.new ≡ flatten buffer.old child.now parent.now application.now new.major new.minor new.mediaType new.created new.written }
+    ensures { answered result buffer.new ≡ flatten buffer.old child.now parent.now application.now new.major new.minor new.mediaType new.created new.written }
 {
     let count = opening::count(t);
     records::put_image(
@@ -183,7 +181,7 @@ fn flatten_roomy<'a, 'b, 'c>(
     composing::finish(buffer, count, size, stored, at, new.written);
     let end = at.end;
     let index = at.index;
-    Updated::To(Placed { used: end, index })
+    Ok(Placed { used: end, index })
 }
 
 // The same, of so many sectors: 35 needs a count only where there is no room for all of them.
@@ -192,16 +190,16 @@ fn flatten_some<'a, 'b, 'c>(
     child: &'a [u8],
     t: Opened,
     parent: &'a [u8],
-    p: Opening,
+    p: Result<Opened, Refusal>,
     size: u64,
     sectors: u64,
     application: &'c [u8],
     new: Stamp,
-) -> Updated
-    requires { Pair child.now parent.now (contents t) (outcome p) × (flatten_verdict buffer.old child.now parent.now application.now ≡ Passes)
+) -> Result<Placed, Refusal>
+    requires { Pair child.now parent.now (contents t) (outcome p) × (flatten_verdict buffer.old child.now parent.now application.now ≡ Ok tt)
         × (size ≡ size_of (written_of child.now parent.now)) × (written_of child.now parent.now ≢ [])
         × (sectors ≡ length (written_of child.now parent.now)) }
-    ensures { answered (updated result) buffer.new ≡ flatten buffer.old child.now parent.now application.now new.major new.minor new.mediaType new.created new.written }
+    ensures { answered result buffer.new ≡ flatten buffer.old child.now parent.now application.now new.major new.minor new.mediaType new.created new.written }
 {
     let count = opening::count(t);
     let most = composing::lay_out(count, size, sectors);
@@ -220,21 +218,15 @@ fn flatten_opened<'a, 'b, 'c>(
     parent: &'a [u8],
     application: &'c [u8],
     new: Stamp,
-) -> Updated
-    requires { (opening child.now ≡ accepted (contents t)) × ((contents t).kind ≡ First) × (lent_verdict buffer.old application.now ≡ Passes) }
-    ensures { answered (updated result) buffer.new ≡ flatten buffer.old child.now parent.now application.now new.major new.minor new.mediaType new.created new.written }
+) -> Result<Placed, Refusal>
+    requires { (opening child.now ≡ Ok (contents t)) × ((contents t).kind ≡ First) × (lent_verdict buffer.old application.now ≡ Ok tt) }
+    ensures { answered result buffer.new ≡ flatten buffer.old child.now parent.now application.now new.major new.minor new.mediaType new.created new.written }
 {
     let p = opening::open(parent);
-    let v = pair_checking::pair_verdict(child, t, parent, p);
-    if let Verdict::Refuses(r) = v {
-        return Updated::Refused(r);
-    }
+    pair_checking::pair_verdict(child, t, parent, p)?;
     let size = pairs::size_of(child, t, parent, p);
     let sectors = pairs::count_written(child, t, parent, p);
-    let w = pairs::sizes_verdict(child, t, parent, p, size, sectors);
-    if let Verdict::Refuses(r) = w {
-        return Updated::Refused(r);
-    }
+    pairs::sizes_verdict(child, t, parent, p, size, sectors)?;
     if sectors == 0 {
         return aaru::create(
             buffer,
@@ -258,14 +250,11 @@ fn flatten_child<'a, 'b, 'c>(
     parent: &'a [u8],
     application: &'c [u8],
     new: Stamp,
-) -> Updated
-    requires { (opening child.now ≡ accepted (contents t)) × (lent_verdict buffer.old application.now ≡ Passes) }
-    ensures { answered (updated result) buffer.new ≡ flatten buffer.old child.now parent.now application.now new.major new.minor new.mediaType new.created new.written }
+) -> Result<Placed, Refusal>
+    requires { (opening child.now ≡ Ok (contents t)) × (lent_verdict buffer.old application.now ≡ Ok tt) }
+    ensures { answered result buffer.new ≡ flatten buffer.old child.now parent.now application.now new.major new.minor new.mediaType new.created new.written }
 {
-    let v = opening::kind_verdict(t);
-    if let Verdict::Refuses(r) = v {
-        return Updated::Refused(r);
-    }
+    opening::kind_verdict(t)?;
     flatten_opened(buffer, child, t, parent, application, new)
 }
 
@@ -283,13 +272,10 @@ pub fn flatten<'a, 'b, 'c>(
     mediaType: u32,
     created: u64,
     written: u64,
-) -> Updated
-    ensures { answered (updated result) buffer.new ≡ flatten buffer.old child.now parent.now application.now major minor mediaType created written }
+) -> Result<Placed, Refusal>
+    ensures { answered result buffer.new ≡ flatten buffer.old child.now parent.now application.now major minor mediaType created written }
 {
-    let v = arguments::lent_verdict(buffer, application);
-    if let Verdict::Refuses(r) = v {
-        return Updated::Refused(r);
-    }
+    arguments::lent_verdict(buffer, application)?;
     let new = Stamp {
         major,
         minor,
@@ -297,9 +283,6 @@ pub fn flatten<'a, 'b, 'c>(
         created,
         written,
     };
-    let opened = opening::open(child);
-    match opened {
-        Opening::Refused(r) => Updated::Refused(r),
-        Opening::Opens(t) => flatten_child(buffer, child, t, parent, application, new),
-    }
+    let t = opening::open(child)?;
+    flatten_child(buffer, child, t, parent, application, new)
 }

@@ -10,13 +10,13 @@ use native.Mathlib.Omega.{arith}
 use lib.ListN.{length, take, length-map}
 use lib.Seq.{length-take-le}
 use lib.IntN.{ℤ, pos, neg_ℤ, ◌+ℤ◌, ◌-ℤ◌, +ℤ_idl, +ℤ_invl, +ℤ-neg_ℤ_cancel}
+use Rattle.std.specs.Prelude.{Ok}
 use Rattle.format.specs.declared.AddressRange.{AddressRange}
 use Rattle.format.specs.declared.Flat.{Flat}
 use Rattle.format.specs.declared.Placed.{Placed}
 use Rattle.format.specs.declared.Pointer.{Pointer}
 use Rattle.format.specs.declared.TableKind.{TableKind}
 use Rattle.format.specs.declared.TableKind.TheVariants.{First}
-use Rattle.format.specs.Refusals.{accepted}
 use Rattle.format.specs.Layouts.{index_offset, entries, sector_size, table_count, table_negative}
 use Rattle.format.specs.Opening.{table_at, kind_at, Opened, opened_as, opened, range_of, sector_count}
 use Rattle.format.specs.Reading.{not_written, place_of}
@@ -44,7 +44,7 @@ use Rattle.format.proofs.Importing.{Importable, verdict-ok, file-whole, file-som
 use Rattle.format.proofs.Ends.{additions, index_is, end_is, ends_at}
 
 -- ---- counting
-count-forth : (img : List ℕ) (r : AddressRange) → sector_count img ≡ accepted r → HasSectors img r
+count-forth : (img : List ℕ) (r : AddressRange) → sector_count img ≡ Ok r → HasSectors img r
 unfolding sector_count range_of opened opened_as
 count-forth img r e =
     let o = index_offset img in
@@ -62,12 +62,12 @@ count-forth img r e =
 lowest-is : (z : ℤ) (m : ℕ) → z +ℤ pos m ≡ pos 0 → neg_ℤ (pos m) ≡ z
 lowest-is z m e = sym (+ℤ_idl (neg_ℤ (pos m))) ∙ sym (ap (λ (y : ℤ). y -ℤ pos m) e) ∙ +ℤ-neg_ℤ_cancel z (pos m)
 
-count-back : (img : List ℕ) (r : AddressRange) → HasSectors img r → sector_count img ≡ accepted r
+count-back : (img : List ℕ) (r : AddressRange) → HasSectors img r → sector_count img ≡ Ok r
 unfolding sector_count range_of opened_as
 count-back img r n =
     let low = lowest-is _ _ n.lowest in
     answer-passes _ _ ((open-ok img _).1 (opens_back img _ n.kind n.table n.opens))
-    ∙ ap accepted (ap range_of (opened-as img _ n.kind n.table n.opens) ∙ (λ i. record { count = sym n.count i; lowest = record { 0 = low i } }))
+    ∙ ap Ok (ap range_of (opened-as img _ n.kind n.table n.opens) ∙ (λ i. record { count = sym n.count i; lowest = record { 0 = low i } }))
 
 -- ---- the disc of a commit
 module _ (img : List ℕ) (o t : ℕ) (n : Opens img o First t) where
@@ -108,7 +108,7 @@ module _ (buffer : List ℕ) (used : ℕ) (addresses : List ℤ) (size : ℕ) (s
   abbrev o : ℕ
   o = index_offset img
 
-  commit-forth : (commit buffer used addresses size sectors time).result ≡ accepted p → CommitOk buffer used addresses size sectors p
+  commit-forth : (commit buffer used addresses size sectors time).result ≡ Ok p → CommitOk buffer used addresses size sectors p
   unfolding commit append
   commit-forth e =
       let r = (outcome-accepts _ _ _ _ p).0 e in
@@ -129,7 +129,7 @@ module _ (buffer : List ℕ) (used : ℕ) (addresses : List ℤ) (size : ℕ) (s
         room = subst (λ (q : Placed). q.used ≤ length buffer) r.1 k.room;
       }
 
-  commit-back : CommitOk buffer used addresses size sectors p → (commit buffer used addresses size sectors time).result ≡ accepted p
+  commit-back : CommitOk buffer used addresses size sectors p → (commit buffer used addresses size sectors time).result ≡ Ok p
   unfolding commit append
   commit-back c =
       let d : DiscSound img o addresses = disc-back img o addresses c.table c.disc in
@@ -183,7 +183,7 @@ module _ (img out : List ℕ) where
         ∙ ap (λ (v : Opened). v.count * size) is
 
   -- by 4/13's rule
-  exact-forth : (n : ℕ) → (export_exact img out).result ≡ accepted n → ExportExactOk img out n
+  exact-forth : (n : ℕ) → (export_exact img out).result ≡ Ok n → ExportExactOk img out n
   unfolding export_exact opened opened_as
   exact-forth n e =
       let r = (outcome-accepts _ _ _ _ n).0 e in
@@ -199,7 +199,7 @@ module _ (img out : List ℕ) where
         room = rw r.1 at k.file.room;
       }
 
-  exact-back : (n : ℕ) → ExportExactOk img out n → (export_exact img out).result ≡ accepted n
+  exact-back : (n : ℕ) → ExportExactOk img out n → (export_exact img out).result ≡ Ok n
   unfolding export_exact opened_as gap_count
   exact-back n e =
       let u : Opened = opened img at in
@@ -222,7 +222,7 @@ module _ (img out : List ℕ) where
       )
 
   -- by 9/13's
-  export-forth : (n : Flat) → (export img out).result ≡ accepted n → ExportOk img out n
+  export-forth : (n : Flat) → (export img out).result ≡ Ok n → ExportOk img out n
   unfolding export opened opened_as gap_count
   export-forth n e =
       let r = (outcome-accepts _ _ _ _ n).0 e in
@@ -242,7 +242,7 @@ module _ (img out : List ℕ) where
         room = rw long at k.file.room;
       }
 
-  export-back : (n : Flat) → ExportOk img out n → (export img out).result ≡ accepted n
+  export-back : (n : Flat) → ExportOk img out n → (export img out).result ≡ Ok n
   unfolding export opened_as gap_count
   export-back n e =
       let u : Opened = opened img at in
@@ -273,7 +273,7 @@ module _ (buffer file : List ℕ) (size : ℕ) (application : List ℕ) (major m
   some-numbers : Importable buffer file size application → 0 < length (numbers_of n)
   some-numbers k = rw all-numbers (pos_of_ne-zero (file-some k))
 
-  import-forth : (import buffer file size application major minor mediaType creationTime lastWrittenTime).result ≡ accepted p → ImportOk buffer file size application p
+  import-forth : (import buffer file size application major minor mediaType creationTime lastWrittenTime).result ≡ Ok p → ImportOk buffer file size application p
   import-forth e =
       let i = import-accepted buffer file size application major minor mediaType creationTime lastWrittenTime p e in
       let k = i.checked in
@@ -293,7 +293,7 @@ module _ (buffer file : List ℕ) (size : ℕ) (application : List ℕ) (major m
         room = subst (λ (x : Placed). x.used ≤ length buffer) i.answer i.room;
       }
 
-  import-back : ImportOk buffer file size application p → (import buffer file size application major minor mediaType creationTime lastWrittenTime).result ≡ accepted p
+  import-back : ImportOk buffer file size application p → (import buffer file size application major minor mediaType creationTime lastWrittenTime).result ≡ Ok p
   import-back c =
       let is : c.count ≡ n = file-count file size c.count c.some c.whole in
       let k : Importable buffer file size application =

@@ -11,6 +11,7 @@ use native.Mathlib.Omega.{arith}
 use lib.Dec.{lit≤}
 use lib.ListN.{length, get_or}
 use lib.IntN.{ℤ}
+use Rattle.std.specs.Prelude.{Ok}
 use Rattle.crc64.specs.Crc.{crc_of}
 use Rattle.fields.specs.Bytes.{part, from_le, field, equal}
 use Rattle.fields.proofs.Overwrite.{part-alike}
@@ -19,8 +20,7 @@ use Rattle.format.specs.declared.Pointer.{Pointer}
 use Rattle.format.specs.declared.TableKind.{TableKind}
 use Rattle.format.specs.declared.TableKind.TheVariants.{First, Second}
 use Rattle.format.specs.Lists.{All}
-use Rattle.format.specs.declared.Verdict.TheVariants.{Passes}
-use Rattle.format.specs.Refusals.{◌then◌, accepted}
+use Rattle.format.specs.Refusals.{◌then◌}
 use Rattle.format.specs.Layouts.{DBLK, DDT2, header_length, image_major_at, index_offset_at, entry_count, entry_at, entries_from, entries, block_length, sector_size, block_payload, table_shift, table_count, table_length, table_payload, table_alignment, table_negative, shift_at, entries_at, decode, entry_pointer, table_header_length_of, entry_width, block_header_length, index_header_length, entry_length}
 use Rattle.format.specs.Opening.{lacks, entries_verdict, one_verdict, offsets_with, offsets_of, is_table, table_at, kind_by, kind_at, Opened, opened_as, opened_at, opened}
 use Rattle.format.specs.Reading.{outside, entry_number, table_entry_at, table_entry, unwritten, not_written, unknown, unknown_status, pointer_at, has, place_of, item_bytes, read_at}
@@ -222,7 +222,7 @@ pub table-low : (img : List ℕ) (o : ℕ) → OpenOk img o → Low (table_at im
 table-low img o k = all_head (rw k.only at (offsets-low img o k is_table))
 
 -- the same of an index whose entries pass, before the table is looked at
-pub table-room : (img : List ℕ) (o : ℕ) → (entries_verdict img (entry_count img o) (o + index_header_length) then one_verdict img o) ≡ Passes → table_at img o + 4 ≤ length img
+pub table-room : (img : List ℕ) (o : ℕ) → (entries_verdict img (entry_count img o) (o + index_header_length) then one_verdict img o) ≡ Ok tt → table_at img o + 4 ≤ length img
 unfolding entries one_verdict table_at
 table-room img o h =
     let k = (then-iff (entries-ok img _ _) (one_ok o _)).0 h in
@@ -342,7 +342,7 @@ module _ (x y : List ℕ) (g : Agree x y) (o : ℕ) (s : Sound x o) where
           let ee : entries x o ≡ entries y o = entries-agree x y g o ox.index in
           let qy : SectorOk y (entries y o) (opened y o) n = rw (ee, eo) at (sector-agree n h q) in
           let ep : p ≡ pointer_at y (opened y o) n = pointer_at-agree x y g o ox n h ∙ ap (λ (t : Opened). pointer_at y t n) eo in
-          entry-bytes x o n q ∙ ap accepted (bytes-agree x y g p (block-low x o ox _ q.named) q.item ∙ ap (item_bytes y) ep) ∙ sym (entry-bytes y o n qy)
+          entry-bytes x o n q ∙ ap Ok (bytes-agree x y g p (block-low x o ox _ q.named) q.item ∙ ap (item_bytes y) ep) ∙ sym (entry-bytes y o n qy)
 
 -- ---- and so does every address
 pub reads-agree : (x y : List ℕ) → Agree x y → (o : ℕ) → Sound x o → (a : ℤ) → read_at x o a ≡ read_at y o a

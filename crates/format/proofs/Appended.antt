@@ -11,13 +11,14 @@ use native.Mathlib.Omega.{arith}
 use lib.Dec.{lit<, lit≤}
 use lib.ListN.{length, length-append, get_or, length-map}
 use lib.Pow.{pow_mono, pow_pos, high, low}
+use Rattle.std.specs.Prelude.{Ok, Err}
 use Rattle.fields.specs.Bytes.{part, from_le, to_le}
 use Rattle.fields.proofs.Holds.{Holds, holds-all, holds-left, holds-right, holds-number}
 use Rattle.format.specs.declared.Entry.{Entry}
 use Rattle.format.specs.declared.Pointer.{Pointer}
 use Rattle.format.specs.declared.TableKind.TheVariants.{First}
 use Rattle.format.specs.Lists.{All, done, more, IsBytes}
-use Rattle.format.specs.Refusals.{refusal, Answer, refused, accepted}
+use Rattle.format.specs.Refusals.{refusal, Answer}
 use Rattle.format.specs.Layouts.{DBLK, DDT*, DDT2, tag, header_length, entries, user_data_entry, index_bytes, sector_size, block_length, table_bytes, entry_pointer, decode, encode, table_header_length, block_header_length, table_entry_length}
 use Rattle.format.specs.Opening.{is_user_data, offsets_with, offsets_of, is_table, table_at, Opened, opened_as, opened}
 use Rattle.format.specs.Reading.{table_entry, unwritten, not_written, pointer_at, has, place_of, item_bytes}
@@ -135,8 +136,8 @@ flatten-block size (i ∷ is) = omega (arith, length-block_bytes size (flatten (
 
 -- what an address gets, nothing or a pointer that stands, and what it then reads as
 data Gets (y : List ℕ) (es : List Entry) : Option Pointer → Answer (List ℕ) → Type 0 where
-  nothing : Gets y es none (refused (refusal 21 0))
-  stands : {p : Pointer} {sector : List ℕ} → Points y es sector p → Gets y es (some p) (accepted sector)
+  nothing : Gets y es none (Err (refusal 21 0))
+  stands : {p : Pointer} {sector : List ℕ} → Points y es sector p → Gets y es (some p) (Ok sector)
 
 -- ---- the table entry of an address, read back
 entry_zero : (y : List ℕ) (t c s n : ℕ) → table_entry y (opened_first t c s) n ≡ 0 → not_written y (opened_first t c s) n ≡ true
@@ -437,8 +438,8 @@ module _ (x : List ℕ) (o : ℕ) (addresses : List ℕ) (size : ℕ) (sectors :
     -- an address below the count: it is not written, or its sector is good; and what is then expected of it
     abbrev Reads : ℕ → Answer (List ℕ) → Type 0
     Reads a v =
-        ((not_written y new_opened a ≡ true) × (v ≡ refused (refusal 21 0)))
-        ⊎ (SectorOk y new_entries new_opened a × (v ≡ accepted (item_bytes y (pointer_at y new_opened a))))
+        ((not_written y new_opened a ≡ true) × (v ≡ Err (refusal 21 0)))
+        ⊎ (SectorOk y new_entries new_opened a × (v ≡ Ok (item_bytes y (pointer_at y new_opened a))))
 
     reads-inside : (a : ℕ) → a < (opened x o).count → Reads a (expected a)
     unfolding table_entry pointer_at entry_pointer table_entry_bytes item_or_zero
@@ -457,7 +458,7 @@ module _ (x : List ℕ) (o : ℕ) (addresses : List ℕ) (size : ℕ) (sectors :
                 named = rw ep q.named;
                 item = rw ep q.ok;
               },
-              ap accepted (sym q.bytes ∙ ap (item_bytes y) (sym ep)),
+              ap Ok (sym q.bytes ∙ ap (item_bytes y) (sym ep)),
             )
 
     -- ---- the new disc is sound, and every address reads as handed in, or as before
@@ -474,7 +475,7 @@ module _ (x : List ℕ) (o : ℕ) (addresses : List ℕ) (size : ℕ) (sectors :
         go (inl r) = entry-21 y new_index_at a (ap (λ (u : Opened). not_written y u a) opens-new.found ∙ r.0) ∙ sym r.1
         go (inr r) =
             entry-bytes y new_index_at a (rw (opens-new.named, opens-new.found) r.0)
-            ∙ ap (λ (u : Opened). accepted (item_bytes y (pointer_at y u a))) opens-new.found ∙ sym r.1
+            ∙ ap (λ (u : Opened). Ok (item_bytes y (pointer_at y u a))) opens-new.found ∙ sym r.1
 
     pub new-disc : NewDisc x o addresses ds y new_index_at new_entries
     new-disc =

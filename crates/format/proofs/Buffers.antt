@@ -7,15 +7,14 @@ use native.Mathlib.Nat.{le_refl}
 use native.Mathlib.Omega.{arith}
 use lib.ListN.{length, take, get_or, length-take}
 use lib.Seq.{get_or-take, length-take-le}
+use Rattle.format.specs.Refusals.{Verdict}
+use Rattle.std.specs.Prelude.{Ok, Err}
 use Rattle.fields.specs.Bytes.{to_le, overwrite}
 use Rattle.fields.proofs.Numbers.{length-to_le}
 use Rattle.fields.proofs.Overwrite.{length-overwrite, get_or-off, get_or-in, overwrite-inside}
 use Rattle.fields.proofs.Holds.{Holds, holds-take, holds-overwrite, holds-all, holds-number}
 use Rattle.format.specs.declared.Refusal.{Refusal}
-use Rattle.format.specs.declared.Verdict.{Verdict}
-use Rattle.format.specs.declared.Verdict.TheVariants.{Passes, Refuses}
 use Rattle.format.specs.Lists.{IsBytes}
-use Rattle.format.specs.Refusals.{refused, accepted}
 use Rattle.format.specs.Layouts.{header_length, index_offset_at, last_written_at, index_offset}
 use Rattle.format.specs.Writing.{outcome, set_header}
 use Rattle.format.specs.Demands.{Elsewhere, HeaderSet}
@@ -24,42 +23,42 @@ use Rattle.format.proofs.Bytes.{bytes-overwrite, bytes-to_le}
 
 -- ---- outcomes
 pub record Accepts {A : Type 0} (v : Verdict) (p q : A) (new after : List ℕ) : Type 0 where
-  pub passes : v ≡ Passes
+  pub passes : v ≡ Ok tt
   pub answer : p ≡ q
   pub buffer : after ≡ new
 
-pub outcome-accepted : {A : Type 0} (buffer : List ℕ) (v : Verdict) (p : A) (new : List ℕ) (q : A) → (outcome buffer v p new).result ≡ accepted q
+pub outcome-accepted : {A : Type 0} (buffer : List ℕ) (v : Verdict) (p : A) (new : List ℕ) (q : A) → (outcome buffer v p new).result ≡ Ok q
     → Accepts v p q new (outcome buffer v p new).buffer
 unfolding outcome
-outcome-accepted buffer Passes p new q e = record { passes = refl; answer = cc; buffer = refl }
-outcome-accepted buffer (Refuses r) p new q e = let z : ◌≡◌ {A = ℕ} 0 1 = cc in absurd (omega arith)
+outcome-accepted buffer (Ok tt) p new q e = record { passes = refl; answer = cc; buffer = refl }
+outcome-accepted buffer (Err r) p new q e = let z : ◌≡◌ {A = ℕ} 0 1 = cc in absurd (omega arith)
 
-pub outcome-passes : {A : Type 0} (buffer : List ℕ) (v : Verdict) (p : A) (new : List ℕ) → v ≡ Passes → outcome buffer v p new ≡ record { result = accepted p; buffer = new }
+pub outcome-passes : {A : Type 0} (buffer : List ℕ) (v : Verdict) (p : A) (new : List ℕ) → v ≡ Ok tt → outcome buffer v p new ≡ record { result = Ok p; buffer = new }
 unfolding outcome
 outcome-passes buffer v p new e = rw e
 
-pub outcome-accepts : {A : Type 0} (buffer : List ℕ) (v : Verdict) (p : A) (new : List ℕ) (q : A) → ((outcome buffer v p new).result ≡ accepted q) ↔ ((v ≡ Passes) × (p ≡ q))
+pub outcome-accepts : {A : Type 0} (buffer : List ℕ) (v : Verdict) (p : A) (new : List ℕ) (q : A) → ((outcome buffer v p new).result ≡ Ok q) ↔ ((v ≡ Ok tt) × (p ≡ q))
 unfolding outcome
 outcome-accepts buffer v p new q = (
   (λ e. let k = outcome-accepted buffer v p new q e in (k.passes, k.answer)),
   λ (e, f). rw (e, f),
 )
 
-pub outcome-refused : {A : Type 0} (buffer : List ℕ) (v : Verdict) (p : A) (new : List ℕ) (r : Refusal) → (outcome buffer v p new).result ≡ refused r
-    → (v ≡ Refuses r) × ((outcome buffer v p new).buffer ≡ buffer)
+pub outcome-refused : {A : Type 0} (buffer : List ℕ) (v : Verdict) (p : A) (new : List ℕ) (r : Refusal) → (outcome buffer v p new).result ≡ Err r
+    → (v ≡ Err r) × ((outcome buffer v p new).buffer ≡ buffer)
 unfolding outcome
-outcome-refused buffer Passes p new r e = let z : ◌≡◌ {A = ℕ} 0 1 = cc in absurd (omega arith)
-outcome-refused buffer (Refuses s) p new r e = (cc, refl)
+outcome-refused buffer (Ok tt) p new r e = let z : ◌≡◌ {A = ℕ} 0 1 = cc in absurd (omega arith)
+outcome-refused buffer (Err s) p new r e = (cc, refl)
 
-pub outcome-refuses : {A : Type 0} (buffer : List ℕ) (v : Verdict) (p : A) (new : List ℕ) (r : Refusal) → ((outcome buffer v p new).result ≡ refused r) ↔ (v ≡ Refuses r)
+pub outcome-refuses : {A : Type 0} (buffer : List ℕ) (v : Verdict) (p : A) (new : List ℕ) (r : Refusal) → ((outcome buffer v p new).result ≡ Err r) ↔ (v ≡ Err r)
 unfolding outcome
 outcome-refuses buffer v p new r = ((λ e. (outcome-refused buffer v p new r e).0), λ e. rw e)
 
 -- where it is refused, what it would have written makes no difference
-pub outcome-new : {A : Type 0} (buffer : List ℕ) (v : Verdict) (p : A) (one other : List ℕ) → (v ≡ Passes → one ≡ other) → outcome buffer v p one ≡ outcome buffer v p other
+pub outcome-new : {A : Type 0} (buffer : List ℕ) (v : Verdict) (p : A) (one other : List ℕ) → (v ≡ Ok tt → one ≡ other) → outcome buffer v p one ≡ outcome buffer v p other
 unfolding outcome
-outcome-new buffer Passes p one other h = ap (λ (l : List ℕ). record { result = accepted p; buffer = l }) (h refl)
-outcome-new buffer (Refuses r) p one other h = refl
+outcome-new buffer (Ok tt) p one other h = ap (λ (l : List ℕ). record { result = Ok p; buffer = l }) (h refl)
+outcome-new buffer (Err r) p one other h = refl
 
 -- ---- the header's two fields
 module _ (l : List ℕ) (o time : ℕ) where

@@ -11,6 +11,7 @@ use native.Mathlib.Omega.{arith}
 use lib.ListN.{length, take, get_or}
 use lib.IntN.{ℤ}
 use lib.Signed.{lt_z, ◌<ℤ◌, lt_z_yes}
+use Rattle.std.specs.Prelude.{Ok, Err}
 use Rattle.fields.specs.Bytes.{part, equal}
 use Rattle.fields.proofs.Equal.{equal-iff}
 use Rattle.format.specs.declared.Entry.{Entry}
@@ -18,11 +19,9 @@ use Rattle.format.specs.declared.Pointer.{Pointer}
 use Rattle.format.specs.declared.Refusal.{Refusal}
 use Rattle.format.specs.declared.TableKind.{TableKind}
 use Rattle.format.specs.declared.TableKind.TheVariants.{First, Second}
-use Rattle.format.specs.declared.Verdict.{Verdict}
-use Rattle.format.specs.declared.Verdict.TheVariants.{Passes, Refuses}
 use Rattle.format.specs.Tests.{same, less_than}
 use Rattle.format.specs.Lists.{All, done, more}
-use Rattle.format.specs.Refusals.{refusal, row, Answer, refused, accepted, answer}
+use Rattle.format.specs.Refusals.{refusal, row, Answer, answer, Verdict}
 use Rattle.format.specs.Layouts.{DBLK, DDT2, index_offset, entry_length, entry_at, entries_from, entries, block_length, sector_size, table_alignment, table_negative}
 use Rattle.format.specs.Opening.{lacks, header_verdict, index_verdict, entry_verdict, entries_verdict, offsets_with, offsets_of, is_table, one_of, one_verdict, table_at, kind_by, kind_at, extent_verdict, payload_verdict, table_malformed, sums_differ, table_verdict, open_verdict, Opened, opened_as, opened}
 use Rattle.format.specs.Reading.{outside, entry_number, table_entry_at, not_written, unknown, unknown_status, pointer_at, has, block_malformed, block_verdict, item_verdict, pointer_verdict, sector_verdict, item_bytes, address_verdict, read_verdict, pointer_of, read_at}
@@ -54,13 +53,13 @@ pub lacks-not : (img : List ℕ) (at : ℕ) (letters : List ℕ) {r : Bool} → 
 unfolding lacks
 lacks-not img at letters h = ap not h
 
-pub header_ok : (img : List ℕ) → (header_verdict img ≡ Passes) ↔ HeaderOk img
+pub header_ok : (img : List ℕ) → (header_verdict img ≡ Ok tt) ↔ HeaderOk img
 unfolding header_verdict
 header_ok img =
     facts (then-iff (row-iff _ below-iff) (then-iff (row-iff _ (and-iff (lacks-iff img _ _) (lacks-iff img _ _))) (row-iff _ differs-iff)))
     (λ (a, (b, c)). record { long = a; identifier = b; major = c }) (λ k. (k.long, (k.identifier, k.major)))
 
-pub index_ok : (img : List ℕ) (o : ℕ) → (index_verdict img o ≡ Passes) ↔ IndexOk img o
+pub index_ok : (img : List ℕ) (o : ℕ) → (index_verdict img o ≡ Ok tt) ↔ IndexOk img o
 unfolding index_verdict
 index_ok img o =
     facts
@@ -70,20 +69,20 @@ index_ok img o =
     (λ ((a, b), (c, (d, e))). record { low = a; head = b; identifier = c; fits = d; sum = e })
     (λ k. ((k.low, k.head), (k.identifier, (k.fits, k.sum))))
 
-pub entry-ok : (img : List ℕ) (p : ℕ) → (entry_verdict img p ≡ Passes) ↔ EntryOk img (entry_at img p)
+pub entry-ok : (img : List ℕ) (p : ℕ) → (entry_verdict img p ≡ Ok tt) ↔ EntryOk img (entry_at img p)
 unfolding entry_verdict
 entry-ok img p =
     facts (then-iff (row-iff _ (or-iff below-iff below-iff)) (row-iff _ differs-iff))
     (λ ((a, b), c). record { low = a; fits = b; identifier = c }) (λ k. ((k.low, k.fits), k.identifier))
 
-pub entries-ok : (img : List ℕ) (k p : ℕ) → (entries_verdict img k p ≡ Passes) ↔ All (EntryOk img) (entries_from img k p)
+pub entries-ok : (img : List ℕ) (k p : ℕ) → (entries_verdict img k p ≡ Ok tt) ↔ All (EntryOk img) (entries_from img k p)
 unfolding entries_verdict entries_from
 entries-ok img zero p = (λ h. done, λ h. refl)
 entries-ok img (suc k) p =
     facts (then-iff (entry-ok img p) (entries-ok img k (p + entry_length))) (λ (h, hs). more h hs) (λ h. (all_head h, all_tail h))
 
 -- the one table of a list of offsets
-pub one_ok : (o : ℕ) (l : List ℕ) → (one_of o l ≡ Passes) ↔ (l ≡ get_or l 0 0 ∷ [])
+pub one_ok : (o : ℕ) (l : List ℕ) → (one_of o l ≡ Ok tt) ↔ (l ≡ get_or l 0 0 ∷ [])
 unfolding one_of
 one_ok o [] = (λ h. absurd (not-passes h), λ h. absurd (cons-ne-nil _ _ (sym h)))
 one_ok o (t ∷ []) = (λ h. refl, λ h. refl)
@@ -101,14 +100,14 @@ pub kind-iff : (img : List ℕ) (t : ℕ) (k : TableKind) → (kind_at img t ≡
 unfolding kind_at
 kind-iff img t k = kind-by img t _ k refl
 
-extent-ok : (img : List ℕ) (k : TableKind) (t : ℕ) → (extent_verdict img k t ≡ Passes) ↔ ExtentOk img k t
+extent-ok : (img : List ℕ) (k : TableKind) (t : ℕ) → (extent_verdict img k t ≡ Ok tt) ↔ ExtentOk img k t
 unfolding extent_verdict ExtentOk
 extent-ok img First t = (λ h. tt, λ h. refl)
 extent-ok img Second t =
     facts (then-iff (row-iff _ differs-iff) (then-iff (row-iff _ differs-iff) (row-iff _ below-iff)))
     (λ (a, (b, c)). record { levels = a; size_type = b; blocks = c }) (λ k. (k.levels, (k.size_type, k.blocks)))
 
-pub table-ok : (img : List ℕ) (k : TableKind) (t : ℕ) → (table_verdict img k t ≡ Passes) ↔ TableOk img k t
+pub table-ok : (img : List ℕ) (k : TableKind) (t : ℕ) → (table_verdict img k t ≡ Ok tt) ↔ TableOk img k t
 unfolding table_verdict payload_verdict table_malformed sums_differ
 table-ok img k t =
     facts
@@ -133,7 +132,7 @@ pub record OpenOk (img : List ℕ) (o : ℕ) : Type 0 where
   pub only : offsets_with is_table (entries img o) ≡ table_at img o ∷ []
   pub table : TableOk img (kind_at img (table_at img o)) (table_at img o)
 
-pub open-ok : (img : List ℕ) (o : ℕ) → (open_verdict img o ≡ Passes) ↔ OpenOk img o
+pub open-ok : (img : List ℕ) (o : ℕ) → (open_verdict img o ≡ Ok tt) ↔ OpenOk img o
 unfolding open_verdict one_verdict table_at entries
 open-ok img o =
     facts
@@ -145,7 +144,7 @@ open-ok img o =
     (λ k. (k.header, (k.index, (k.entries_ok, (k.only, k.table)))))
 
 -- ---- reading
-pub block-ok : (img : List ℕ) (b : ℕ) → (block_verdict img b ≡ Passes) ↔ BlockOk img b
+pub block-ok : (img : List ℕ) (b : ℕ) → (block_verdict img b ≡ Ok tt) ↔ BlockOk img b
 unfolding block_verdict block_malformed
 block-ok img b =
     facts
@@ -159,7 +158,7 @@ block-ok img b =
 abbrev pub PointerOk : List ℕ → Pointer → Type 0
 PointerOk img p = ItemOk img p.block.0 p.item.0
 
-pub item_ok : (img : List ℕ) (p : Pointer) → (item_verdict img p ≡ Passes) ↔ PointerOk img p
+pub item_ok : (img : List ℕ) (p : Pointer) → (item_verdict img p ≡ Ok tt) ↔ PointerOk img p
 unfolding item_verdict sums_differ
 item_ok img p =
     facts (then-iff (block-ok img p.block.0) (then-iff (row-iff _ at_least-iff) (row-iff _ (or-iff differs-iff differs-iff))))
@@ -198,19 +197,19 @@ pointer-not-21 img es at p =
 -- a verdict but for 21
 pub keeps-others : (v : Verdict) → ¬ Gives 21 v → other_than_21 v ≡ v
 unfolding other_than_21 Gives
-keeps-others Passes n = refl
-keeps-others (Refuses r) n = choose-false _ _ _ (same-iff.1 n)
+keeps-others (Ok tt) n = refl
+keeps-others (Err r) n = choose-false _ _ _ (same-iff.1 n)
 
 -- a refusal that is left out has this number
-pub only-21 : (r : Refusal) → other_than_21 (Refuses r) ≡ Passes → r.number ≡ 21
+pub only-21 : (r : Refusal) → other_than_21 (Err r) ≡ Ok tt → r.number ≡ 21
 unfolding other_than_21
 only-21 r e = ⊎_elim (same-on _ _) (λ h. absurd (not-passes (sym (choose-false _ _ _ h) ∙ e))) (on-or-off (same r.number 21))
 
-other-than-21 : (v : Verdict) → (other_than_21 v ≡ Passes) ↔ (Gives 21 v ⊎ (v ≡ Passes))
+other-than-21 : (v : Verdict) → (other_than_21 v ≡ Ok tt) ↔ (Gives 21 v ⊎ (v ≡ Ok tt))
 unfolding other_than_21 Gives
-other-than-21 Passes = (λ h. inr refl, λ h. refl)
-other-than-21 (Refuses r) = (
-  (λ h. ⊎_elim (λ e. inl (same-on _ _ e)) (λ e. inr (sym (choose-false _ Passes (Refuses r) e) ∙ h)) (on-or-off (same r.number 21))),
+other-than-21 (Ok tt) = (λ h. inr refl, λ h. refl)
+other-than-21 (Err r) = (
+  (λ h. ⊎_elim (λ e. inl (same-on _ _ e)) (λ e. inr (sym (choose-false _ (Ok tt) (Err r) e) ∙ h)) (on-or-off (same r.number 21))),
   ⊎_elim (λ e. choose-true _ _ _ (same_true _ _ e)) (λ e. absurd (not-passes e)),
 )
 
@@ -222,18 +221,18 @@ pub record SectorOk (img : List ℕ) (es : List Entry) (t : Opened) (n : ℕ) : 
   pub item : PointerOk img (pointer_at img t n)
 
 module _ (img : List ℕ) (es : List Entry) (t : Opened) (n : ℕ) where
-  pub sector-ok : (sector_verdict img es t n ≡ Passes) ↔ SectorOk img es t n
+  pub sector-ok : (sector_verdict img es t n ≡ Ok tt) ↔ SectorOk img es t n
   unfolding sector_verdict pointer_verdict
   sector-ok =
       facts (then-iff (row-iff _ Iff.rfl) (then-iff (row-iff _ Iff.rfl) (then-iff (row-iff _ not_iff) (item_ok img (pointer_at img t n)))))
       (λ (b, (c, (d, e))). record { written = b; known = c; named = d; item = e }) (λ k. (k.written, (k.known, (k.named, k.item))))
 
   -- which entries are refused with 21 and with 73
-  pub sector-21 : not_written img t n ≡ true → sector_verdict img es t n ≡ Refuses (refusal 21 0)
+  pub sector-21 : not_written img t n ≡ true → sector_verdict img es t n ≡ Err (refusal 21 0)
   unfolding sector_verdict
   sector-21 e = then-refuses _ _ _ (row-refuses _ _ e)
 
-  pub sector-73 : not_written img t n ≡ false → unknown_status img t n ≡ true → sector_verdict img es t n ≡ Refuses (refusal 73 0)
+  pub sector-73 : not_written img t n ≡ false → unknown_status img t n ≡ true → sector_verdict img es t n ≡ Err (refusal 73 0)
   unfolding sector_verdict
   sector-73 e f = then-rest _ _ ((row-iff (refusal 21 0) Iff.rfl).1 e) ∙ then-refuses _ _ _ (row-refuses _ _ f)
 
@@ -255,7 +254,7 @@ module _ (img : List ℕ) (es : List Entry) (t : Opened) (n : ℕ) where
       otherwise q (inr f) e = pointer-not-21 img es _ _ (subst (Gives 21) (sector-pointer q f) e)
 
   -- a commit passes an entry exactly if it is not written or its sector is good
-  pub address-ok : (other_than_21 (sector_verdict img es t n) ≡ Passes) ↔ ((not_written img t n ≡ true) ⊎ SectorOk img es t n)
+  pub address-ok : (other_than_21 (sector_verdict img es t n) ≡ Ok tt) ↔ ((not_written img t n ≡ true) ⊎ SectorOk img es t n)
   address-ok = Iff.trans (other-than-21 _) (⊎_map gives-21.0 sector-ok.0, ⊎_map gives-21.1 sector-ok.1)
 
 -- the whole of a read's checks, at index offset o
@@ -264,7 +263,7 @@ pub record ReadOk (img : List ℕ) (o : ℕ) (a : ℤ) : Type 0 where
   pub inside : outside (opened img o) a ≡ false
   pub sector : SectorOk img (entries img o) (opened img o) (entry_number (opened img o) a)
 
-pub read_ok : (img : List ℕ) (o : ℕ) (a : ℤ) → (read_verdict img o a ≡ Passes) ↔ ReadOk img o a
+pub read_ok : (img : List ℕ) (o : ℕ) (a : ℤ) → (read_verdict img o a ≡ Ok tt) ↔ ReadOk img o a
 unfolding read_verdict address_verdict
 read_ok img o a =
     facts (then-iff (open-ok img o) (then-iff (row-iff _ Iff.rfl) (sector-ok img (entries img o) (opened img o) (entry_number (opened img o) a))))
@@ -275,11 +274,11 @@ unfoldable pub entry_read : List ℕ → ℕ → ℕ → Answer (List ℕ)
 entry_read img o n = answer (sector_verdict img (entries img o) (opened img o) n) (item_bytes img (pointer_at img (opened img o) n))
 
 module _ (img : List ℕ) (o n : ℕ) where
-  pub entry-21 : not_written img (opened img o) n ≡ true → entry_read img o n ≡ refused (refusal 21 0)
+  pub entry-21 : not_written img (opened img o) n ≡ true → entry_read img o n ≡ Err (refusal 21 0)
   unfolding entry_read
   entry-21 e = answer-refuses _ _ _ (sector-21 img (entries img o) (opened img o) n e)
 
-  pub entry-bytes : SectorOk img (entries img o) (opened img o) n → entry_read img o n ≡ accepted (item_bytes img (pointer_at img (opened img o) n))
+  pub entry-bytes : SectorOk img (entries img o) (opened img o) n → entry_read img o n ≡ Ok (item_bytes img (pointer_at img (opened img o) n))
   unfolding entry_read
   entry-bytes q = answer-passes _ _ ((sector-ok img (entries img o) (opened img o) n).1 q)
 
@@ -288,7 +287,7 @@ module _ (img : List ℕ) (o : ℕ) (k : OpenOk img o) (a : ℤ) where
   unfolding read_verdict
   verdict-opened = then-rest _ _ ((open-ok img o).1 k)
 
-  pub read-20 : outside (opened img o) a ≡ true → read_at img o a ≡ refused (refusal 20 0)
+  pub read-20 : outside (opened img o) a ≡ true → read_at img o a ≡ Err (refusal 20 0)
   unfolding read_at address_verdict
   read-20 h = answer-refuses _ _ _ (verdict-opened ∙ then-refuses _ _ _ (row-refuses _ _ h))
 
@@ -326,7 +325,7 @@ pub created-used : (count : ℕ) → created_used count ≡ 189 + 8 * count
 unfolding created_used
 created-used count = omega (arith, created-index count)
 
-pub create-ok : (buffer : List ℕ) (count : ℕ) (application : List ℕ) → (create_verdict buffer count application ≡ Passes) ↔ CreateOk buffer count application
+pub create-ok : (buffer : List ℕ) (count : ℕ) (application : List ℕ) → (create_verdict buffer count application ≡ Ok tt) ↔ CreateOk buffer count application
 unfolding create_verdict
 create-ok buffer count application =
     facts
@@ -335,7 +334,7 @@ create-ok buffer count application =
     (λ k. (k.long, ((k.some, k.few), (k.sized, rw (created-used count) k.room))))
 
 -- ---- the buffer of a commit or a rollback
-pub buffer-ok : (buffer : List ℕ) (used : ℕ) → (buffer_verdict buffer used ≡ Passes) ↔ BufferOk buffer used
+pub buffer-ok : (buffer : List ℕ) (used : ℕ) → (buffer_verdict buffer used ≡ Ok tt) ↔ BufferOk buffer used
 unfolding buffer_verdict
 buffer-ok buffer used =
     facts (then-iff (row-iff _ below-iff) (row-iff _ below-iff)) (λ (a, b). record { long = a; inside = b }) (λ k. (k.long, k.inside))
@@ -361,7 +360,7 @@ pub rising-iff : (l : List ℤ) → (rising l ≡ true) ↔ Rising l
 rising-iff l = (rising-forth l, rising-back l)
 
 pub arguments-ok : (buffer : List ℕ) (used : ℕ) (addresses : List ℤ) (size : ℕ) (sectors : List ℕ)
-    → (arguments_verdict buffer used addresses size sectors ≡ Passes) ↔ ArgumentsOk buffer used addresses size sectors
+    → (arguments_verdict buffer used addresses size sectors ≡ Ok tt) ↔ ArgumentsOk buffer used addresses size sectors
 unfolding arguments_verdict
 arguments-ok buffer used addresses size sectors =
     facts
@@ -380,7 +379,7 @@ unfolding is_second
 second-iff First = (λ h. refl, λ h. refl)
 second-iff Second = (λ h. absurd (true≢false h), λ h. absurd (first-second (sym h)))
 
-pub writable-ok : (img : List ℕ) (o : ℕ) → (writable_verdict img o ≡ Passes) ↔ WritableOk img o
+pub writable-ok : (img : List ℕ) (o : ℕ) → (writable_verdict img o ≡ Ok tt) ↔ WritableOk img o
 unfolding writable_verdict
 writable-ok img o =
     facts (then-iff (open-ok img o) (row-iff _ (second-iff (opened img o).kind)))
@@ -400,7 +399,7 @@ pub record DiscSound (img : List ℕ) (o : ℕ) (addresses : List ℤ) : Type 0 
   pub sound : Sound img o
   pub inside : any_outside (opened img o) addresses ≡ false
 
-pub disc-ok : (img : List ℕ) (o : ℕ) (addresses : List ℤ) → (disc_verdict img o addresses ≡ Passes) ↔ DiscSound img o addresses
+pub disc-ok : (img : List ℕ) (o : ℕ) (addresses : List ℤ) → (disc_verdict img o addresses ≡ Ok tt) ↔ DiscSound img o addresses
 unfolding disc_verdict sectors_verdict
 disc-ok img o addresses =
     facts
@@ -416,7 +415,7 @@ pub record CommitSound (buffer : List ℕ) (used : ℕ) (addresses : List ℤ) (
   pub room : used_after used new ≤ length buffer
 
 pub commit-ok : (buffer : List ℕ) (used : ℕ) (addresses : List ℤ) (size : ℕ) (sectors : List ℕ) (new : Appended)
-    → (commit_verdict buffer used addresses size sectors new ≡ Passes) ↔ CommitSound buffer used addresses size sectors new
+    → (commit_verdict buffer used addresses size sectors new ≡ Ok tt) ↔ CommitSound buffer used addresses size sectors new
 unfolding commit_verdict
 commit-ok buffer used addresses size sectors new =
     facts
@@ -429,7 +428,7 @@ pub record RollbackSound (buffer : List ℕ) (used offset : ℕ) : Type 0 where
   pub buffer_ok : BufferOk buffer used
   pub writable : WritableOk (take used buffer) offset
 
-pub rollback-ok : (buffer : List ℕ) (used offset : ℕ) → (rollback_verdict buffer used offset ≡ Passes) ↔ RollbackSound buffer used offset
+pub rollback-ok : (buffer : List ℕ) (used offset : ℕ) → (rollback_verdict buffer used offset ≡ Ok tt) ↔ RollbackSound buffer used offset
 unfolding rollback_verdict
 rollback-ok buffer used offset =
     facts (then-iff (buffer-ok buffer used) (writable-ok (take used buffer) offset))

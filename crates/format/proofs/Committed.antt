@@ -9,13 +9,13 @@ use native.Mathlib.Omega.{arith}
 use lib.ListN.{length, take, get_or, length-take}
 use lib.IntN.{ℤ, pos}
 use lib.Seq.{length-take-le}
+use Rattle.std.specs.Prelude.{Ok}
 use Rattle.fields.specs.Bytes.{overwrite}
 use Rattle.fields.proofs.Overwrite.{length-overwrite}
 use Rattle.fields.proofs.Holds.{Holds}
 use Rattle.format.specs.declared.Entry.{Entry}
 use Rattle.format.specs.declared.Placed.{Placed}
 use Rattle.format.specs.Lists.{IsBytes}
-use Rattle.format.specs.Refusals.{accepted}
 use Rattle.format.specs.Layouts.{header_length, index_offset, entries}
 use Rattle.format.specs.Opening.{opened}
 use Rattle.format.specs.Reading.{outside, entry_number, read_at, read}
@@ -153,7 +153,7 @@ module _ (buffer : List ℕ) (is_bytes : IsBytes buffer) (used : ℕ) (addresses
             reads-inside a f
             ∙ ap (λ (v : Option (List ℕ)). handed_or v (read_at x o a))
             (ap (given numbers ds) (sym (number_at (opened x o) addresses j h)) ∙ given-named [] numbers ds j rise l (omega arith))
-            ∙ ap accepted (get_or-pieces (length numbers) size sectors j l);
+            ∙ ap Ok (get_or-pieces (length numbers) size sectors j l);
         others = λ a h.
             ⊎_elim
             (λ e. read-20 y i disc.sound.opens a (outside-y a ∙ e) ∙ sym (read-20 x o s.opens a e))
@@ -186,7 +186,7 @@ module _ (buffer : List ℕ) (is_bytes : IsBytes buffer) (used : ℕ) (addresses
       }
 
 pub commit-accepted : (buffer : List ℕ) → IsBytes buffer → (used : ℕ) (addresses : List ℤ) (size : ℕ) (sectors : List ℕ) (time : ℕ) (p : Placed)
-    → (commit buffer used addresses size sectors time).result ≡ accepted p
+    → (commit buffer used addresses size sectors time).result ≡ Ok p
     → Committed buffer used addresses size sectors p (commit buffer used addresses size sectors time).buffer
 unfolding commit append
 commit-accepted buffer b used addresses size sectors time p e =

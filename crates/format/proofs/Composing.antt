@@ -10,15 +10,14 @@ use native.Mathlib.Nat.{zero-add}
 use native.Mathlib.Omega.{arith}
 use lib.ListN.{length, take, get_or, length-append, length-map}
 use lib.IntN.{ℤ, pos, +ℤ_idr}
+use Rattle.std.specs.Prelude.{Ok, Err}
 use Rattle.fields.specs.Bytes.{part, overwrite}
 use Rattle.fields.proofs.Overwrite.{length-overwrite, overwrite-then, part_same}
 use Rattle.fields.proofs.Holds.{Holds}
 use Rattle.format.specs.declared.Placed.{Placed}
-use Rattle.format.specs.declared.Verdict.{Verdict}
-use Rattle.format.specs.declared.Verdict.TheVariants.{Passes, Refuses}
 use Rattle.format.specs.Tests.{below, less_than, ◌and◌}
 use Rattle.format.specs.Lists.{All, done, more, IsBytes}
-use Rattle.format.specs.Refusals.{refusal, row, ◌then◌, accepted, answer}
+use Rattle.format.specs.Refusals.{refusal, row, ◌then◌, answer, Verdict}
 use Rattle.format.specs.Layouts.{header_length, application_length, index_offset, entries}
 use Rattle.format.specs.Opening.{Opened, opened}
 use Rattle.format.specs.Reading.{displaced, outside, entry_number, read_at, read}
@@ -68,16 +67,16 @@ module _ (t : Opened) (flat : t.negative ≡ 0) where
 -- a call whose refusal leaves another buffer
 leaves-outcome : (buffer other : List ℕ) (v : Verdict) (p : Placed) (new : List ℕ) → or_leaves buffer (outcome other v p new).result (outcome other v p new).buffer ≡ outcome buffer v p new
 unfolding or_leaves outcome
-leaves-outcome buffer other Passes p new = refl
-leaves-outcome buffer other (Refuses r) p new = refl
+leaves-outcome buffer other (Ok tt) p new = refl
+leaves-outcome buffer other (Err r) p new = refl
 
 -- the next one, which is made where the checks before it pass
-pub checked-then : {A : Type 0} (buffer : List ℕ) (v w : Verdict) (a : A) (call : A → Outcome Placed) (p : Placed) (new : List ℕ) → (v ≡ Passes → call a ≡ outcome buffer w p new)
+pub checked-then : {A : Type 0} (buffer : List ℕ) (v w : Verdict) (a : A) (call : A → Outcome Placed) (p : Placed) (new : List ℕ) → (v ≡ Ok tt → call a ≡ outcome buffer w p new)
     → and_then buffer (answer v a) call ≡ outcome buffer (v then w) p new
 unfolding and_then answer ◌then◌ outcome
-checked-then buffer Passes w a call p new h =
+checked-then buffer (Ok tt) w a call p new h =
     ap (λ (o : Outcome Placed). or_leaves buffer o.result o.buffer) (h refl) ∙ leaves-outcome buffer buffer w p new
-checked-then buffer (Refuses r) w a call p new h = refl
+checked-then buffer (Err r) w a call p new h = refl
 
 -- ---- the new image
 -- of a creation's checks 35 is the last
@@ -227,7 +226,7 @@ module _ (buffer : List ℕ) (count : ℕ) (numbers : List ℕ) (size : ℕ) (se
       length-begun : length begun ≡ length buffer
       length-begun = length-overwrite buffer 0 new
 
-      one-is : one ≡ record { result = accepted (placed (created_used count) (created_index_at count)); buffer = begun }
+      one-is : one ≡ record { result = Ok (placed (created_used count) (created_index_at count)); buffer = begun }
       unfolding create
       one-is =
           outcome-passes buffer _ _ _
@@ -279,9 +278,9 @@ module _ (buffer : List ℕ) (count : ℕ) (numbers : List ℕ) (size : ℕ) (se
     full_is : length buffer < created_used count → composed ≡ outcome buffer room_verdict (placed composed_used composed_index) composed_buffer
     unfolding and_then create outcome
     full_is f =
-        let v : create_verdict buffer count application ≡ Refuses (refusal 35 0) =
+        let v : create_verdict buffer count application ≡ Err (refusal 35 0) =
         create-last buffer count application k.long k.counted k.most k.sized ∙ row-refuses _ _ (below_true _ _ f) in
-        let w : room_verdict ≡ Refuses (refusal 35 0) = row-refuses _ _ (below_true _ _ (omega (arith, composed-past))) in
+        let w : room_verdict ≡ Err (refusal 35 0) = row-refuses _ _ (below_true _ _ (omega (arith, composed-past))) in
         rw (v, w) refl
 
     pub composed-is : composed ≡ outcome buffer room_verdict (placed composed_used composed_index) composed_buffer
@@ -292,7 +291,7 @@ module _ (buffer : List ℕ) (count : ℕ) (numbers : List ℕ) (size : ℕ) (se
       pub committed : Committed (overwrite buffer 0 new) (created_used count) (map pos numbers) size sectors (placed composed_used composed_index) composed_buffer
       committed =
           let room : created_used count ≤ length buffer = omega (arith, composed-past) in
-          let e : commit (overwrite buffer 0 new) (created_used count) (map pos numbers) size sectors lastWrittenTime ≡ record { result = accepted (placed composed_used composed_index); buffer = composed_buffer } =
+          let e : commit (overwrite buffer 0 new) (created_used count) (map pos numbers) size sectors lastWrittenTime ≡ record { result = Ok (placed composed_used composed_index); buffer = composed_buffer } =
           two_is room ∙ outcome-passes (overwrite buffer 0 new) _ _ _ ((row-iff (refusal 35 0) below-iff).1 fits) in
           subst (Committed (overwrite buffer 0 new) (created_used count) (map pos numbers) size sectors (placed composed_used composed_index)) (ap (λ (w : Outcome Placed). w.buffer) e)
           (commit-accepted (overwrite buffer 0 new)

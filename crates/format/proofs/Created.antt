@@ -8,6 +8,7 @@ use native.Mathlib.Omega.{arith}
 use lib.Dec.{lit<, lit≤}
 use lib.ListN.{length, take, replicate, length-replicate, length-append}
 use lib.IntN.{pos, +ℤ_idl, +ℤ_idr}
+use Rattle.std.specs.Prelude.{Ok}
 use Rattle.fields.specs.Bytes.{part, from_le, to_le, field, overwrite}
 use Rattle.fields.proofs.Overwrite.{length-overwrite}
 use Rattle.fields.proofs.Numbers.{length-to_le}
@@ -15,7 +16,6 @@ use Rattle.fields.proofs.Holds.{Holds, holds-take, holds-overwrite, holds-part, 
 use Rattle.fields.proofs.Records.{holds-nth, holds-num, holds-raw}
 use Rattle.format.specs.declared.Placed.{Placed}
 use Rattle.format.specs.Lists.{All, done, more, IsBytes}
-use Rattle.format.specs.Refusals.{accepted}
 use Rattle.format.specs.Layouts.{AARUFRMT, DDT*, tag, header_length, application_length, image_major_at, index_offset_at, index_offset, entries, header_bytes, index_bytes, table_bytes, table_header_length, table_entry_length}
 use Rattle.format.specs.Opening.{offsets_with, is_table, Opened, opened, range_of, sector_count}
 use Rattle.format.specs.Reading.{displaced, table_entry, unwritten, not_written, read}
@@ -162,9 +162,9 @@ module _ (count : ℕ) (application : List ℕ) (major minor mediaType creationT
     open-new : OpenOk y (index_offset y)
     open-new = rw created-offset opens.ok
 
-    sectors-new : sector_count y ≡ accepted (record { count = count; lowest = record { 0 = pos 0 } })
+    sectors-new : sector_count y ≡ Ok (record { count = count; lowest = record { 0 = pos 0 } })
     unfolding sector_count range_of
-    sectors-new = answer-passes _ _ ((open-ok y _).1 open-new) ∙ ap (λ (t : Opened). accepted (range_of t)) opened-new
+    sectors-new = answer-passes _ _ ((open-ok y _).1 open-new) ∙ ap (λ (t : Opened). Ok (range_of t)) opened-new
 
     pub fresh : FreshDisc y count
     unfolding read displaced
@@ -204,7 +204,7 @@ module _ (buffer : List ℕ) (count : ℕ) (application : List ℕ) (major minor
 
 pub create-accepted : (buffer : List ℕ) → IsBytes buffer → (count : ℕ) (application : List ℕ) → IsBytes application
     → (major minor mediaType creationTime lastWrittenTime : ℕ) (p : Placed)
-    → (create buffer count application major minor mediaType creationTime lastWrittenTime).result ≡ accepted p
+    → (create buffer count application major minor mediaType creationTime lastWrittenTime).result ≡ Ok p
     → Started p (create buffer count application major minor mediaType creationTime lastWrittenTime).buffer
 unfolding create
 create-accepted buffer b count application ba major minor mediaType creationTime lastWrittenTime p e =

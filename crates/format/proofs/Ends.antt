@@ -8,6 +8,7 @@ use Prim.Native.Nat.{ℕ, suc, ◌+◌, ◌-◌, ◌*◌}
 use native.Mathlib.Omega.{arith}
 use lib.ListN.{length}
 use lib.IntN.{ℤ, pos, neg_ℤ, ◌+ℤ◌}
+use Rattle.std.specs.Prelude.{Ok}
 use Rattle.fields.specs.Bytes.{equal}
 use Rattle.fields.proofs.Equal.{equal-refl}
 use Rattle.format.specs.declared.Entry.{Entry}
@@ -15,7 +16,6 @@ use Rattle.format.specs.declared.Placed.{Placed}
 use Rattle.format.specs.declared.Pointer.{Pointer}
 use Rattle.format.specs.declared.TableKind.TheVariants.{First}
 use Rattle.format.specs.Lists.{All}
-use Rattle.format.specs.Refusals.{accepted}
 use Rattle.format.specs.Layouts.{DBLK, index_offset, entries, user_data_entry, block_header_length, table_header_length, table_entry_length, table_count}
 use Rattle.format.specs.Opening.{Opened, opened_as, opened}
 use Rattle.format.specs.Reading.{entry_number, pointer_of, read_at, read}
@@ -53,7 +53,7 @@ module _ (img : List ℕ) (s : Sound img (index_offset img)) where
       record {
         address = a;
         reads =
-            read-numbered img (index_offset img) s.opens a n m ∙ entry-bytes img (index_offset img) n good ∙ ap accepted f.bytes;
+            read-numbered img (index_offset img) s.opens a n m ∙ entry-bytes img (index_offset img) n good ∙ ap Ok f.bytes;
       }
 
   disc-none : (d : List ℕ) → on_disc img t d ≡ none → ¬ Held img d

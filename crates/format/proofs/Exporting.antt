@@ -8,15 +8,14 @@ use native.Mathlib.Nat.{zero-add, mul-le-mul_right, suc-mul, eq-or-lt_of_le}
 use native.Mathlib.Omega.{arith}
 use lib.ListN.{length, take, get_or, length-replicate}
 use lib.IntN.{ℤ, pos, negsuc, ◌+ℤ◌}
+use Rattle.std.specs.Prelude.{Ok, Err}
 use Rattle.fields.specs.Bytes.{part, overwrite}
 use Rattle.fields.proofs.Overwrite.{length_part, part_same, part-whole}
 use Rattle.format.specs.declared.AddressRange.{AddressRange}
 use Rattle.format.specs.declared.Flat.{Flat}
-use Rattle.format.specs.declared.Verdict.{Verdict}
-use Rattle.format.specs.declared.Verdict.TheVariants.{Passes, Refuses}
 use Rattle.format.specs.Tests.{below}
 use Rattle.format.specs.Lists.{All, of_each, Counts}
-use Rattle.format.specs.Refusals.{refusal, ◌then◌, first_refusal, Answer, refused, accepted}
+use Rattle.format.specs.Refusals.{refusal, ◌then◌, first_refusal, Answer, Verdict}
 use Rattle.format.specs.Layouts.{index_offset, entries}
 use Rattle.format.specs.Opening.{Opened, opened, open_verdict, range_of, sector_count}
 use Rattle.format.specs.Reading.{displaced, not_written, pointer_at, place_of, item_bytes, sector_verdict, read_at, read}
@@ -37,7 +36,7 @@ use Rattle.format.proofs.Buffers.{outcome-accepted, outcome-passes}
 abbrev pub SizeOk : List ℕ → Opened → ℕ → Type 0
 SizeOk img t n = (not_written img t n ≡ true) ⊎ (size_at img t n ≡ flat_size img t)
 
-pub size_ok : (img : List ℕ) (t : Opened) (n : ℕ) → (size_verdict img t n ≡ Passes) ↔ SizeOk img t n
+pub size_ok : (img : List ℕ) (t : Opened) (n : ℕ) → (size_verdict img t n ≡ Ok tt) ↔ SizeOk img t n
 unfolding size_verdict
 size_ok img t n = row-iff _ (and-iff not_iff differs-iff)
 
@@ -45,7 +44,7 @@ pub record FileOk (img : List ℕ) (t : Opened) (out : List ℕ) : Type 0 where
   pub sizes : (n : ℕ) → n < t.count → SizeOk img t n
   pub room : length (flat_file img t) ≤ length out
 
-file-ok : (img : List ℕ) (t : Opened) (out : List ℕ) → (file_verdict img t out ≡ Passes) ↔ FileOk img t out
+file-ok : (img : List ℕ) (t : Opened) (out : List ℕ) → (file_verdict img t out ≡ Ok tt) ↔ FileOk img t out
 unfolding file_verdict
 file-ok img t out =
     facts (then-iff (first_refusal-iff t.count _ 0 (omega arith) (λ n h. size_ok img t n)) (row-iff _ below-iff))
@@ -56,7 +55,7 @@ pub record ExactSound (img : List ℕ) (o : ℕ) (out : List ℕ) : Type 0 where
   pub sectors : (n : ℕ) → n < (opened img o).count → SectorOk img (entries img o) (opened img o) n
   pub file : FileOk img (opened img o) out
 
-pub exact-ok : (img : List ℕ) (o : ℕ) (out : List ℕ) → (exact_verdict img o out ≡ Passes) ↔ ExactSound img o out
+pub exact-ok : (img : List ℕ) (o : ℕ) (out : List ℕ) → (exact_verdict img o out ≡ Ok tt) ↔ ExactSound img o out
 unfolding exact_verdict
 exact-ok img o out =
     let t : Opened = opened img o in
@@ -70,7 +69,7 @@ pub record ExportSound (img : List ℕ) (o : ℕ) (out : List ℕ) : Type 0 wher
   pub some : ((opened img o).count ≡ 0) ⊎ (gap_count img (opened img o) ≢ (opened img o).count)
   pub file : FileOk img (opened img o) out
 
-pub export_ok : (img : List ℕ) (o : ℕ) (out : List ℕ) → (export_verdict img o out ≡ Passes) ↔ ExportSound img o out
+pub export_ok : (img : List ℕ) (o : ℕ) (out : List ℕ) → (export_verdict img o out ≡ Ok tt) ↔ ExportSound img o out
 unfolding export_verdict sectors_verdict
 export_ok img o out =
     let t : Opened = opened img o in
@@ -93,9 +92,9 @@ module _ (img : List ℕ) (o n : ℕ) where
   sector-length k = length_part img _ _ (omega (arith, item-inside _ _ _ k.item, k.item.block.fits))
 
   -- where it is good, its piece is what a read gives
-  piece-read : SectorOk img (entries img o) (opened img o) n → entry_read img o n ≡ accepted (piece_at img (opened img o) n)
+  piece-read : SectorOk img (entries img o) (opened img o) n → entry_read img o n ≡ Ok (piece_at img (opened img o) n)
   unfolding piece_at
-  piece-read k = entry-bytes img o n k ∙ ap accepted (sym (choose-false _ _ _ k.written))
+  piece-read k = entry-bytes img o n k ∙ ap Ok (sym (choose-false _ _ _ k.written))
 
   -- its address, from the lowest on
   address-numbered : n < (opened img o).count → Numbered (opened img o) ((range_of (opened img o)).lowest.0 +ℤ pos n) n
@@ -176,7 +175,7 @@ front file out h = part_same out 0 (length file) file refl (omega arith)
 flat-forth : (img out : List ℕ) → ExactSound img (index_offset img) out
     → FlatFile img (flat_file img (opened img (index_offset img))) (flat_size img (opened img (index_offset img)))
 flat-forth img out k =
-    flat-by (λ answer piece. answer ≡ accepted piece) img k.opens (λ n h. inr (k.sectors n h)) k.file.sizes (λ n h. piece-read img _ n (k.sectors n h))
+    flat-by (λ answer piece. answer ≡ Ok piece) img k.opens (λ n h. inr (k.sectors n h)) k.file.sizes (λ n h. piece-read img _ n (k.sectors n h))
 
 pub flat-exporting : FlatExporting
 unfolding export_exact
@@ -187,7 +186,7 @@ flat-exporting img out n e =
     rw (r.buffer, ← r.answer) (record { size = flat_size img (opened img (index_offset img)); file = rw is (flat-forth img out k) })
 
 -- ---- an image that opens, by its count and its lowest address
-module _ (img : List ℕ) (range : AddressRange) (e : sector_count img ≡ accepted range) where
+module _ (img : List ℕ) (range : AddressRange) (e : sector_count img ≡ Ok range) where
   pub range-opens : OpenOk img (index_offset img)
   unfolding sector_count
   range-opens = (open-ok img _).0 (answer-accepted _ _ range e).0
@@ -222,7 +221,7 @@ module _ (img file : List ℕ) (size : ℕ) (f : FlatFile img file size) where
   inside : (n : ℕ) → n < u.count → n * size + size ≤ length file
   inside n h = rw f.whole (rw (← suc-mul n size) (mul-le-mul_right size (omega (arith, count-is))))
 
-  entry-is : (n : ℕ) → n < u.count → entry_read img o n ≡ accepted (part file (n * size) size)
+  entry-is : (n : ℕ) → n < u.count → entry_read img o n ≡ Ok (part file (n * size) size)
   entry-is n h = range-read img f.range f.sectors n h ∙ f.each n (omega (arith, count-is))
 
   sector-is : (n : ℕ) → n < u.count → SectorOk img (entries img o) u n × (item_bytes img (pointer_at img u n) ≡ part file (n * size) size)
@@ -250,12 +249,12 @@ module _ (img file : List ℕ) (size : ℕ) (f : FlatFile img file size) where
       (λ n h. ap (piece_at img u) (zero-add n) ∙ piece_is n (omega arith) ∙ sym (get_or-pieces u.count size file n (omega arith))))
       ∙ flatten-pieces u.count size file ∙ ap (λ k. take k file) (ap (λ k. k * size) count-is ∙ sym f.whole) ∙ part-whole file
 
-  pub flat_back : (out : List ℕ) → length file ≤ length out → export_exact img out ≡ record { result = accepted (length file); buffer = overwrite out 0 file }
+  pub flat_back : (out : List ℕ) → length file ≤ length out → export_exact img out ≡ record { result = Ok (length file); buffer = overwrite out 0 file }
   unfolding export_exact
   flat_back out room =
       outcome-passes out _ _ _
       ((exact-ok img o out).1 (record { opens = opens; sectors = λ n h. (sector-is n h).0; file = record { sizes = sized; room = rw file-is room } }))
-      ∙ ap (λ (l : List ℕ). record { result = accepted (length l); buffer = overwrite out 0 l }) file-is
+      ∙ ap (λ (l : List ℕ). record { result = Ok (length l); buffer = overwrite out 0 l }) file-is
 
   -- its sectors are not empty
   pub flat-sized : 0 < f.range.count → size ≢ 0
@@ -267,11 +266,11 @@ module _ (img file : List ℕ) (size : ℕ) (f : FlatFile img file size) where
   unfolding range_of
   displaced-is d = ap (λ (r : AddressRange). displaced u (r.lowest.0 +ℤ d)) (sym (range-is img f.range f.sectors)) ∙ address-displaced u _ d refl
 
-  flat-past : (n : ℕ) → f.range.count ≤ n → read img (f.range.lowest.0 +ℤ pos n) ≡ refused (refusal 20 0)
+  flat-past : (n : ℕ) → f.range.count ≤ n → read img (f.range.lowest.0 +ℤ pos n) ≡ Err (refusal 20 0)
   unfolding read
   flat-past n h = read-20 img o opens _ (past-outside u _ n (displaced-is (pos n)) (rw count-is h))
 
-  flat-below : (n : ℕ) → read img (f.range.lowest.0 +ℤ negsuc n) ≡ refused (refusal 20 0)
+  flat-below : (n : ℕ) → read img (f.range.lowest.0 +ℤ negsuc n) ≡ Err (refusal 20 0)
   unfolding read
   flat-below n = read-20 img o opens _ (below-outside u _ n (displaced-is (negsuc n)))
 
@@ -322,13 +321,13 @@ module _ (img out : List ℕ) (no : (a : ℤ) → ¬ Missing (read img a)) where
   abbrev v : Opened
   v = opened img i
 
-  all-written : open_verdict img i ≡ Passes → (n : ℕ) → n < v.count → not_written img v n ≡ false
+  all-written : open_verdict img i ≡ Ok tt → (n : ℕ) → n < v.count → not_written img v n ≡ false
   unfolding read
   all-written p n h =
       ⊎_elim (λ e. absurd (no _ (read-numbered img i ((open-ok img i).0 p) _ n (address-numbered img i n h) ∙ entry-21 img i n e))) (λ e. e)
       (on-or-off (not_written img v n))
 
-  no_gaps : open_verdict img i ≡ Passes → gap_count img v ≡ 0
+  no_gaps : open_verdict img i ≡ Ok tt → gap_count img v ≡ 0
   unfolding gap_count
   no_gaps p = how_many-none _ _ 0 (λ n l h. all-written p n (omega arith))
 
@@ -336,7 +335,7 @@ module _ (img out : List ℕ) (no : (a : ℤ) → ¬ Missing (read img a)) where
   unfolding export_verdict exact_verdict sectors_verdict
   same-verdict = ⊎_elim opens (λ p. then-stays _ _ p ∙ sym (then-stays _ _ p)) (passes-or (open_verdict img i))
     where
-      opens : open_verdict img i ≡ Passes → export_verdict img i out ≡ exact_verdict img i out
+      opens : open_verdict img i ≡ Ok tt → export_verdict img i out ≡ exact_verdict img i out
       opens p =
           let all : Verdict = first_refusal (sector_verdict img (entries img i) v) v.count 0 in
           let sectors : sectors_verdict img (entries img i) v ≡ all =
@@ -347,11 +346,11 @@ module _ (img out : List ℕ) (no : (a : ℤ) → ¬ Missing (read img a)) where
           ((row-iff (refusal 21 0) (and-iff differs-iff same-iff)).1
           (⊎_elim (λ z. inl (sym z)) (λ z. inr (λ q. omega (arith, no_gaps p))) (eq-or-lt_of_le (omega arith))))))
 
-none_filled_lem : (out : List ℕ) (v : Verdict) (n filled : ℕ) (new : List ℕ) → (v ≡ Passes → filled ≡ 0)
+none_filled_lem : (out : List ℕ) (v : Verdict) (n filled : ℕ) (new : List ℕ) → (v ≡ Ok tt → filled ≡ 0)
     → outcome out v (flat n filled) new ≡ record { result = none_filled (outcome out v n new).result; buffer = (outcome out v n new).buffer }
 unfolding outcome none_filled
-none_filled_lem out Passes n filled new h = rw (h refl) refl
-none_filled_lem out (Refuses r) n filled new h = refl
+none_filled_lem out (Ok tt) n filled new h = rw (h refl) refl
+none_filled_lem out (Err r) n filled new h = refl
 
 pub rules-agree : RulesAgree
 unfolding export export_exact

@@ -8,13 +8,13 @@ use native.Mathlib.Nat.{pos_of_ne-zero, eq-or-lt_of_le}
 use native.Mathlib.Omega.{arith}
 use lib.ListN.{length, take, get_or, length-map}
 use lib.IntN.{ℤ, pos, neg_ℤ, nat_abs, +ℤ_idl}
+use Rattle.std.specs.Prelude.{Ok, Err}
 use Rattle.fields.specs.Bytes.{part, overwrite}
 use Rattle.format.specs.declared.Placed.{Placed}
 use Rattle.format.specs.declared.Refusal.{Refusal}
 use Rattle.format.specs.declared.TableKind.TheVariants.{First}
-use Rattle.format.specs.declared.Verdict.TheVariants.{Passes, Refuses}
 use Rattle.format.specs.Lists.{All, done, more, IsBytes}
-use Rattle.format.specs.Refusals.{refusal, Answer, refused, accepted}
+use Rattle.format.specs.Refusals.{refusal, Answer}
 use Rattle.format.specs.Layouts.{index_offset, table_count}
 use Rattle.format.specs.Opening.{Opened, opened_as, opened, range_of, sector_count}
 use Rattle.format.specs.Reading.{outside, entry_number, read_at, read}
@@ -53,36 +53,36 @@ found-later f = record { at = suc f.at; inside = omega (arith, f.inside); number
 
 found-with : (m : ℕ) (x : Answer (List ℕ)) (ws : List Written) (n : ℕ) (d : List ℕ) → Found ws n d → Found (with_sector m x ws) n d
 unfolding with_sector
-found-with m (accepted c) ws n d f = found-later f
-found-with m (refused r) ws n d f = f
+found-with m (Ok c) ws n d f = found-later f
+found-with m (Err r) ws n d f = f
 
-found_here : (n : ℕ) (x : Answer (List ℕ)) (ws : List Written) (d : List ℕ) → x ≡ accepted d → Found (with_sector n x ws) n d
+found_here : (n : ℕ) (x : Answer (List ℕ)) (ws : List Written) (d : List ℕ) → x ≡ Ok d → Found (with_sector n x ws) n d
 unfolding with_sector
-found_here n (accepted c) ws d e = record { at = 0; inside = omega arith; number = refl; sector = cc }
-found_here n (refused r) ws d e = let z : ◌≡◌ {A = ℕ} 0 1 = cc in absurd (omega arith)
+found_here n (Ok c) ws d e = record { at = 0; inside = omega arith; number = refl; sector = cc }
+found_here n (Err r) ws d e = let z : ◌≡◌ {A = ℕ} 0 1 = cc in absurd (omega arith)
 
 -- an address that is refused is none of them
-others-with : (m : ℕ) (x : Answer (List ℕ)) (ws : List Written) (n : ℕ) → (m ≡ n → (d : List ℕ) → x ≢ accepted d) → All (λ (i : ℕ). i ≢ n) (number_list ws)
+others-with : (m : ℕ) (x : Answer (List ℕ)) (ws : List Written) (n : ℕ) → (m ≡ n → (d : List ℕ) → x ≢ Ok d) → All (λ (i : ℕ). i ≢ n) (number_list ws)
     → All (λ (i : ℕ). i ≢ n) (number_list (with_sector m x ws))
 unfolding with_sector
-others-with m (accepted d) ws n f h = more (λ e. f e d refl) h
-others-with m (refused r) ws n f h = h
+others-with m (Ok d) ws n f h = more (λ e. f e d refl) h
+others-with m (Err r) ws n f h = h
 
 module _ (disc : ℕ → Answer (List ℕ)) where
-  found : (k i n : ℕ) (d : List ℕ) → i ≤ n → n < i + k → disc n ≡ accepted d → Found (written_from disc k i) n d
+  found : (k i n : ℕ) (d : List ℕ) → i ≤ n → n < i + k → disc n ≡ Ok d → Found (written_from disc k i) n d
   unfolding written_from
   found zero i n d l h e = absurd (omega arith)
   found (suc k) i n d l h e =
       ⊎_elim (λ q. subst (λ m. Found (with_sector i (disc i) (written_from disc k (suc i))) m d) q (found_here i (disc i) _ d (ap disc q ∙ e)))
       (λ m. found-with i (disc i) _ n d (found k (suc i) n d m (omega arith) e)) (eq-or-lt_of_le l)
 
-  others : (k i n : ℕ) → ((d : List ℕ) → disc n ≢ accepted d) → All (λ (m : ℕ). m ≢ n) (number_list (written_from disc k i))
+  others : (k i n : ℕ) → ((d : List ℕ) → disc n ≢ Ok d) → All (λ (m : ℕ). m ≢ n) (number_list (written_from disc k i))
   unfolding written_from
   others zero i n h = done
   others (suc k) i n h = others-with i (disc i) _ n (λ e d q. h d (ap disc (sym e) ∙ q)) (others k (suc i) n h)
 
 -- ---- the pair's answers, where they pass
-not-accepted : {A : Type 0} {a : A} {r : Refusal} → refused r ≢ accepted a
+not-accepted : {A : Type 0} {a : A} {r : Refusal} → Err r ≢ Ok a
 not-accepted e = let z : ◌≡◌ {A = ℕ} 0 1 = cc in absurd (omega arith)
 
 -- 21 has no place
@@ -91,34 +91,34 @@ refused-as-21 child parent a r (by_child e n) z = absurd (n z)
 refused-as-21 child parent a _ (by_neither m k) z = refl
 refused-as-21 child parent a _ (by_parent m e c d) z = absurd (omega arith)
 
-other-kept : (r : Refusal) → r.number ≢ 21 → other_than_21 (Refuses r) ≡ Refuses r
+other-kept : (r : Refusal) → r.number ≢ 21 → other_than_21 (Err r) ≡ Err r
 unfolding other_than_21
 other-kept r n = choose-false _ _ _ (same-iff.1 n)
 
-passes-21 : (x : Answer (List ℕ)) → ((r : Refusal) → x ≡ refused r → r.number ≡ 21) → other_than_21 (verdict_of x) ≡ Passes
+passes-21 : (x : Answer (List ℕ)) → ((r : Refusal) → x ≡ Err r → r.number ≡ 21) → other_than_21 (verdict_of x) ≡ Ok tt
 unfolding other_than_21 verdict_of
-passes-21 (accepted d) h = refl
-passes-21 (refused r) h = choose-true _ _ _ (same_true _ _ (h r refl))
+passes-21 (Ok d) h = refl
+passes-21 (Err r) h = choose-true _ _ _ (same_true _ _ (h r refl))
 
-pair-21 : (child parent : List ℕ) (n : ℕ) (r : Refusal) → other_than_21 (verdict_of (pair_at child parent n)) ≡ Passes → pair_at child parent n ≡ refused r → Missing (pair_at child parent n)
+pair-21 : (child parent : List ℕ) (n : ℕ) (r : Refusal) → other_than_21 (verdict_of (pair_at child parent n)) ≡ Ok tt → pair_at child parent n ≡ Err r → Missing (pair_at child parent n)
 unfolding pair_at verdict_of
 pair-21 child parent n r k e =
-    e ∙ ap refused (refused-as-21 child parent (pos n) r ((over-refused child parent (pos n) r).0 e) (only-21 r (subst (λ (x : Answer (List ℕ)). other_than_21 (verdict_of x) ≡ Passes) e k)))
+    e ∙ ap Err (refused-as-21 child parent (pos n) r ((over-refused child parent (pos n) r).0 e) (only-21 r (subst (λ (x : Answer (List ℕ)). other_than_21 (verdict_of x) ≡ Ok tt) e k)))
 
 -- ---- the pair has a sector at each address or none: by its answers
 module _ (child parent : List ℕ) (size : ℕ) where
   abbrev Passing : ℕ → ℕ → Type 0
-  Passing k n = (m : ℕ) → n ≤ m → m < n + k → other_than_21 (verdict_of (pair_at child parent m)) ≡ Passes
+  Passing k n = (m : ℕ) → n ≤ m → m < n + k → other_than_21 (verdict_of (pair_at child parent m)) ≡ Ok tt
 
   abbrev from : ℕ → ℕ → List Written
   from k n = written_from (pair_at child parent) k n
 
-  has-with : (k n : ℕ) (x : Answer (List ℕ)) → pair_at child parent n ≡ x → other_than_21 (verdict_of (pair_at child parent n)) ≡ Passes
+  has-with : (k n : ℕ) (x : Answer (List ℕ)) → pair_at child parent n ≡ x → other_than_21 (verdict_of (pair_at child parent n)) ≡ Ok tt
       → (All (Sized size) (sector_list (from k (suc n))) → PairHas child parent size k (suc n) (sector_list (from k (suc n))))
       → All (Sized size) (sector_list (with_sector n x (from k (suc n)))) → PairHas child parent size (suc k) n (sector_list (with_sector n x (from k (suc n))))
   unfolding with_sector pair_at
-  has-with k n (accepted d) e p rest h = sector e (all_head h) (rest (all_tail h))
-  has-with k n (refused r) e p rest h = gap (pair-21 child parent n r p e) (rest h)
+  has-with k n (Ok d) e p rest h = sector e (all_head h) (rest (all_tail h))
+  has-with k n (Err r) e p rest h = gap (pair-21 child parent n r p e) (rest h)
 
   has-forth : (k n : ℕ) → Passing k n → All (Sized size) (sector_list (from k n)) → PairHas child parent size k n (sector_list (from k n))
   unfolding written_from
@@ -141,10 +141,10 @@ module _ (child parent : List ℕ) (size : ℕ) where
   unfolding verdict_of other_than_21 pair_at
   has-passes _ n _ finished m l q = absurd (omega arith)
   has-passes _ n _ (gap {k = k} {ds = ds} e h) m l q =
-      ⊎_elim (λ i. subst (λ j. other_than_21 (verdict_of (pair_at child parent j)) ≡ Passes) i (ap (λ (x : Answer (List ℕ)). other_than_21 (verdict_of x)) e ∙ choose-true _ _ _ (same_true 21 21 refl)))
+      ⊎_elim (λ i. subst (λ j. other_than_21 (verdict_of (pair_at child parent j)) ≡ Ok tt) i (ap (λ (x : Answer (List ℕ)). other_than_21 (verdict_of x)) e ∙ choose-true _ _ _ (same_true 21 21 refl)))
       (λ i. has-passes k (suc n) ds h m i (omega arith)) (eq-or-lt_of_le l)
   has-passes _ n _ (sector {k = k} {ds = ds} e s h) m l q =
-      ⊎_elim (λ i. subst (λ j. other_than_21 (verdict_of (pair_at child parent j)) ≡ Passes) i (ap (λ (x : Answer (List ℕ)). other_than_21 (verdict_of x)) e))
+      ⊎_elim (λ i. subst (λ j. other_than_21 (verdict_of (pair_at child parent j)) ≡ Ok tt) i (ap (λ (x : Answer (List ℕ)). other_than_21 (verdict_of x)) e))
       (λ i. has-passes k (suc n) ds h m i (omega arith)) (eq-or-lt_of_le l)
 
 -- ---- the disc that is left
@@ -159,20 +159,20 @@ module _ (buffer child parent application : List ℕ) (major minor mediaType cre
   apart a h n l e = never h (ap (outside t) e ∙ number-inside t (pos n) n (numbered t lowest n l))
 
   -- what is outside the child's table is refused with 20
-  pair-20 : (a : ℤ) → outside t a ≡ true → read_over child parent a ≡ refused (refusal 20 0)
+  pair-20 : (a : ℤ) → outside t a ≡ true → read_over child parent a ≡ Err (refusal 20 0)
   unfolding read_over disc_over sector_count range_of
   pair-20 a h =
-      let s : sector_count child ≡ accepted (record { count = count_of child; lowest = record { 0 = pos 0 } }) =
-      answer-passes _ _ ((open-ok child (index_offset child)).1 k.writable.opens) ∙ (λ i. accepted (record { count = count_of child; lowest = record { 0 = neg_ℤ (pos (lowest i)) } })) in
+      let s : sector_count child ≡ Ok (record { count = count_of child; lowest = record { 0 = pos 0 } }) =
+      answer-passes _ _ ((open-ok child (index_offset child)).1 k.writable.opens) ∙ (λ i. Ok (record { count = count_of child; lowest = record { 0 = neg_ℤ (pos (lowest i)) } })) in
       ap (λ (x : Answer (List ℕ)). over x (read parent a)) (outside-refused child _ s a (λ n l e. apart a h n l (e ∙ +ℤ_idl (pos n))))
       ∙ over-other (refusal 20 0) (read parent a) (λ e. absurd (omega arith))
 
   -- a disc that reads as a new one but for the pair's sectors reads as the pair
   abbrev Holding : (ℤ → Answer (List ℕ)) → List Written → Type 0
   Holding disc ws =
-      ((n : ℕ) (d : List ℕ) → Found ws n d → disc (pos n) ≡ accepted d)
-      × ((n : ℕ) → n < count_of child → All (λ (m : ℕ). m ≢ n) (number_list ws) → disc (pos n) ≡ refused (refusal 21 0))
-      × ((a : ℤ) → outside t a ≡ true → disc a ≡ refused (refusal 20 0))
+      ((n : ℕ) (d : List ℕ) → Found ws n d → disc (pos n) ≡ Ok d)
+      × ((n : ℕ) → n < count_of child → All (λ (m : ℕ). m ≢ n) (number_list ws) → disc (pos n) ≡ Err (refusal 21 0))
+      × ((a : ℤ) → outside t a ≡ true → disc a ≡ Err (refusal 20 0))
 
   as-pair : (disc : ℤ → Answer (List ℕ)) → Holding disc (written_of child parent) → (a : ℤ) → disc a ≡ read_over child parent a
   unfolding written_of pair_at
@@ -182,8 +182,8 @@ module _ (buffer child parent application : List ℕ) (major minor mediaType cre
       (on-or-off (outside t a))
     where
       at : (n : ℕ) → n < count_of child → (x : Answer (List ℕ)) → pair_at child parent n ≡ x → disc (pos n) ≡ read_over child parent (pos n)
-      at n l (accepted d) e = has n d (found (pair_at child parent) (count_of child) 0 n d (omega arith) (omega arith) e) ∙ sym e
-      at n l (refused r) e =
+      at n l (Ok d) e = has n d (found (pair_at child parent) (count_of child) 0 n d (omega arith) (omega arith) e) ∙ sym e
+      at n l (Err r) e =
           lacks n l (others (pair_at child parent) (count_of child) 0 n (λ d q. not-accepted (sym e ∙ q))) ∙ sym (pair-21 child parent n r (k.sectors n l) e)
 
   abbrev new : List ℕ
@@ -241,7 +241,7 @@ module _ (buffer child parent application : List ℕ) (major minor mediaType cre
         let ln : length (number_list these) ≡ length these = length-map these _ in (
           (λ n d f.
               ap (read y) (sym (get_d_map pos (number_list these) f.at 0 (pos 0) (omega (arith, ln, f.inside)) ∙ ap pos f.number))
-              ∙ r.named f.at (omega (arith, length-map (number_list these) pos, ln, f.inside)) ∙ ap accepted (piece f.at f.inside ∙ f.sector)),
+              ∙ r.named f.at (omega (arith, length-map (number_list these) pos, ln, f.inside)) ∙ ap Ok (piece f.at f.inside ∙ f.sector)),
           (λ n l h. r.others (pos n) (all-mapped pos (λ m d e. d (ap nat_abs e)) h) ∙ fresh-disc.inside n l),
           λ a h. r.others a (all-mapped pos (λ m l e. apart a h m l (sym e)) c.inside) ∙ fresh-disc.outside a (apart a h),
         )
@@ -299,7 +299,7 @@ size_small size most [] h l = omega arith
 size_small size most (w ∷ ws) h l = omega (arith, all_head h)
 
 module _ (buffer child parent application : List ℕ) (major minor mediaType creationTime lastWrittenTime : ℕ) (p : Placed) where
-  pub flatten-forth : (flatten buffer child parent application major minor mediaType creationTime lastWrittenTime).result ≡ accepted p → FlattenOk buffer child parent application p
+  pub flatten-forth : (flatten buffer child parent application major minor mediaType creationTime lastWrittenTime).result ≡ Ok p → FlattenOk buffer child parent application p
   unfolding written_of opened_as
   flatten-forth e =
       let f = flatten-accepted buffer child parent application major minor mediaType creationTime lastWrittenTime p e in
@@ -324,7 +324,7 @@ module _ (buffer child parent application : List ℕ) (major minor mediaType cre
         room = subst (λ (q : Placed). q.used ≤ length buffer) f.answer f.room;
       }
 
-  pub flatten_back : FlattenOk buffer child parent application p → (flatten buffer child parent application major minor mediaType creationTime lastWrittenTime).result ≡ accepted p
+  pub flatten_back : FlattenOk buffer child parent application p → (flatten buffer child parent application major minor mediaType creationTime lastWrittenTime).result ≡ Ok p
   unfolding opened_as
   flatten_back c =
       let ws : List Written = written_of child parent in
@@ -355,10 +355,10 @@ unfolding opened_as flatten_verdict pair_verdict verdict_of pair_at
 flatten-refused-by buffer child parent application major minor mediaType creationTime lastWrittenTime r a f =
     let is : count_of child ≡ table_count child First f.table = ap (λ (u : Opened). u.count) (opened-as child (index_offset child) First f.table f.opens) in
     let w = (writable-ok child (index_offset child)).1 ((writable-with child (index_offset child)).1 (record { table = f.table; opens = f.opens })) in
-    let pass : (n : ℕ) → n < f.address → other_than_21 (verdict_of (pair_at child parent n)) ≡ Passes = λ n h. passes-21 (pair_at child parent n) (f.before n h) in
-    let here : other_than_21 (verdict_of (pair_at child parent f.address)) ≡ Refuses r =
+    let pass : (n : ℕ) → n < f.address → other_than_21 (verdict_of (pair_at child parent n)) ≡ Ok tt = λ n h. passes-21 (pair_at child parent n) (f.before n h) in
+    let here : other_than_21 (verdict_of (pair_at child parent f.address)) ≡ Err r =
     ap (λ (x : Answer (List ℕ)). other_than_21 (verdict_of x)) f.here ∙ other-kept r f.other in
-    let v : pair_verdict child parent ≡ Refuses r = first_refusal-at _ (count_of child) 0 f.address r (omega arith) (omega (arith, is, f.inside)) (λ n l h. pass n h) here in
+    let v : pair_verdict child parent ≡ Err r = first_refusal-at _ (count_of child) 0 f.address r (omega arith) (omega (arith, is, f.inside)) (λ n l h. pass n h) here in
     ap (λ (o : Outcome Placed). o.result) (flatten-is buffer child parent application major minor mediaType creationTime lastWrittenTime)
     ∙ (outcome-refuses _ _ _ _ r).1
     (then-refuses _ _ r

@@ -11,14 +11,13 @@ use native.Mathlib.Nat.{le_refl}
 use native.Mathlib.Omega.{arith}
 use lib.ListN.{length, length-map}
 use lib.IntN.{ℤ, pos}
+use Rattle.std.specs.Prelude.{Ok, Err}
 use Rattle.fields.specs.Bytes.{overwrite}
 use Rattle.format.specs.declared.Placed.{Placed}
 use Rattle.format.specs.declared.Refusal.{Refusal}
-use Rattle.format.specs.declared.Verdict.{Verdict}
-use Rattle.format.specs.declared.Verdict.TheVariants.{Passes, Refuses}
 use Rattle.format.specs.Tests.{below}
 use Rattle.format.specs.Lists.{All, done, more}
-use Rattle.format.specs.Refusals.{refusal, row, ◌then◌, first_refusal, Answer, refused, accepted, answer}
+use Rattle.format.specs.Refusals.{refusal, row, ◌then◌, first_refusal, Answer, answer, Verdict}
 use Rattle.format.specs.Layouts.{application_length, index_offset}
 use Rattle.format.specs.Writing.{most_sectors, largest_size, most_addresses, longest_buffer, Outcome, outcome, placed}
 use Rattle.format.specs.Creating.{created_used, created_index_at, create}
@@ -52,8 +51,8 @@ addresses-are (w ∷ ws) = ap (λ (l : List ℤ). pos w.address ∷ l) (addresse
 -- one address more
 all-with : (P : ℕ → Type 0) (n : ℕ) (x : Answer (List ℕ)) (ws : List Written) → P n → All P (number_list ws) → All P (number_list (with_sector n x ws))
 unfolding with_sector
-all-with P n (accepted d) ws h hs = more h hs
-all-with P n (refused r) ws h hs = hs
+all-with P n (Ok d) ws h hs = more h hs
+all-with P n (Err r) ws h hs = hs
 
 rises-cons : (n : ℕ) (l : List ℕ) → All (λ (m : ℕ). n < m) l → rising_by below l ≡ true → rising_by below (n ∷ l) ≡ true
 unfolding rising_by
@@ -63,8 +62,8 @@ rises-cons n (m ∷ l) (more h hs) r = and-true _ _ (below_true n m h) r
 rises-with : (n : ℕ) (x : Answer (List ℕ)) (ws : List Written) → All (λ (m : ℕ). n < m) (number_list ws) → rising_by below (number_list ws) ≡ true
     → rising_by below (number_list (with_sector n x ws)) ≡ true
 unfolding with_sector
-rises-with n (accepted d) ws h r = rises-cons n (number_list ws) h r
-rises-with n (refused q) ws h r = r
+rises-with n (Ok d) ws h r = rises-cons n (number_list ws) h r
+rises-with n (Err q) ws h r = r
 
 module _ (disc : ℕ → Answer (List ℕ)) where
   all_from : (k n : ℕ) → All (λ (m : ℕ). n ≤ m) (number_list (written_from disc k n))
@@ -83,7 +82,7 @@ module _ (disc : ℕ → Answer (List ℕ)) where
   written-rise (suc k) n = rises-with n (disc n) _ (all_from k (suc n)) (written-rise k (suc n))
 
 -- no sector of a pair is empty
-pub pair-some : (child parent : List ℕ) (n : ℕ) (d : List ℕ) → pair_at child parent n ≡ accepted d → d ≢ []
+pub pair-some : (child parent : List ℕ) (n : ℕ) (d : List ℕ) → pair_at child parent n ≡ Ok d → d ≢ []
 unfolding pair_at read_over disc_over
 pair-some child parent n d e =
     ⊎_elim (λ h. ((demand-2-returned child (pos n) d).1 ((demand-2-reading child (pos n) d).0 h)).1) (λ h. ((demand-2-returned parent (pos n) d).1 ((demand-2-reading parent (pos n) d).0 h)).1)
@@ -93,8 +92,8 @@ module _ (child parent : List ℕ) where
   some_with : (n : ℕ) (x : Answer (List ℕ)) (ws : List Written) → pair_at child parent n ≡ x → All (λ (d : List ℕ). length d ≢ 0) (sector_list ws)
       → All (λ (d : List ℕ). length d ≢ 0) (sector_list (with_sector n x ws))
   unfolding with_sector
-  some_with n (accepted d) ws e h = more (not-empty d (pair-some child parent n d e)) h
-  some_with n (refused r) ws e h = h
+  some_with n (Ok d) ws e h = more (not-empty d (pair-some child parent n d e)) h
+  some_with n (Err r) ws e h = h
 
   all-some : (k n : ℕ) → All (λ (d : List ℕ). length d ≢ 0) (sector_list (written_from (pair_at child parent) k n))
   unfolding written_from
@@ -104,8 +103,8 @@ module _ (child parent : List ℕ) where
 -- ---- the checks of a pair's sectors, by the two images' own verdicts
 pub verdict-of : {A : Type 0} (v : Verdict) (a : A) → verdict_of (answer v a) ≡ v
 unfolding verdict_of answer
-verdict-of Passes a = refl
-verdict-of (Refuses r) a = refl
+verdict-of (Ok tt) a = refl
+verdict-of (Err r) a = refl
 
 pair-at : (child parent : List ℕ) (n : ℕ) → verdict_of (pair_at child parent n) ≡ both_by child parent (pos n)
 unfolding pair_at
@@ -120,7 +119,7 @@ pub record Flattenable (buffer child parent application : List ℕ) : Type 0 whe
   pub long : length buffer ≤ longest_buffer
   pub named : length application ≡ application_length
   pub writable : WritableOk child (index_offset child)
-  pub sectors : (n : ℕ) → n < count_of child → other_than_21 (verdict_of (pair_at child parent n)) ≡ Passes
+  pub sectors : (n : ℕ) → n < count_of child → other_than_21 (verdict_of (pair_at child parent n)) ≡ Ok tt
   pub sized : All (Sized (size_of (written_of child parent))) (sector_list (written_of child parent))
   pub counted : count_of child ≢ 0
   pub most : count_of child ≤ most_sectors
@@ -134,11 +133,11 @@ other-iff size (w ∷ ws) =
     let both = or-iff differs-iff (other-iff size ws) in
     (λ h. more (both.0 h).0 (both.0 h).1, λ k. both.1 (all_head k, all_tail k))
 
-pub lent_ok : (buffer application : List ℕ) → (lent_verdict buffer application ≡ Passes) ↔ FlattenArguments buffer application
+pub lent_ok : (buffer application : List ℕ) → (lent_verdict buffer application ≡ Ok tt) ↔ FlattenArguments buffer application
 unfolding lent_verdict
 lent_ok buffer application = facts (then-iff (row-iff _ below-iff) (row-iff _ differs-iff)) (λ (a, b). record { long = a; named = b }) (λ k. (k.long, k.named))
 
-pub flattenable : (buffer child parent application : List ℕ) → (flatten_verdict buffer child parent application ≡ Passes) ↔ Flattenable buffer child parent application
+pub flattenable : (buffer child parent application : List ℕ) → (flatten_verdict buffer child parent application ≡ Ok tt) ↔ Flattenable buffer child parent application
 unfolding flatten_verdict pair_verdict sizes_verdict
 flattenable buffer child parent application =
     facts
@@ -202,10 +201,10 @@ module _ (buffer child parent application : List ℕ) (major minor mediaType cre
   one = create buffer count application major minor mediaType creationTime lastWrittenTime
 
   alone : (v : Verdict) (p : Placed) (new : List ℕ)
-      → and_then buffer (outcome buffer v p new).result (λ q. record { result = accepted q; buffer = (outcome buffer v p new).buffer }) ≡ outcome buffer v p new
+      → and_then buffer (outcome buffer v p new).result (λ q. record { result = Ok q; buffer = (outcome buffer v p new).buffer }) ≡ outcome buffer v p new
   unfolding and_then or_leaves outcome
-  alone Passes p new = refl
-  alone (Refuses r) p new = refl
+  alone (Ok tt) p new = refl
+  alone (Err r) p new = refl
 
   calls_are : Flattenable buffer child parent application → (ws : List Written) → written_of child parent ≡ ws
       → and_then buffer one.result (λ p. commit_all one.buffer p ws lastWrittenTime) ≡ outcome buffer (room_verdict ws) (flat_end ws) (flat_buffer ws)
@@ -253,7 +252,7 @@ module _ (buffer child parent application : List ℕ) (major minor mediaType cre
   flatten-composed k w ws e =
       flatten-calls k ∙ ap (λ (v : List Written). outcome buffer (room_verdict v) (flat_end v) (flat_buffer v)) e ∙ sym (composed-is _ _ _ _ _ _ _ _ _ _ _ (composable k w ws e))
 
-  pub verdict-ok : (whole_verdict ≡ Passes) ↔ (Flattenable buffer child parent application × ((flat_end written).used ≤ length buffer))
+  pub verdict-ok : (whole_verdict ≡ Ok tt) ↔ (Flattenable buffer child parent application × ((flat_end written).used ≤ length buffer))
   verdict-ok = then-iff (flattenable buffer child parent application) (row-iff (refusal 35 0) below-iff)
 
   -- accepted
@@ -263,7 +262,7 @@ module _ (buffer child parent application : List ℕ) (major minor mediaType cre
     pub answer : flat_end written ≡ p
     pub buffer-is : after ≡ flat_buffer written
 
-  pub flatten-accepted : (p : Placed) → (flatten buffer child parent application major minor mediaType creationTime lastWrittenTime).result ≡ accepted p
+  pub flatten-accepted : (p : Placed) → (flatten buffer child parent application major minor mediaType creationTime lastWrittenTime).result ≡ Ok p
       → Flattens p (flatten buffer child parent application major minor mediaType creationTime lastWrittenTime).buffer
   flatten-accepted p e =
       let r = outcome-accepted _ _ _ _ p (ap (λ (w : Outcome Placed). w.result) (sym flatten-is) ∙ e) in
@@ -271,8 +270,8 @@ module _ (buffer child parent application : List ℕ) (major minor mediaType cre
       record { checked = c.0; room = c.1; answer = r.answer; buffer-is = ap (λ (w : Outcome Placed). w.buffer) flatten-is ∙ r.buffer }
 
   -- refused
-  pub flatten-refused : (r : Refusal) → (flatten buffer child parent application major minor mediaType creationTime lastWrittenTime).result ≡ refused r
-      → (whole_verdict ≡ Refuses r) × ((flatten buffer child parent application major minor mediaType creationTime lastWrittenTime).buffer ≡ buffer)
+  pub flatten-refused : (r : Refusal) → (flatten buffer child parent application major minor mediaType creationTime lastWrittenTime).result ≡ Err r
+      → (whole_verdict ≡ Err r) × ((flatten buffer child parent application major minor mediaType creationTime lastWrittenTime).buffer ≡ buffer)
   flatten-refused r e =
       let q = outcome-refused _ _ _ _ r (ap (λ (w : Outcome Placed). w.result) (sym flatten-is) ∙ e) in
       (q.0, ap (λ (w : Outcome Placed). w.buffer) flatten-is ∙ q.1)

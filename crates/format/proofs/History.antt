@@ -8,10 +8,11 @@ use native.Mathlib.Omega.{arith}
 use lib.ListN.{length, take}
 use lib.IntN.{ℤ}
 use lib.Seq.{length-take-le}
+use Rattle.std.specs.Prelude.{Ok, Err}
 use Rattle.format.specs.declared.Placed.{Placed}
 use Rattle.format.specs.declared.Refusal.{Refusal}
 use Rattle.format.specs.Lists.{All, done, more, IsBytes}
-use Rattle.format.specs.Refusals.{Answer, refused, accepted}
+use Rattle.format.specs.Refusals.{Answer}
 use Rattle.format.specs.Layouts.{header_length, index_offset}
 use Rattle.format.specs.Reading.{read_at, read}
 use Rattle.format.specs.Writing.{longest_buffer, Outcome, placed, set_header}
@@ -75,7 +76,7 @@ module _ (m : Moment) (i : Inv m) where
       let small : p.offset < 256 ^ 8 = omega (arith, offset-inside p k, i.inside, i.long) in
       let new : List ℕ = set_header m.buffer p.offset time in
       let v = (rollback-ok m.buffer m.used p.offset).1 (record { buffer_ok = record { long = i.long; inside = i.inside }; writable = record { opens = s.opens; first = s.first } }) in
-      let e : rollback m.buffer m.used p.offset time ≡ record { result = accepted (placed m.used p.offset); buffer = new } =
+      let e : rollback m.buffer m.used p.offset time ≡ record { result = Ok (placed m.used p.offset); buffer = new } =
       outcome-passes m.buffer _ (placed m.used p.offset) new v in
       let y : List ℕ = take m.used new in
       let g : Agree k.image y = agree_trans k.image x y k.agree (agree-set m.buffer m.used p.offset time i.inside) in
@@ -88,26 +89,26 @@ module _ (m : Moment) (i : Inv m) where
       }
 
 -- ---- what a call leaves
-after-refused : (m : Moment) (c : Call) (r : Refusal) → (outcome_of m c).result ≡ refused r
+after-refused : (m : Moment) (c : Call) (r : Refusal) → (outcome_of m c).result ≡ Err r
     → after m c ≡ record { buffer = (outcome_of m c).buffer; used = m.used; points = m.points }
 unfolding after moment_after
 after-refused m c r e = ap (λ (w : Answer Placed). moment_after m c w (outcome_of m c).buffer) e
 
-after-accepted : (m : Moment) (c : Call) (p : Placed) → (outcome_of m c).result ≡ accepted p
+after-accepted : (m : Moment) (c : Call) (p : Placed) → (outcome_of m c).result ≡ Ok p
     → after m c ≡ record { buffer = (outcome_of m c).buffer; used = p.used; points = points_after m.points c (outcome_of m c).buffer p }
 unfolding after moment_after
 after-accepted m c p e = ap (λ (w : Answer Placed). moment_after m c w (outcome_of m c).buffer) e
 
 -- ---- (d)
-refused-buffer : (m : Moment) (c : Call) (r : Refusal) → (outcome_of m c).result ≡ refused r → (outcome_of m c).buffer ≡ m.buffer
+refused-buffer : (m : Moment) (c : Call) (r : Refusal) → (outcome_of m c).result ≡ Err r → (outcome_of m c).buffer ≡ m.buffer
 unfolding outcome_of commit append rollback
 refused-buffer m (commits addresses size sectors time) r e = (outcome-refused _ _ _ _ r e).1
 refused-buffer m (rolls_back offset time) r e = (outcome-refused _ _ _ _ r e).1
 
-refused-same : (m : Moment) (c : Call) (r : Refusal) → (outcome_of m c).result ≡ refused r → after m c ≡ m
+refused-same : (m : Moment) (c : Call) (r : Refusal) → (outcome_of m c).result ≡ Err r → after m c ≡ m
 refused-same m c r e = after-refused m c r e ∙ (λ i. record { buffer = refused-buffer m c r e i; used = m.used; points = m.points })
 
-unchanged : (m : Moment) (c : Call) (r : Refusal) → (outcome_of m c).result ≡ refused r → Unchanged m (after m c)
+unchanged : (m : Moment) (c : Call) (r : Refusal) → (outcome_of m c).result ≡ Err r → Unchanged m (after m c)
 unchanged m c r e =
     record { buffer = ap (λ (n : Moment). n.buffer) (refused-same m c r e); used = ap (λ (n : Moment). n.used) (refused-same m c r e) }
 
@@ -122,7 +123,7 @@ effect m i (commits addresses size sectors time) = λ p e.
 -- the same through a view in which an address shows what the disc reads there, and the sector if that is one
 record Faithful (seen : View) : Type 0 where
   alike : (one other : ℤ → Answer (List ℕ)) (a : ℤ) → one a ≡ other a → seen one a ≡ seen other a
-  sector : (disc : ℤ → Answer (List ℕ)) (a : ℤ) (d : List ℕ) → disc a ≡ accepted d → seen disc a ≡ accepted d
+  sector : (disc : ℤ → Answer (List ℕ)) (a : ℤ) (d : List ℕ) → disc a ≡ Ok d → seen disc a ≡ Ok d
 
 effect-seen : (seen : View) → Faithful seen → (m : Moment) (c : Call) → Effect (λ disc. disc) m c → Effect seen m c
 unfolding Effect ReadTheSame
@@ -138,7 +139,7 @@ distinct-new : (m : Moment) → Inv m → (o : ℕ) → m.used ≤ o → All (λ
 distinct-new m i o h = all_map (λ q k e. absurd (omega (arith, offset-inside m i q k))) i.points
 
 inv-commit : (m : Moment) → Inv m → (addresses : List ℤ) (size : ℕ) (sectors : List ℕ) (time : ℕ) → IsBytes sectors → (p : Placed)
-    → (commit m.buffer m.used addresses size sectors time).result ≡ accepted p → Inv (after m (commits addresses size sectors time))
+    → (commit m.buffer m.used addresses size sectors time).result ≡ Ok p → Inv (after m (commits addresses size sectors time))
 unfolding outcome_of points_after point_now
 inv-commit m i addresses size sectors time b p e =
     let c : Committed m.buffer m.used addresses size sectors p (commit m.buffer m.used addresses size sectors time).buffer =
@@ -152,7 +153,7 @@ inv-commit m i addresses size sectors time b p e =
       distinct = fresh (distinct-new m i p.index.0 c.past) i.distinct;
     })
 
-inv-rollback : (m : Moment) → Inv m → (offset time : ℕ) (p : Placed) → (rollback m.buffer m.used offset time).result ≡ accepted p
+inv-rollback : (m : Moment) → Inv m → (offset time : ℕ) (p : Placed) → (rollback m.buffer m.used offset time).result ≡ Ok p
     → Inv (after m (rolls_back offset time))
 unfolding outcome_of points_after rollback
 inv-rollback m i offset time p e =
@@ -169,7 +170,7 @@ inv-rollback m i offset time p e =
       distinct = i.distinct;
     })
 
-inv-accepted : (m : Moment) → Inv m → (c : Call) → Permitted m c → (p : Placed) → (outcome_of m c).result ≡ accepted p → Inv (after m c)
+inv-accepted : (m : Moment) → Inv m → (c : Call) → Permitted m c → (p : Placed) → (outcome_of m c).result ≡ Ok p → Inv (after m c)
 unfolding Permitted outcome_of
 inv-accepted m i (commits addresses size sectors time) b p e = inv-commit m i addresses size sectors time b p e
 inv-accepted m i (rolls_back offset time) h p e = inv-rollback m i offset time p e
@@ -178,8 +179,8 @@ inv-after : (m : Moment) → Inv m → (c : Call) → Permitted m c → Inv (aft
 inv-after m i c h = go (outcome_of m c).result refl
   where
     go : (w : Answer Placed) → (outcome_of m c).result ≡ w → Inv (after m c)
-    go (refused r) e = rw (refused-same m c r e) i
-    go (accepted p) e = inv-accepted m i c h p e
+    go (Err r) e = rw (refused-same m c r e) i
+    go (Ok p) e = inv-accepted m i c h p e
 
 -- ---- the whole list
 kept : (seen : View) → Faithful seen → (m : Moment) (calls : List Call) → Inv m → Throughout Permitted m calls → Kept seen m calls
@@ -200,7 +201,7 @@ inv-started buffer p c =
       distinct = fresh done nothing;
     }
 
-start-accepted : (buffer : List ℕ) → IsBytes buffer → (s : Start) → OfBytes s → (p : Placed) → (start_on buffer s).result ≡ accepted p → Started p (start_on buffer s).buffer
+start-accepted : (buffer : List ℕ) → IsBytes buffer → (s : Start) → OfBytes s → (p : Placed) → (start_on buffer s).result ≡ Ok p → Started p (start_on buffer s).buffer
 unfolding start_on OfBytes
 start-accepted buffer b (creates count application major minor mediaType creationTime lastWrittenTime) ba p e =
     create-accepted buffer b count application ba major minor mediaType creationTime lastWrittenTime p e

@@ -9,14 +9,13 @@ use native.Mathlib.Nat.{zero-add, zero-mul, pos_of_ne-zero, mul-div_cancel, div-
 use native.Mathlib.Omega.{arith}
 use lib.ListN.{length, take, get_or, length-map}
 use lib.IntN.{ℤ, pos, neg_ℤ, ◌+ℤ◌, +ℤ_idl}
+use Rattle.std.specs.Prelude.{Ok, Err}
 use Rattle.fields.specs.Bytes.{overwrite}
 use Rattle.format.specs.declared.Placed.{Placed}
 use Rattle.format.specs.declared.Refusal.{Refusal}
-use Rattle.format.specs.declared.Verdict.{Verdict}
-use Rattle.format.specs.declared.Verdict.TheVariants.{Passes, Refuses}
 use Rattle.format.specs.Tests.{below}
 use Rattle.format.specs.Lists.{IsBytes, of_each}
-use Rattle.format.specs.Refusals.{refusal, ◌then◌, refused, accepted}
+use Rattle.format.specs.Refusals.{refusal, ◌then◌, Verdict}
 use Rattle.format.specs.Layouts.{application_length, index_offset}
 use Rattle.format.specs.Opening.{opened, range_of, sector_count}
 use Rattle.format.specs.Reading.{read_at, read}
@@ -44,7 +43,7 @@ pub record Importable (buffer file : List ℕ) (size : ℕ) (application : List 
   pub whole : length file % size ≡ 0
   pub sized : length application ≡ application_length
 
-pub importable : (buffer file : List ℕ) (size : ℕ) (application : List ℕ) → (import_verdict buffer file size application ≡ Passes) ↔ Importable buffer file size application
+pub importable : (buffer file : List ℕ) (size : ℕ) (application : List ℕ) → (import_verdict buffer file size application ≡ Ok tt) ↔ Importable buffer file size application
 unfolding import_verdict
 importable buffer file size application =
     facts
@@ -154,7 +153,7 @@ module _ (buffer file : List ℕ) (size : ℕ) (application : List ℕ) (major m
       ∙ sym (composed-is _ _ _ _ _ _ _ _ _ _ _ (composable k))
 
   -- ---- the image stands at the front of the buffer, and of the buffer only the length is looked at
-  pub verdict-ok : (whole_verdict ≡ Passes) ↔ (Importable buffer file size application × (imported_used ≤ length buffer))
+  pub verdict-ok : (whole_verdict ≡ Ok tt) ↔ (Importable buffer file size application × (imported_used ≤ length buffer))
   verdict-ok = then-iff (importable buffer file size application) (row-iff (refusal 35 0) below-iff)
 
   pub import-front : import buffer file size application major minor mediaType creationTime lastWrittenTime
@@ -168,7 +167,7 @@ module _ (buffer file : List ℕ) (size : ℕ) (application : List ℕ) (major m
     pub answer : placed imported_used imported_index ≡ p
     pub buffer-is : after ≡ imported_buffer
 
-  pub import-accepted : (p : Placed) → (import buffer file size application major minor mediaType creationTime lastWrittenTime).result ≡ accepted p
+  pub import-accepted : (p : Placed) → (import buffer file size application major minor mediaType creationTime lastWrittenTime).result ≡ Ok p
       → Imports p (import buffer file size application major minor mediaType creationTime lastWrittenTime).buffer
   import-accepted p e =
       let r = outcome-accepted _ _ _ _ p (ap (λ (w : Outcome Placed). w.result) (sym import-is) ∙ e) in
@@ -177,8 +176,8 @@ module _ (buffer file : List ℕ) (size : ℕ) (application : List ℕ) (major m
 
   -- where its own checks pass it is accepted, or there is no room
   pub import-or-full : Importable buffer file size application
-      → ((import buffer file size application major minor mediaType creationTime lastWrittenTime).result ≡ refused (refusal 35 0))
-      ⊎ ((import buffer file size application major minor mediaType creationTime lastWrittenTime).result ≡ accepted (placed imported_used imported_index))
+      → ((import buffer file size application major minor mediaType creationTime lastWrittenTime).result ≡ Err (refusal 35 0))
+      ⊎ ((import buffer file size application major minor mediaType creationTime lastWrittenTime).result ≡ Ok (placed imported_used imported_index))
   import-or-full k =
       let r = ap (λ (w : Outcome Placed). w.result) import-is in
       let v = then-rest _ _ ((importable buffer file size application).1 k) in
@@ -186,8 +185,8 @@ module _ (buffer file : List ℕ) (size : ℕ) (application : List ℕ) (major m
       (on-or-off (below (length buffer) imported_used))
 
   -- ---- refused
-  pub import-refused : (r : Refusal) → (import buffer file size application major minor mediaType creationTime lastWrittenTime).result ≡ refused r
-      → (whole_verdict ≡ Refuses r)
+  pub import-refused : (r : Refusal) → (import buffer file size application major minor mediaType creationTime lastWrittenTime).result ≡ Err r
+      → (whole_verdict ≡ Err r)
       × ((import buffer file size application major minor mediaType creationTime lastWrittenTime).buffer ≡ buffer)
   import-refused r e =
       let q = outcome-refused _ _ _ _ r (ap (λ (w : Outcome Placed). w.result) (sym import-is) ∙ e) in
@@ -218,7 +217,7 @@ module _ (buffer file : List ℕ) (size : ℕ) (application : List ℕ) (major m
         record {
           flat = record {
             range = record { count = count; lowest = record { 0 = pos 0 } };
-            sectors = answer-passes _ _ ((open-ok y (index_offset y)).1 s.opens) ∙ (λ j. accepted (record { count = count-is j; lowest = record { 0 = neg_ℤ (pos (low j)) } }));
+            sectors = answer-passes _ _ ((open-ok y (index_offset y)).1 s.opens) ∙ (λ j. Ok (record { count = count-is j; lowest = record { 0 = neg_ℤ (pos (low j)) } }));
             whole = file-whole i.checked;
             each = λ n h.
                 ap (λ m. read_at y m (pos 0 +ℤ pos n)) c.offset
@@ -234,7 +233,7 @@ unfolding import_verdict
 verdict-alike one other file size application major minor mediaType creationTime lastWrittenTime e = rw e refl
 
 pub import-started : (buffer : List ℕ) → IsBytes buffer → (file : List ℕ) (size : ℕ) (application : List ℕ) → IsBytes application
-    → (major minor mediaType creationTime lastWrittenTime : ℕ) (p : Placed) → (import buffer file size application major minor mediaType creationTime lastWrittenTime).result ≡ accepted p
+    → (major minor mediaType creationTime lastWrittenTime : ℕ) (p : Placed) → (import buffer file size application major minor mediaType creationTime lastWrittenTime).result ≡ Ok p
     → IsBytes file → Started p (import buffer file size application major minor mediaType creationTime lastWrittenTime).buffer
 import-started buffer bb file size application ba major minor mediaType creationTime lastWrittenTime p e =
     disc-started buffer file size application major minor mediaType creationTime lastWrittenTime bb ba p _ (import-accepted buffer file size application major minor mediaType creationTime lastWrittenTime p e)

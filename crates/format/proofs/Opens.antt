@@ -4,9 +4,9 @@ use mathlib.Core.Logic.Iff
 use mathlib.Core.Logic.{◌↔◌}
 use mathlib.Core.Path.{◌≡◌, refl, ap, ◌∙◌, subst}
 use Prim.Native.Nat.{ℕ}
+use Rattle.std.specs.Prelude.{Ok}
 use Rattle.format.specs.declared.TableKind.{TableKind}
 use Rattle.format.specs.declared.TableKind.TheVariants.{First}
-use Rattle.format.specs.declared.Verdict.TheVariants.{Passes}
 use Rattle.format.specs.Layouts.{entries}
 use Rattle.format.specs.Opening.{offsets_with, is_table, table_at, kind_at, open_verdict, Opened, opened_as, opened_at, opened}
 use Rattle.format.specs.Facts.{Opens, OpensWith}
@@ -53,7 +53,7 @@ module _ (img : List ℕ) (o : ℕ) where
     opened-as = ap (opened_at img) table-at ∙ ap (λ (j : TableKind). opened_as img j t) kind-at
 
   -- with a table of this kind
-  pub opens-with : (k : TableKind) → ((open_verdict img o ≡ Passes) × ((opened img o).kind ≡ k)) ↔ OpensWith img o k
+  pub opens-with : (k : TableKind) → ((open_verdict img o ≡ Ok tt) × ((opened img o).kind ≡ k)) ↔ OpensWith img o k
   unfolding opened opened_as
   opens-with k = (
     (λ (h, e). record { table = table_at img o; opens = subst (λ (j : TableKind). Opens img o j (table_at img o)) e (opens-forth ((open-ok img o).0 h)) }),

@@ -7,13 +7,12 @@ use mathlib.Core.Path.{◌≡◌, refl, sym, ap, ◌∙◌}
 use Prim.Native.Nat.{ℕ, ◌+◌}
 use native.Mathlib.Omega.{arith}
 use lib.IntN.{ℤ}
+use Rattle.std.specs.Prelude.{Ok, Err}
 use Rattle.format.specs.declared.Place.{Place}
 use Rattle.format.specs.declared.Refusal.{Refusal}
 use Rattle.format.specs.declared.Sourced.{Sourced}
-use Rattle.format.specs.declared.Verdict.{Verdict}
-use Rattle.format.specs.declared.Verdict.TheVariants.{Passes, Refuses}
 use Rattle.format.specs.Tests.{same, choose}
-use Rattle.format.specs.Refusals.{refusal, Answer, refused, accepted, answer}
+use Rattle.format.specs.Refusals.{refusal, Answer, answer, Verdict}
 use Rattle.format.specs.Layouts.{index_offset}
 use Rattle.format.specs.Opening.{opened}
 use Rattle.format.specs.Reading.{pointer_of, place_of, item_bytes, read_verdict, read_at, read, locate}
@@ -36,55 +35,55 @@ parent-other r d e = choose-false _ _ _ ((or-iff same-iff same-iff).1 (d, e))
 
 -- ---- what the pair answers, by what the two answer
 module _ {A : Type 0} where
-  pub over-child : (a : A) (parent : Answer A) → over (accepted a) parent ≡ accepted a
+  pub over-child : (a : A) (parent : Answer A) → over (Ok a) parent ≡ Ok a
   unfolding over
   over-child a parent = refl
 
-  pub over-other : (r : Refusal) (parent : Answer A) → r.number ≢ 21 → over (refused r) parent ≡ refused r
+  pub over-other : (r : Refusal) (parent : Answer A) → r.number ≢ 21 → over (Err r) parent ≡ Err r
   unfolding over
   over-other r parent n = choose-false _ _ _ (same-iff.1 n)
 
-  pub over-parent : (r : Refusal) (parent : Answer A) → r.number ≡ 21 → over (refused r) parent ≡ from_parent parent
+  pub over-parent : (r : Refusal) (parent : Answer A) → r.number ≡ 21 → over (Err r) parent ≡ from_parent parent
   unfolding over
   over-parent r parent e = choose-true _ _ _ (same_true _ _ e)
 
-  parent-accepted : (parent : Answer A) (a : A) → from_parent parent ≡ accepted a → parent ≡ accepted a
+  parent-accepted : (parent : Answer A) (a : A) → from_parent parent ≡ Ok a → parent ≡ Ok a
   unfolding from_parent
-  parent-accepted (accepted b) a e = e
-  parent-accepted (refused r) a e = let z : ◌≡◌ {A = ℕ} 0 1 = cc in absurd (omega arith)
+  parent-accepted (Ok b) a e = e
+  parent-accepted (Err r) a e = let z : ◌≡◌ {A = ℕ} 0 1 = cc in absurd (omega arith)
 
   -- what it gives is what one of them gives
-  pub over-accepted : (child parent : Answer A) (a : A) → over child parent ≡ accepted a → (child ≡ accepted a) ⊎ (parent ≡ accepted a)
+  pub over-accepted : (child parent : Answer A) (a : A) → over child parent ≡ Ok a → (child ≡ Ok a) ⊎ (parent ≡ Ok a)
   unfolding over
-  over-accepted (accepted b) parent a e = inl e
-  over-accepted (refused r) parent a e =
+  over-accepted (Ok b) parent a e = inl e
+  over-accepted (Err r) parent a e =
       ⊎_elim (λ h. inr (parent-accepted parent a (sym (choose-true _ _ _ h) ∙ e)))
-      (λ h. let q : refused r ≡ accepted a = sym (choose-false _ _ _ h) ∙ e in let z : ◌≡◌ {A = ℕ} 0 1 = cc in absurd (omega arith))
+      (λ h. let q : Err r ≡ Ok a = sym (choose-false _ _ _ h) ∙ e in let z : ◌≡◌ {A = ℕ} 0 1 = cc in absurd (omega arith))
       (on-or-off (same r.number 21))
 
 -- ---- as a verdict
 unfoldable pub parent_verdict : Verdict → Verdict
-parent_verdict Passes = Passes
-parent_verdict (Refuses r) = Refuses (parent_refusal r)
+parent_verdict (Ok tt) = Ok tt
+parent_verdict (Err r) = Err (parent_refusal r)
 
 unfoldable pub over_verdict : Verdict → Verdict → Verdict
-over_verdict Passes parent = Passes
-over_verdict (Refuses r) parent = choose (same r.number 21) (parent_verdict parent) (Refuses r)
+over_verdict (Ok tt) parent = Ok tt
+over_verdict (Err r) parent = choose (same r.number 21) (parent_verdict parent) (Err r)
 
-pub over-verdict-other : (r : Refusal) (parent : Verdict) → r.number ≢ 21 → over_verdict (Refuses r) parent ≡ Refuses r
+pub over-verdict-other : (r : Refusal) (parent : Verdict) → r.number ≢ 21 → over_verdict (Err r) parent ≡ Err r
 unfolding over_verdict
 over-verdict-other r parent n = choose-false _ _ _ (same-iff.1 n)
 
-pub over-verdict-21 : (r : Refusal) (parent : Verdict) → r.number ≡ 21 → over_verdict (Refuses r) parent ≡ parent_verdict parent
+pub over-verdict-21 : (r : Refusal) (parent : Verdict) → r.number ≡ 21 → over_verdict (Err r) parent ≡ parent_verdict parent
 unfolding over_verdict
 over-verdict-21 r parent e = choose-true _ _ _ (same_true _ _ e)
 
-parent-passes : (parent : Verdict) → parent_verdict parent ≡ Passes → parent ≡ Passes
+parent-passes : (parent : Verdict) → parent_verdict parent ≡ Ok tt → parent ≡ Ok tt
 unfolding parent_verdict
-parent-passes Passes h = refl
-parent-passes (Refuses r) h = absurd (not-passes h)
+parent-passes (Ok tt) h = refl
+parent-passes (Err r) h = absurd (not-passes h)
 
-pub over-passes : (r : Refusal) (parent : Verdict) → over_verdict (Refuses r) parent ≡ Passes → (r.number ≡ 21) × (parent ≡ Passes)
+pub over-passes : (r : Refusal) (parent : Verdict) → over_verdict (Err r) parent ≡ Ok tt → (r.number ≡ 21) × (parent ≡ Ok tt)
 over-passes r parent e =
     ⊎_elim (λ h. let n : r.number ≡ 21 = same-on _ _ h in (n, parent-passes parent (sym (over-verdict-21 r parent n) ∙ e)))
     (λ h. absurd (not-passes (sym (over-verdict-other r parent (same-iff.0 h)) ∙ e))) (on-or-off (same r.number 21))
@@ -93,25 +92,25 @@ over-passes r parent e =
 module _ (P : ℕ → ℕ → Type 0) (neither : P 21 0) where
   parent-says : (parent : Verdict) → Says (λ n p. n ≢ 20 → n ≢ 21 → P (100 + n) p) parent → Says P (parent_verdict parent)
   unfolding parent_verdict parent_refusal Says
-  parent-says Passes k = tt
-  parent-says (Refuses r) k =
+  parent-says (Ok tt) k = tt
+  parent-says (Err r) k =
       choose-cases (λ (q : Refusal). P q.number q.place.0) _ _ _ (λ h. neither) (λ h. let d = (or-iff same-iff same-iff).0 h in k d.0 d.1)
 
   pub over-says : (child parent : Verdict) → Says (λ n p. n ≢ 21 → P n p) child → Says (λ n p. n ≢ 20 → n ≢ 21 → P (100 + n) p) parent
       → Says P (over_verdict child parent)
   unfolding over_verdict Says
-  over-says Passes parent c k = tt
-  over-says (Refuses r) parent c k = choose-cases (Says P) _ _ _ (λ h. parent-says parent k) (λ h. c (same-iff.0 h))
+  over-says (Ok tt) parent c k = tt
+  over-says (Err r) parent c k = choose-cases (Says P) _ _ _ (λ h. parent-says parent k) (λ h. c (same-iff.0 h))
 
 -- the child's value where it passes, else the parent's
 unfoldable pub chosen : {A : Type 0} → Verdict → A → A → A
-chosen Passes child parent = child
-chosen (Refuses r) child parent = parent
+chosen (Ok tt) child parent = child
+chosen (Err r) child parent = parent
 
 parent-answer : {A : Type 0} (w : Verdict) (b : A) → from_parent (answer w b) ≡ answer (parent_verdict w) b
 unfolding from_parent answer parent_verdict
-parent-answer Passes b = refl
-parent-answer (Refuses r) b = refl
+parent-answer (Ok tt) b = refl
+parent-answer (Err r) b = refl
 
 choose-answer : {A : Type 0} (c : Bool) (v w : Verdict) (b : A) → choose c (answer v b) (answer w b) ≡ answer (choose c v w) b
 unfolding choose
@@ -120,14 +119,14 @@ choose-answer false v w b = refl
 
 over-answer : {A : Type 0} (v w : Verdict) (a b : A) → over (answer v a) (answer w b) ≡ answer (over_verdict v w) (chosen v a b)
 unfolding over answer over_verdict chosen
-over-answer Passes w a b = refl
-over-answer (Refuses r) w a b =
-    ap (λ (z : Answer _). choose (same r.number 21) z (refused r)) (parent-answer w b) ∙ choose-answer (same r.number 21) (parent_verdict w) (Refuses r) b
+over-answer (Ok tt) w a b = refl
+over-answer (Err r) w a b =
+    ap (λ (z : Answer _). choose (same r.number 21) z (Err r)) (parent-answer w b) ∙ choose-answer (same r.number 21) (parent_verdict w) (Err r) b
 
 in_image_lem : (n : ℕ) (v : Verdict) (p : Place) → in_image n (answer v p) ≡ answer v (record { image = n; place = p })
 unfolding in_image answer
-in_image_lem n Passes p = refl
-in_image_lem n (Refuses r) p = refl
+in_image_lem n (Ok tt) p = refl
+in_image_lem n (Err r) p = refl
 
 -- ---- the calls go by it
 abbrev pub read_by : List ℕ → ℤ → Verdict

@@ -9,15 +9,14 @@ use native.Mathlib.Omega.{arith}
 use lib.ListN.{length}
 use lib.IntN.{ℤ, pos, ◌+ℤ◌}
 use lib.Pow.{pow_pos, high, low}
+use Rattle.std.specs.Prelude.{Ok, Err}
 use Rattle.fields.specs.Bytes.{part}
 use Rattle.fields.proofs.Overwrite.{length_part}
 use Rattle.format.specs.declared.AddressRange.{AddressRange}
 use Rattle.format.specs.declared.Place.{Place}
 use Rattle.format.specs.declared.TableKind.{TableKind}
 use Rattle.format.specs.declared.TableKind.TheVariants.{First, Second}
-use Rattle.format.specs.declared.Verdict.{Verdict}
-use Rattle.format.specs.declared.Verdict.TheVariants.{Passes, Refuses}
-use Rattle.format.specs.Refusals.{Answer, refused, accepted, answer}
+use Rattle.format.specs.Refusals.{Answer, answer, Verdict}
 use Rattle.format.specs.Layouts.{DBLK, index_offset, entries, entry_status, entry_pointer, decode, table_shift, table_alignment}
 use Rattle.format.specs.Opening.{table_at, kind_at, Opened, opened_as, opened, range_of, sector_count}
 use Rattle.format.specs.Reading.{displaced, outside, entry_number, table_entry, unwritten, not_written, unknown, unknown_status, pointer_at, place_of, item_bytes, read_verdict, pointer_of, read_at, read, locate}
@@ -120,7 +119,7 @@ module _ (img : List ℕ) (a : ℤ) (p : Place) where
   abbrev o : ℕ
   o = index_offset img
 
-  forth : locate img a ≡ accepted p → NamesItem img a p
+  forth : locate img a ≡ Ok p → NamesItem img a p
   unfolding locate opened pointer_of place_of entry-forth inside-entry
   forth e =
       let r = answer-accepted _ _ p e in
@@ -145,7 +144,7 @@ module _ (img : List ℕ) (a : ℤ) (p : Place) where
     number : entry_number t a ≡ n.has_entry.number
     number = entry-number img n.kind n.table a n.has_entry
 
-    passes : read_verdict img o a ≡ Passes
+    passes : read_verdict img o a ≡ Ok tt
     passes =
         (read_ok img o a).1
         (record {
@@ -154,31 +153,31 @@ module _ (img : List ℕ) (a : ℤ) (p : Place) where
           sector = rw (opened-is, number) (entry-back img o n.kind n.table n.has_entry.number n.names);
         })
 
-    back : locate img a ≡ accepted p
+    back : locate img a ≡ Ok p
     unfolding locate pointer_of place_of
     back =
         answer-passes _ _ passes
-        ∙ ap accepted
+        ∙ ap Ok
         (ap (λ (u : Opened). place_of img (pointer_at img u (entry_number u a))) opened-is ∙ ap (λ m. place_of img (pointer_at img t m)) number
         ∙ ap (place_of img) (pointer_is img o n.kind n.table n.has_entry.number n.names)
         ∙ (λ i. record { start = record { 0 = sym n.start i }; size = sym n.size i }))
 
-pub locating : (img : List ℕ) (a : ℤ) (p : Place) → (locate img a ≡ accepted p) ↔ NamesItem img a p
+pub locating : (img : List ℕ) (a : ℤ) (p : Place) → (locate img a ≡ Ok p) ↔ NamesItem img a p
 locating img a p = (forth img a p, back img a p)
 
 -- ---- a read gives the bytes at that place
 module _ (img : List ℕ) (a : ℤ) (sector : List ℕ) where
-  reads-forth : read img a ≡ accepted sector → ItemIs img a sector
+  reads-forth : read img a ≡ Ok sector → ItemIs img a sector
   unfolding read read_at locate item_bytes
   reads-forth e =
       let r = answer-accepted _ _ sector e in
       record { place = _; names = (locating img a _).0 (answer-passes _ _ r.0); bytes = r.1 }
 
-  reads-back : ItemIs img a sector → read img a ≡ accepted sector
+  reads-back : ItemIs img a sector → read img a ≡ Ok sector
   unfolding read read_at locate item_bytes
   reads-back n =
       let r = answer-accepted _ _ n.place ((locating img a n.place).1 n.names) in
-      answer-passes _ _ r.0 ∙ ap accepted (ap (λ (l : Place). part img l.start.0 l.size) r.1 ∙ n.bytes)
+      answer-passes _ _ r.0 ∙ ap Ok (ap (λ (l : Place). part img l.start.0 l.size) r.1 ∙ n.bytes)
 
 pub demand-2-reading : Demand2Reading
 demand-2-reading img a sector = (reads-forth img a sector, reads-back img a sector)
@@ -192,10 +191,10 @@ module _ (img : List ℕ) (a : ℤ) (p : Place) (n : NamesItem img a p) where
   pub item-some : part img p.start.0 p.size ≢ []
   item-some e = n.names.item_ok.block.size (sym n.size ∙ sym (length_part img p.start.0 p.size item-fits) ∙ ap length e)
 
-given : (img : List ℕ) (a : ℤ) (sector : List ℕ) (r : Answer (List ℕ)) → read img a ≡ r → bytes_read r ≡ sector → sector ≢ [] → read img a ≡ accepted sector
+given : (img : List ℕ) (a : ℤ) (sector : List ℕ) (r : Answer (List ℕ)) → read img a ≡ r → bytes_read r ≡ sector → sector ≢ [] → read img a ≡ Ok sector
 unfolding bytes_read
-given img a sector (accepted l) q e s = q ∙ ap accepted e
-given img a sector (refused r) q e s = absurd (s (sym e))
+given img a sector (Ok l) q e s = q ∙ ap Ok e
+given img a sector (Err r) q e s = absurd (s (sym e))
 
 pub demand-2-returned : Demand2Returned
 unfolding bytes_read
@@ -207,8 +206,8 @@ demand-2-returned img a sector = (
 -- ---- it is the part that `locate` names
 same-part : (img : List ℕ) (p : Place) (v : Verdict) → bytes_read (answer v (part img p.start.0 p.size)) ≡ part_at img (answer v p)
 unfolding bytes_read part_at answer
-same-part img p Passes = refl
-same-part img p (Refuses r) = refl
+same-part img p (Ok tt) = refl
+same-part img p (Err r) = refl
 
 pub read-is-located : ReadIsLocated
 unfolding read read_at locate item_bytes part_at

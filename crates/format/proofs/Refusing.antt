@@ -11,13 +11,12 @@ use native.Mathlib.Nat.{eq-or-lt_of_le}
 use native.Mathlib.Omega.{arith}
 use lib.ListN.{take}
 use lib.IntN.{ℤ, pos}
+use Rattle.std.specs.Prelude.{Ok, Err}
 use Rattle.format.specs.declared.Placed.{Placed}
 use Rattle.format.specs.declared.TableKind.{TableKind}
 use Rattle.format.specs.declared.TableKind.TheVariants.{First, Second}
-use Rattle.format.specs.declared.Verdict.{Verdict}
-use Rattle.format.specs.declared.Verdict.TheVariants.{Passes, Refuses}
 use Rattle.format.specs.Tests.{same, differs, ◌and◌}
-use Rattle.format.specs.Refusals.{refusal, row, ◌then◌, refused, accepted}
+use Rattle.format.specs.Refusals.{refusal, row, ◌then◌, Verdict}
 use Rattle.format.specs.Layouts.{index_offset, index_header_length, entry_count, entry_length, entries}
 use Rattle.format.specs.Opening.{header_verdict, index_verdict, entry_verdict, entries_verdict, one_of, one_verdict, table_at, extent_verdict, payload_verdict, table_verdict, open_verdict, Opened, opened, range_of, sector_count}
 use Rattle.format.specs.Reading.{outside, entry_number, not_written, unknown_status, pointer_verdict, sector_verdict, address_verdict, read_verdict, locate}
@@ -140,8 +139,8 @@ module _ (img : List ℕ) (o : ℕ) (LookedAt : ℕ → Type 0) where
 -- but for 21
 other-says : (P : ℕ → ℕ → Type 0) (v : Verdict) → Says (λ n p. n ≢ 21 → P n p) v → Says P (other_than_21 v)
 unfolding other_than_21 Says
-other-says P Passes k = tt
-other-says P (Refuses r) k = choose-cases (Says P) _ _ _ (λ e. tt) (λ e. k (same-iff.0 e))
+other-says P (Ok tt) k = tt
+other-says P (Err r) k = choose-cases (Says P) _ _ _ (λ e. tt) (λ e. k (same-iff.0 e))
 
 -- a range but for its least
 but-least : {least most : ℕ} (n : ℕ) → FromTo least most n → n ≢ least → FromTo (suc least) most n
@@ -338,7 +337,7 @@ second-iff First = (λ h. absurd (true≢false (sym h)), λ h. absurd (first-sec
 second-iff Second = (λ h. refl, λ h. refl)
 
 module _ (img : List ℕ) (o : ℕ) where
-  writable-74 : (writable_verdict img o ≡ Refuses (refusal 74 0)) ↔ OpensWith img o Second
+  writable-74 : (writable_verdict img o ≡ Err (refusal 74 0)) ↔ OpensWith img o Second
   unfolding writable_verdict
   writable-74 =
       let w = Iff.trans (row_gives (is_second (opened img o).kind) (refusal 74 0)) (second-iff _) in
@@ -355,7 +354,7 @@ module _ (img : List ℕ) (o : ℕ) where
       (says-also _ (λ n p s d. s.0)
       (sector-says img o (λ n. Unit {0}) (λ n. n ≢ 74) (λ n f e. omega arith) i tt (row-says _ _ (refusal 73 0) ((λ e. omega arith), at_none (inr (inr (inr (omega arith)))))))))))
 
-  disc-74 : (addresses : List ℤ) → (disc_verdict img o addresses ≡ Refuses (refusal 74 0)) ↔ OpensWith img o Second
+  disc-74 : (addresses : List ℤ) → (disc_verdict img o addresses ≡ Err (refusal 74 0)) ↔ OpensWith img o Second
   unfolding disc_verdict
   disc-74 addresses = Iff.trans (gives_then _ _ (refusal 74 0) (rest-not-74 addresses)) writable-74
 
@@ -366,7 +365,7 @@ over-not-74 n h e =
     (⊎_elim (λ f. omega (arith, f)) (⊎_elim (λ f. omega (arith, f)) (λ f. omega (arith, f)))) h
 
 flatten-74 : (buffer child parent application : List ℕ) (full : Bool)
-    → ((flatten_verdict buffer child parent application then row full (refusal 35 0)) ≡ Refuses (refusal 74 0)) ↔ (FlattenArguments buffer application × OpensWith child (index_offset child) Second)
+    → ((flatten_verdict buffer child parent application then row full (refusal 35 0)) ≡ Err (refusal 74 0)) ↔ (FlattenArguments buffer application × OpensWith child (index_offset child) Second)
 unfolding flatten_verdict lent_verdict sizes_verdict
 flatten-74 buffer child parent application full =
     let pairs : Says Not-74 (pair_verdict child parent) =
@@ -392,7 +391,7 @@ second-refused = record {
       let u : ¬ Gives 74 (buffer_verdict buffer used) = apart_from 74 _ (FromTo 30 35) (λ n p k. k.0) (λ f. omega arith) (buffer-says [] 0 NoSector _ (omega arith) (omega arith) buffer used) in
       Iff.trans (outcome-refuses _ _ _ _ (refusal 74 0)) (Iff.trans (then-gives _ _ (refusal 74 0) u) (Iff.and (buffer-ok buffer used) (writable-74 _ offset)));
   flattening = λ buffer child parent application major minor mediaType creationTime lastWrittenTime.
-      subst (λ (w : Outcome Placed). (w.result ≡ refused (refusal 74 0)) ↔ (FlattenArguments buffer application × OpensWith child (index_offset child) Second))
+      subst (λ (w : Outcome Placed). (w.result ≡ Err (refusal 74 0)) ↔ (FlattenArguments buffer application × OpensWith child (index_offset child) Second))
       (sym (flatten-is buffer child parent application major minor mediaType creationTime lastWrittenTime))
       (Iff.trans (outcome-refuses _ _ _ _ (refusal 74 0)) (flatten-74 buffer child parent application _));
 }
@@ -411,8 +410,8 @@ module _ (img out : List ℕ) where
   abbrev u : Opened
   u = opened img i
 
-  export-21 : (export_verdict img i out ≡ Refuses (refusal 21 0))
-      ↔ (OpenOk img i × ((sectors_verdict img (entries img i) u ≡ Passes) × ((u.count ≢ 0) × (gap_count img u ≡ u.count))))
+  export-21 : (export_verdict img i out ≡ Err (refusal 21 0))
+      ↔ (OpenOk img i × ((sectors_verdict img (entries img i) u ≡ Ok tt) × ((u.count ≢ 0) × (gap_count img u ≡ u.count))))
   unfolding export_verdict sectors_verdict
   export-21 =
       let sectors : ¬ Gives 21 (sectors_verdict img (entries img i) u) =
@@ -424,11 +423,11 @@ module _ (img out : List ℕ) where
       (Iff.trans (gives_then _ _ (refusal 21 0) (apart_from 21 _ (FromTo 40 41) (λ n p k. k.0) (λ f. omega arith) (file-says img i out)))
       (Iff.trans (row_gives _ (refusal 21 0)) (nothing-test _ _))))))
 
-  unwritten-forth : (export img out).result ≡ refused (refusal 21 0) → NothingWritten img
+  unwritten-forth : (export img out).result ≡ Err (refusal 21 0) → NothingWritten img
   unfolding export sector_count range_of gap_count
   unwritten-forth e =
       let k = export-21.0 ((outcome-refuses _ _ _ _ (refusal 21 0)).0 e) in
-      let counted : sector_count img ≡ accepted (range_of u) = answer-passes _ _ ((open-ok img i).1 k.0) in
+      let counted : sector_count img ≡ Ok (range_of u) = answer-passes _ _ ((open-ok img i).1 k.0) in
       record {
         range = range_of u;
         sectors = counted;
@@ -436,7 +435,7 @@ module _ (img out : List ℕ) where
         each = λ n h. sym (range-read img (range_of u) counted n h) ∙ (missing-iff img i n).0 (how_many-every _ _ 0 k.1.1.1 n (omega arith) (omega arith));
       }
 
-  unwritten-back : NothingWritten img → (export img out).result ≡ refused (refusal 21 0)
+  unwritten-back : NothingWritten img → (export img out).result ≡ Err (refusal 21 0)
   unfolding export gap_count sectors_verdict
   unwritten-back n =
       let c : u.count ≡ n.range.count = range-count img n.range n.sectors in

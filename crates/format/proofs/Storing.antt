@@ -11,13 +11,14 @@ use lib.ListN.{length, take, drop, get_or, length-append, length-take, length-dr
 use lib.Pow.{pow_mono}
 use lib.Seq.{take-add, take_at, drop_at, drop-drop, get_or-append_seam}
 use borrow.Author.Tests.{not-true}
+use Rattle.std.specs.Prelude.{Ok}
 use Rattle.fields.specs.Bytes.{part, equal}
 use Rattle.fields.proofs.Equal.{equal-true, equal-refl}
 use Rattle.fields.proofs.Numbers.{length-to_le}
 use Rattle.format.specs.declared.Pointer.{Pointer}
 use Rattle.format.specs.Tests.{same, below}
 use Rattle.format.specs.Lists.{All, done, more, Any, here, there}
-use Rattle.format.specs.Refusals.{Answer, accepted}
+use Rattle.format.specs.Refusals.{Answer}
 use Rattle.format.specs.Layouts.{table_entry_length, encode}
 use Rattle.format.specs.Opening.{Opened}
 use Rattle.format.specs.Reading.{not_written, pointer_at, item_bytes}
@@ -227,7 +228,7 @@ stored-sized img t block k size sectors h = (stored_ok img t block (Sized size) 
 
 -- ---- what an address reads as after a commit, by what was handed in for it and by what it read as before
 unfoldable pub handed_or : Option (List ℕ) → Answer (List ℕ) → Answer (List ℕ)
-handed_or (some sector) before = accepted sector
+handed_or (some sector) before = Ok sector
 handed_or none before = before
 
 -- ---- the new pointers: of address a, beside what was handed in for it

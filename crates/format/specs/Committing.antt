@@ -1,16 +1,14 @@
 -- "*Commit* takes buffer, `used`, an address list, a sector size, the sectors' bytes one after another, and a time." The old disc is the
 -- image `img`, opened as `t`; a commit opens it at o, its header's index offset. "An empty list is allowed."
-use Rattle.std.specs.Prelude.{Bool, true, false, not, ℕ, zero, suc, ◌+◌, ◌*◌, ◌^◌, max, length, take, drop, get_or, ℤ}
+use Rattle.std.specs.Prelude.{Bool, true, false, not, ℕ, zero, suc, ◌+◌, ◌*◌, ◌^◌, max, length, take, drop, get_or, ℤ, Ok, Err}
 use mathlib.Core.List.{List, [], ◌∷◌, ◌++◌, map, flatten}
 use Rattle.std.proofs.Math.Option.{Option, none, some, or_else}
 use Rattle.fields.specs.Bytes.{overwrite, to_le, equal}
 use Rattle.format.specs.declared.Entry.{Entry}
 use Rattle.format.specs.declared.Placed.{Placed}
 use Rattle.format.specs.declared.Pointer.{Pointer}
-use Rattle.format.specs.declared.Verdict.{Verdict}
-use Rattle.format.specs.declared.Verdict.TheVariants.{Passes, Refuses}
 use Rattle.format.specs.Tests.{same, differs, below, less_than, ◌or◌, ◌and◌, choose}
-use Rattle.format.specs.Refusals.{refusal, row, ◌then◌, first_refusal}
+use Rattle.format.specs.Refusals.{refusal, row, ◌then◌, first_refusal, Verdict}
 use Rattle.format.specs.Layouts.{DBLK, DDT*, CKSM, index_offset, entries, user_data_entry, index_bytes, block_bytes, table_bytes, table_entry_length, encode}
 use Rattle.format.specs.Opening.{is_type, is_user_data, Opened, opened}
 use Rattle.format.specs.Reading.{outside, entry_number, not_written, pointer_at, item_bytes, sector_verdict}
@@ -41,8 +39,8 @@ any_outside t (a ∷ addresses) = outside t a or any_outside t addresses
 
 -- a verdict, but for the number 21
 unfoldable pub other_than_21 : Verdict → Verdict
-other_than_21 Passes = Passes
-other_than_21 (Refuses r) = choose (same r.number 21) Passes (Refuses r)
+other_than_21 (Ok tt) = Ok tt
+other_than_21 (Err r) = choose (same r.number 21) (Ok tt) (Err r)
 
 -- the sectors of the whole disc, also those that the commit replaces
 unfoldable pub sectors_verdict : List ℕ → List Entry → Opened → Verdict

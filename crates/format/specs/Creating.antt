@@ -4,9 +4,8 @@ use Rattle.std.specs.Prelude.{List, [], ◌∷◌, ◌++◌, ℕ, ◌+◌, ◌*�
 use Rattle.fields.specs.Bytes.{overwrite}
 use Rattle.format.specs.declared.Entry.{Entry}
 use Rattle.format.specs.declared.Placed.{Placed}
-use Rattle.format.specs.declared.Verdict.{Verdict}
 use Rattle.format.specs.Tests.{same, differs, below, ◌or◌}
-use Rattle.format.specs.Refusals.{refusal, row, ◌then◌}
+use Rattle.format.specs.Refusals.{refusal, row, ◌then◌, Verdict}
 use Rattle.format.specs.Layouts.{DDT*, header_length, application_length, header_bytes, index_header_length, entry_length, user_data_entry, index_bytes, table_header_length, table_entry_length, table_bytes}
 use Rattle.format.specs.Writing.{most_sectors, longest_buffer, Outcome, outcome, placed}
 

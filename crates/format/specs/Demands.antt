@@ -1,5 +1,5 @@
 -- The demands, as the claims that proofs/ proves of these definitions.
-use Rattle.std.specs.Prelude.{true, false, List, [], ◌∷◌, ◌++◌, ◌≢◌, ◌⊎◌, ◌↔◌, ◌≡◌, ℕ, zero, suc, ◌+◌, ◌*◌, ◌≤◌, ◌<◌, length, take, get_or, replicate, ℤ, pos, ◌+ℤ◌}
+use Rattle.std.specs.Prelude.{true, false, List, [], ◌∷◌, ◌++◌, ◌≢◌, ◌⊎◌, ◌↔◌, ◌≡◌, ℕ, zero, suc, ◌+◌, ◌*◌, ◌≤◌, ◌<◌, length, take, get_or, replicate, ℤ, pos, ◌+ℤ◌, Ok, Err}
 use Rattle.fields.specs.Bytes.{part, to_le, overwrite}
 use Rattle.format.specs.declared.AddressRange.{AddressRange}
 use Rattle.format.specs.declared.Entry.{Entry}
@@ -11,7 +11,7 @@ use Rattle.format.specs.declared.Sourced.{Sourced}
 use Rattle.format.specs.declared.TableKind.{TableKind}
 use Rattle.format.specs.declared.TableKind.TheVariants.{First, Second}
 use Rattle.format.specs.Lists.{All, Counts, IsBytes}
-use Rattle.format.specs.Refusals.{refusal, Answer, refused, accepted}
+use Rattle.format.specs.Refusals.{refusal, Answer}
 use Rattle.format.specs.Layouts.{index_offset, index_header_length, entry_count, entry_length, entry_at, entries, block_header_length, sector_size, table_count, table_negative}
 use Rattle.format.specs.Opening.{lacks, is_type, table_at, opened, sector_count}
 use Rattle.format.specs.Reading.{entry_number, table_entry_at, pointer_at, read, locate}
@@ -96,7 +96,7 @@ AnyEntry img n = n < (opened img (index_offset img)).count
 
 -- where the answer is a refusal, its number and its place are such
 abbrev pub RefusesBy : {A : Type 0} → (ℕ → Type 0) → (ℕ → ℕ → Type 0) → Answer A → Type 0
-RefusesBy N P a = (r : Refusal) → a ≡ refused r → N r.number × P r.number r.place.0
+RefusesBy N P a = (r : Refusal) → a ≡ Err r → N r.number × P r.number r.place.0
 
 -- a call that looks at no sector
 abbrev pub NoSector : ℕ → Type 0
@@ -128,24 +128,24 @@ pub record Demand1Refusals : Type 0 where
 -- "Each refusal .. writes nothing": every byte of the buffer is as it was
 pub record Demand1Unchanged : Type 0 where
   pub creating : (buffer : List ℕ) (count : ℕ) (application : List ℕ) (major minor mediaType creationTime lastWrittenTime : ℕ) (r : Refusal)
-      → (create buffer count application major minor mediaType creationTime lastWrittenTime).result ≡ refused r
+      → (create buffer count application major minor mediaType creationTime lastWrittenTime).result ≡ Err r
       → (create buffer count application major minor mediaType creationTime lastWrittenTime).buffer ≡ buffer
   pub committing : (buffer : List ℕ) (used : ℕ) (addresses : List ℤ) (size : ℕ) (sectors : List ℕ) (time : ℕ) (r : Refusal)
-      → (commit buffer used addresses size sectors time).result ≡ refused r → (commit buffer used addresses size sectors time).buffer ≡ buffer
+      → (commit buffer used addresses size sectors time).result ≡ Err r → (commit buffer used addresses size sectors time).buffer ≡ buffer
   pub rolling_back : (buffer : List ℕ) (used offset time : ℕ) (r : Refusal)
-      → (rollback buffer used offset time).result ≡ refused r → (rollback buffer used offset time).buffer ≡ buffer
-  pub exporting_exactly : (img out : List ℕ) (r : Refusal) → (export_exact img out).result ≡ refused r → (export_exact img out).buffer ≡ out
-  pub exporting : (img out : List ℕ) (r : Refusal) → (export img out).result ≡ refused r → (export img out).buffer ≡ out
+      → (rollback buffer used offset time).result ≡ Err r → (rollback buffer used offset time).buffer ≡ buffer
+  pub exporting_exactly : (img out : List ℕ) (r : Refusal) → (export_exact img out).result ≡ Err r → (export_exact img out).buffer ≡ out
+  pub exporting : (img out : List ℕ) (r : Refusal) → (export img out).result ≡ Err r → (export img out).buffer ≡ out
   pub importing : (buffer file : List ℕ) (size : ℕ) (application : List ℕ) (major minor mediaType creationTime lastWrittenTime : ℕ) (r : Refusal)
-      → (import buffer file size application major minor mediaType creationTime lastWrittenTime).result ≡ refused r
+      → (import buffer file size application major minor mediaType creationTime lastWrittenTime).result ≡ Err r
       → (import buffer file size application major minor mediaType creationTime lastWrittenTime).buffer ≡ buffer
   pub flattening : (buffer child parent application : List ℕ) (major minor mediaType creationTime lastWrittenTime : ℕ) (r : Refusal)
-      → (flatten buffer child parent application major minor mediaType creationTime lastWrittenTime).result ≡ refused r
+      → (flatten buffer child parent application major minor mediaType creationTime lastWrittenTime).result ≡ Err r
       → (flatten buffer child parent application major minor mediaType creationTime lastWrittenTime).buffer ≡ buffer
 
 -- an address reads as 21: it is not written
 abbrev pub Missing : Answer (List ℕ) → Type 0
-Missing answer = answer ≡ refused (refusal 21 0)
+Missing answer = answer ≡ Err (refusal 21 0)
 
 -- ---- "a call to which none applies is accepted": each call is accepted, and with which value, exactly if these facts hold. No check is mentioned
 -- in them: only places, fields, checksums, index entries and lengths (and, of a sector that a disc holds, that some address reads as it).
@@ -183,7 +183,7 @@ pub data NamesOver (child parent : List ℕ) (a : ℤ) : Sourced → Type 0 wher
 -- a disc holds a sector: some address reads as it
 pub record Held (img : List ℕ) (sector : List ℕ) : Type 0 where
   pub address : ℤ
-  pub reads : read img address ≡ accepted sector
+  pub reads : read img address ≡ Ok sector
 
 -- what a commit appends to the disc `img`, which has `used` bytes: a data block of the sectors that are stored, if there are any, a table, and an index
 -- of the old entries that are kept and, last, the block's
@@ -262,7 +262,7 @@ pub data PairHas (child parent : List ℕ) (size : ℕ) : ℕ → ℕ → List (
   finished : {n : ℕ} → PairHas child parent size zero n []
   gap : {k n : ℕ} {ds : List (List ℕ)} → Missing (read_over child parent (pos n)) → PairHas child parent size k (suc n) ds
       → PairHas child parent size (suc k) n ds
-  sector : {k n : ℕ} {d : List ℕ} {ds : List (List ℕ)} → read_over child parent (pos n) ≡ accepted d → length d ≡ size
+  sector : {k n : ℕ} {d : List ℕ} {ds : List (List ℕ)} → read_over child parent (pos n) ≡ Ok d → length d ≡ size
       → PairHas child parent size k (suc n) ds → PairHas child parent size (suc k) n (d ∷ ds)
 
 -- flattening: the child opens with a table of the first kind, each of its addresses has a sector or is not written, the sectors are of one size, and the image
@@ -283,22 +283,22 @@ pub record FlattenOk (buffer child parent application : List ℕ) (p : Placed) :
   pub room : p.used ≤ length buffer
 
 pub record Demand1Accepted : Type 0 where
-  pub counting : (img : List ℕ) (range : AddressRange) → (sector_count img ≡ accepted range) ↔ HasSectors img range
-  pub locating : (img : List ℕ) (a : ℤ) (p : Place) → (locate img a ≡ accepted p) ↔ NamesItem img a p
+  pub counting : (img : List ℕ) (range : AddressRange) → (sector_count img ≡ Ok range) ↔ HasSectors img range
+  pub locating : (img : List ℕ) (a : ℤ) (p : Place) → (locate img a ≡ Ok p) ↔ NamesItem img a p
   pub creating : (buffer : List ℕ) (count : ℕ) (application : List ℕ) (major minor mediaType creationTime lastWrittenTime : ℕ) (p : Placed)
-      → ((create buffer count application major minor mediaType creationTime lastWrittenTime).result ≡ accepted p)
+      → ((create buffer count application major minor mediaType creationTime lastWrittenTime).result ≡ Ok p)
       ↔ (CreateOk buffer count application × (p ≡ placed (189 + 8 * count) (153 + 8 * count)))
   pub committing : (buffer : List ℕ) (used : ℕ) (addresses : List ℤ) (size : ℕ) (sectors : List ℕ) (time : ℕ) (p : Placed)
-      → ((commit buffer used addresses size sectors time).result ≡ accepted p) ↔ CommitOk buffer used addresses size sectors p
+      → ((commit buffer used addresses size sectors time).result ≡ Ok p) ↔ CommitOk buffer used addresses size sectors p
   pub rolling_back : (buffer : List ℕ) (used offset time : ℕ) (p : Placed)
-      → ((rollback buffer used offset time).result ≡ accepted p) ↔ (RollbackOk buffer used offset × (p ≡ placed used offset))
-  pub exporting_exactly : (img out : List ℕ) (n : ℕ) → ((export_exact img out).result ≡ accepted n) ↔ ExportExactOk img out n
-  pub exporting : (img out : List ℕ) (n : Flat) → ((export img out).result ≡ accepted n) ↔ ExportOk img out n
+      → ((rollback buffer used offset time).result ≡ Ok p) ↔ (RollbackOk buffer used offset × (p ≡ placed used offset))
+  pub exporting_exactly : (img out : List ℕ) (n : ℕ) → ((export_exact img out).result ≡ Ok n) ↔ ExportExactOk img out n
+  pub exporting : (img out : List ℕ) (n : Flat) → ((export img out).result ≡ Ok n) ↔ ExportOk img out n
   pub importing : (buffer file : List ℕ) (size : ℕ) (application : List ℕ) (major minor mediaType creationTime lastWrittenTime : ℕ) (p : Placed)
-      → ((import buffer file size application major minor mediaType creationTime lastWrittenTime).result ≡ accepted p) ↔ ImportOk buffer file size application p
-  pub locating_over : (child parent : List ℕ) (a : ℤ) (s : Sourced) → (locate_over child parent a ≡ accepted s) ↔ NamesOver child parent a s
+      → ((import buffer file size application major minor mediaType creationTime lastWrittenTime).result ≡ Ok p) ↔ ImportOk buffer file size application p
+  pub locating_over : (child parent : List ℕ) (a : ℤ) (s : Sourced) → (locate_over child parent a ≡ Ok s) ↔ NamesOver child parent a s
   pub flattening : (buffer child parent application : List ℕ) (major minor mediaType creationTime lastWrittenTime : ℕ) (p : Placed)
-      → ((flatten buffer child parent application major minor mediaType creationTime lastWrittenTime).result ≡ accepted p) ↔ FlattenOk buffer child parent application p
+      → ((flatten buffer child parent application major minor mediaType creationTime lastWrittenTime).result ≡ Ok p) ↔ FlattenOk buffer child parent application p
 
 -- ---- what an accepted call leaves as it was: all of these bytes
 pub record Leaves (before after : List ℕ) (Untouched : ℕ → Type 0) : Type 0 where
@@ -318,25 +318,25 @@ pub record HeaderSet (after : List ℕ) (index time : ℕ) : Type 0 where
 -- lastWrittenTime only"
 pub record WritesOnly : Type 0 where
   pub creating : (buffer : List ℕ) (count : ℕ) (application : List ℕ) (major minor mediaType creationTime lastWrittenTime : ℕ) (p : Placed)
-      → (create buffer count application major minor mediaType creationTime lastWrittenTime).result ≡ accepted p
+      → (create buffer count application major minor mediaType creationTime lastWrittenTime).result ≡ Ok p
       → let after = (create buffer count application major minor mediaType creationTime lastWrittenTime).buffer in
       Leaves buffer after (λ i. p.used ≤ i) × HeaderSet after p.index.0 lastWrittenTime
   pub committing : (buffer : List ℕ) (used : ℕ) (addresses : List ℤ) (size : ℕ) (sectors : List ℕ) (time : ℕ) (p : Placed)
-      → (commit buffer used addresses size sectors time).result ≡ accepted p
+      → (commit buffer used addresses size sectors time).result ≡ Ok p
       → let after = (commit buffer used addresses size sectors time).buffer in
       Leaves buffer after (λ i. Elsewhere i × ((i < used) ⊎ (p.used ≤ i))) × HeaderSet after p.index.0 time
   pub rolling_back : (buffer : List ℕ) (used offset time : ℕ) (p : Placed)
-      → (rollback buffer used offset time).result ≡ accepted p
+      → (rollback buffer used offset time).result ≡ Ok p
       → let after = (rollback buffer used offset time).buffer in
       Leaves buffer after Elsewhere × HeaderSet after offset time
-  pub exporting_exactly : (img out : List ℕ) (n : ℕ) → (export_exact img out).result ≡ accepted n → Leaves out (export_exact img out).buffer (λ i. n ≤ i)
-  pub exporting : (img out : List ℕ) (n : Flat) → (export img out).result ≡ accepted n → Leaves out (export img out).buffer (λ i. n.length ≤ i)
+  pub exporting_exactly : (img out : List ℕ) (n : ℕ) → (export_exact img out).result ≡ Ok n → Leaves out (export_exact img out).buffer (λ i. n ≤ i)
+  pub exporting : (img out : List ℕ) (n : Flat) → (export img out).result ≡ Ok n → Leaves out (export img out).buffer (λ i. n.length ≤ i)
   pub importing : (buffer file : List ℕ) (size : ℕ) (application : List ℕ) (major minor mediaType creationTime lastWrittenTime : ℕ) (p : Placed)
-      → (import buffer file size application major minor mediaType creationTime lastWrittenTime).result ≡ accepted p
+      → (import buffer file size application major minor mediaType creationTime lastWrittenTime).result ≡ Ok p
       → let after = (import buffer file size application major minor mediaType creationTime lastWrittenTime).buffer in
       Leaves buffer after (λ i. p.used ≤ i) × HeaderSet after p.index.0 lastWrittenTime
   pub flattening : (buffer child parent application : List ℕ) (major minor mediaType creationTime lastWrittenTime : ℕ) (p : Placed)
-      → (flatten buffer child parent application major minor mediaType creationTime lastWrittenTime).result ≡ accepted p
+      → (flatten buffer child parent application major minor mediaType creationTime lastWrittenTime).result ≡ Ok p
       → let after = (flatten buffer child parent application major minor mediaType creationTime lastWrittenTime).buffer in
       Leaves buffer after (λ i. p.used ≤ i) × HeaderSet after p.index.0 lastWrittenTime
 
@@ -344,12 +344,12 @@ pub record WritesOnly : Type 0 where
 -- opening's": exactly if the image opens with such a table and no check before it applies
 pub record SecondRefused : Type 0 where
   pub committing : (buffer : List ℕ) (used : ℕ) (addresses : List ℤ) (size : ℕ) (sectors : List ℕ) (time : ℕ)
-      → ((commit buffer used addresses size sectors time).result ≡ refused (refusal 74 0))
+      → ((commit buffer used addresses size sectors time).result ≡ Err (refusal 74 0))
       ↔ (ArgumentsOk buffer used addresses size sectors × OpensWith (take used buffer) (index_offset (take used buffer)) Second)
   pub rolling_back : (buffer : List ℕ) (used offset time : ℕ)
-      → ((rollback buffer used offset time).result ≡ refused (refusal 74 0)) ↔ (BufferOk buffer used × OpensWith (take used buffer) offset Second)
+      → ((rollback buffer used offset time).result ≡ Err (refusal 74 0)) ↔ (BufferOk buffer used × OpensWith (take used buffer) offset Second)
   pub flattening : (buffer child parent application : List ℕ) (major minor mediaType creationTime lastWrittenTime : ℕ)
-      → ((flatten buffer child parent application major minor mediaType creationTime lastWrittenTime).result ≡ refused (refusal 74 0))
+      → ((flatten buffer child parent application major minor mediaType creationTime lastWrittenTime).result ≡ Err (refusal 74 0))
       ↔ (FlattenArguments buffer application × OpensWith child (index_offset child) Second)
 
 -- ---- 6/13: the test of an identifier "says yes exactly if the bytes are those letters in that order", at a place and in an index entry
@@ -368,7 +368,7 @@ pub record ItemIs (img : List ℕ) (a : ℤ) (sector : List ℕ) : Type 0 where
   pub bytes : part img place.start.0 place.size ≡ sector
 
 abbrev pub Demand2Reading : Type 0
-Demand2Reading = (img : List ℕ) (a : ℤ) (sector : List ℕ) → (read img a ≡ accepted sector) ↔ ItemIs img a sector
+Demand2Reading = (img : List ℕ) (a : ℤ) (sector : List ℕ) → (read img a ≡ Ok sector) ↔ ItemIs img a sector
 
 -- the same of what the call hands out: some bytes exactly if the address names an item, and then that item's; else none
 abbrev pub Demand2Returned : Type 0
@@ -376,44 +376,44 @@ Demand2Returned = (img : List ℕ) (a : ℤ) (sector : List ℕ) → ((bytes_rea
 
 -- and it is the part that `locate` names, none exactly where `locate` refuses
 unfoldable pub part_at : List ℕ → Answer Place → List ℕ
-part_at img (accepted p) = part img p.start.0 p.size
-part_at img (refused r) = []
+part_at img (Ok p) = part img p.start.0 p.size
+part_at img (Err r) = []
 
 abbrev pub ReadIsLocated : Type 0
 ReadIsLocated =
-    (img : List ℕ) (a : ℤ) → (bytes_read (read img a) ≡ part_at img (locate img a)) × ((p : Place) → locate img a ≡ accepted p → bytes_read (read img a) ≢ [])
+    (img : List ℕ) (a : ℤ) → (bytes_read (read img a) ≡ part_at img (locate img a)) × ((p : Place) → locate img a ≡ Ok p → bytes_read (read img a) ≢ [])
 
 -- and where one of the two is refused, so is the other, with the same number and place: what is said of a read's refusals holds of `locate`'s
 abbrev pub LocateRefusesAsRead : Type 0
-LocateRefusesAsRead = (img : List ℕ) (a : ℤ) (r : Refusal) → (locate img a ≡ refused r) ↔ (read img a ≡ refused r)
+LocateRefusesAsRead = (img : List ℕ) (a : ℤ) (r : Refusal) → (locate img a ≡ Err r) ↔ (read img a ≡ Err r)
 
 -- which lies in the image: whoever is told the place may follow it
 abbrev pub LocatedInside : Type 0
-LocatedInside = (img : List ℕ) (a : ℤ) (p : Place) → locate img a ≡ accepted p → p.start.0 + p.size ≤ length img
+LocatedInside = (img : List ℕ) (a : ℤ) (p : Place) → locate img a ≡ Ok p → p.start.0 + p.size ≤ length img
 
 -- ---- the addresses of a disc: every other than those is refused with 20
 abbrev pub OutsideRefused : Type 0
 OutsideRefused =
-    (img : List ℕ) (range : AddressRange) → sector_count img ≡ accepted range
-    → (a : ℤ) → ((n : ℕ) → n < range.count → a ≢ range.lowest.0 +ℤ pos n) → read img a ≡ refused (refusal 20 0)
+    (img : List ℕ) (range : AddressRange) → sector_count img ≡ Ok range
+    → (a : ℤ) → ((n : ℕ) → n < range.count → a ≢ range.lowest.0 +ℤ pos n) → read img a ≡ Err (refusal 20 0)
 
 -- ---- a new disc: so many sectors, from address 0 on, none of them written
 pub record FreshDisc (img : List ℕ) (count : ℕ) : Type 0 where
-  pub sectors : sector_count img ≡ accepted (record { count = count; lowest = record { 0 = pos 0 } })
-  pub inside : (n : ℕ) → n < count → read img (pos n) ≡ refused (refusal 21 0)
-  pub outside : (a : ℤ) → ((n : ℕ) → n < count → a ≢ pos n) → read img a ≡ refused (refusal 20 0)
+  pub sectors : sector_count img ≡ Ok (record { count = count; lowest = record { 0 = pos 0 } })
+  pub inside : (n : ℕ) → n < count → read img (pos n) ≡ Err (refusal 21 0)
+  pub outside : (a : ℤ) → ((n : ℕ) → n < count → a ≢ pos n) → read img a ≡ Err (refusal 20 0)
 
 abbrev pub Demand2Creating : Type 0
 Demand2Creating =
     (buffer : List ℕ) (count : ℕ) (application : List ℕ) (major minor mediaType creationTime lastWrittenTime : ℕ) (p : Placed)
-    → (create buffer count application major minor mediaType creationTime lastWrittenTime).result ≡ accepted p
+    → (create buffer count application major minor mediaType creationTime lastWrittenTime).result ≡ Ok p
     → FreshDisc (take p.used (create buffer count application major minor mediaType creationTime lastWrittenTime).buffer) count
 
 -- ---- Demand 2, committing: an accepted commit makes the named sectors read as handed in and every other sector read as before: the same bytes, or the
 -- same refusal, number and place.
 -- A disc that read as `before`, after such a commit reads as `later`
 pub record ReadsCommitted (before later : ℤ → Answer (List ℕ)) (addresses : List ℤ) (size : ℕ) (sectors : List ℕ) : Type 0 where
-  pub named : (i : ℕ) → i < length addresses → later (get_or addresses i (pos 0)) ≡ accepted (part sectors (i * size) size)
+  pub named : (i : ℕ) → i < length addresses → later (get_or addresses i (pos 0)) ≡ Ok (part sectors (i * size) size)
   pub others : (a : ℤ) → All (λ (b : ℤ). b ≢ a) addresses → later a ≡ before a
 
 -- what demand 2 asks of an accepted commit that answered p and left `after`; and its index has the entries that it is to have
@@ -426,20 +426,20 @@ pub record CommitKept (buffer : List ℕ) (used : ℕ) (addresses : List ℤ) (s
 abbrev pub Demand2Committing : Type 0
 Demand2Committing =
     (buffer : List ℕ) → IsBytes buffer → (used : ℕ) (addresses : List ℤ) (size : ℕ) (sectors : List ℕ) (time : ℕ) (p : Placed)
-    → (commit buffer used addresses size sectors time).result ≡ accepted p
+    → (commit buffer used addresses size sectors time).result ≡ Ok p
     → CommitKept buffer used addresses size sectors p (commit buffer used addresses size sectors time).buffer
 
 -- ---- 4/13, flat sector files. `file` has a piece of this size for each address of an image, by rising address, and each stands so for what a read of the address
 -- answers
 pub record FlatBy (Stands : Answer (List ℕ) → List ℕ → Type 0) (img file : List ℕ) (size : ℕ) : Type 0 where
   pub range : AddressRange
-  pub sectors : sector_count img ≡ accepted range
+  pub sectors : sector_count img ≡ Ok range
   pub whole : length file ≡ range.count * size
   pub each : (i : ℕ) → i < range.count → Stands (read img (range.lowest.0 +ℤ pos i)) (part file (i * size) size)
 
 -- the flat file of an image, whose sectors have this size: "all sectors by rising address"
 abbrev pub FlatFile : List ℕ → List ℕ → ℕ → Type 0
-FlatFile img file size = FlatBy (λ answer piece. answer ≡ accepted piece) img file size
+FlatFile img file size = FlatBy (λ answer piece. answer ≡ Ok piece) img file size
 
 -- an accepted export by 4/13's rule that answered n: the first n bytes are the flat file
 pub record ExportedFile (img : List ℕ) (n : ℕ) (after : List ℕ) : Type 0 where
@@ -447,7 +447,7 @@ pub record ExportedFile (img : List ℕ) (n : ℕ) (after : List ℕ) : Type 0 w
   pub file : FlatFile img (take n after) size
 
 abbrev pub FlatExporting : Type 0
-FlatExporting = (img out : List ℕ) (n : ℕ) → (export_exact img out).result ≡ accepted n → ExportedFile img n (export_exact img out).buffer
+FlatExporting = (img out : List ℕ) (n : ℕ) → (export_exact img out).result ≡ Ok n → ExportedFile img n (export_exact img out).buffer
 
 -- an accepted import of a flat file: the image is one whose flat file it is, from address 0 on
 pub record ImportedDisc (file : List ℕ) (size : ℕ) (img : List ℕ) : Type 0 where
@@ -459,7 +459,7 @@ FlatImporting =
     (buffer : List ℕ) → IsBytes buffer → (file : List ℕ) (size : ℕ) (application : List ℕ) → IsBytes application
     → (major minor mediaType creationTime lastWrittenTime : ℕ) (p : Placed)
     → let imported = import buffer file size application major minor mediaType creationTime lastWrittenTime in
-    imported.result ≡ accepted p → ImportedDisc file size (take p.used imported.buffer)
+    imported.result ≡ Ok p → ImportedDisc file size (take p.used imported.buffer)
 
 -- "Given room, an accepted import, exported, gives the same bytes"
 abbrev pub ImportedExported : Type 0
@@ -467,32 +467,32 @@ ImportedExported =
     (buffer : List ℕ) → IsBytes buffer → (file : List ℕ) (size : ℕ) (application : List ℕ) → IsBytes application
     → (major minor mediaType creationTime lastWrittenTime : ℕ) (p : Placed)
     → let imported = import buffer file size application major minor mediaType creationTime lastWrittenTime in
-    imported.result ≡ accepted p → (out : List ℕ) → length file ≤ length out
-    → export_exact (take p.used imported.buffer) out ≡ record { result = accepted (length file); buffer = overwrite out 0 file }
+    imported.result ≡ Ok p → (out : List ℕ) → length file ≤ length out
+    → export_exact (take p.used imported.buffer) out ≡ record { result = Ok (length file); buffer = overwrite out 0 file }
 
 -- an import is accepted, and every address reads as in img, the lowest as 0: 11/13, "such a disc comes back with its lowest address as 0 and the others
 -- following"
 pub record ImportedBack (img : List ℕ) (lowest : ℤ) (imported : Outcome Placed) : Type 0 where
   pub answer : Placed
-  pub accepts : imported.result ≡ accepted answer
+  pub accepts : imported.result ≡ Ok answer
   pub same : (a : ℤ) → read (take answer.used imported.buffer) a ≡ read img (lowest +ℤ a)
 
 -- "an accepted export of 1 to 65,536 sectors of at most 65,536 bytes, imported at their size, gives a disc with the same sectors", where the buffer has room,
 -- that is, where the import is not refused with 35
 abbrev pub ExportedImported : Type 0
 ExportedImported =
-    (img out : List ℕ) (n : ℕ) → (export_exact img out).result ≡ accepted n
+    (img out : List ℕ) (n : ℕ) → (export_exact img out).result ≡ Ok n
     → let file = take n (export_exact img out).buffer in
     (size : ℕ) (f : FlatFile img file size) → FromTo 1 65536 f.range.count → size ≤ 65536
     → (buffer : List ℕ) → IsBytes buffer → length buffer ≤ 4294967296 → (application : List ℕ) → IsBytes application → length application ≡ 64
     → (major minor mediaType creationTime lastWrittenTime : ℕ)
     → let imported = import buffer file size application major minor mediaType creationTime lastWrittenTime in
-    imported.result ≢ refused (refusal 35 0) → ImportedBack img f.range.lowest.0 imported
+    imported.result ≢ Err (refusal 35 0) → ImportedBack img f.range.lowest.0 imported
 
 -- ---- 9/13, the export that fills gaps.
 -- a piece of so many bytes stands for a sector: it is what a read gives, or zeros where the address is not written
 abbrev pub SectorOrZeros : ℕ → Answer (List ℕ) → List ℕ → Type 0
-SectorOrZeros size answer piece = (answer ≡ accepted piece) ⊎ (Missing answer × (piece ≡ replicate size 0))
+SectorOrZeros size answer piece = (answer ≡ Ok piece) ⊎ (Missing answer × (piece ≡ replicate size 0))
 
 -- an accepted export that answered n: the first bytes are this file (so its pieces have the size of every written sector, the lowest too), and "how many it
 -- filled .. equals the number of addresses reading as 21" (no other address reads so: `OutsideRefused`)
@@ -502,22 +502,22 @@ pub record FilledFile (img : List ℕ) (n : Flat) (after : List ℕ) : Type 0 wh
   pub filled : Counts (λ i. Missing (read img (file.range.lowest.0 +ℤ pos i))) file.range.count 0 n.filled
 
 abbrev pub FilledExporting : Type 0
-FilledExporting = (img out : List ℕ) (n : Flat) → (export img out).result ≡ accepted n → FilledFile img n (export img out).buffer
+FilledExporting = (img out : List ℕ) (n : Flat) → (export img out).result ≡ Ok n → FilledFile img n (export img out).buffer
 
 -- "A disc with nothing written still refuses with 21": it has sectors, and each address is not written. No other disc is refused so
 pub record NothingWritten (img : List ℕ) : Type 0 where
   pub range : AddressRange
-  pub sectors : sector_count img ≡ accepted range
+  pub sectors : sector_count img ≡ Ok range
   pub some : range.count ≢ 0
   pub each : (i : ℕ) → i < range.count → Missing (read img (range.lowest.0 +ℤ pos i))
 
 abbrev pub UnwrittenRefused : Type 0
-UnwrittenRefused = (img out : List ℕ) → ((export img out).result ≡ refused (refusal 21 0)) ↔ NothingWritten img
+UnwrittenRefused = (img out : List ℕ) → ((export img out).result ≡ Err (refusal 21 0)) ↔ NothingWritten img
 
 -- where nothing is missing both rules come to the same: the same bytes, none filled, or the same refusal, number and place
 unfoldable pub none_filled : Answer ℕ → Answer Flat
-none_filled (accepted n) = accepted (flat n 0)
-none_filled (refused r) = refused r
+none_filled (Ok n) = Ok (flat n 0)
+none_filled (Err r) = Err r
 
 abbrev pub RulesAgree : Type 0
 RulesAgree =
@@ -537,7 +537,7 @@ pub record ItemOver (child parent : List ℕ) (a : ℤ) (sector : List ℕ) : Ty
   pub bytes : part (image_by child parent source.image) source.place.start.0 source.place.size ≡ sector
 
 abbrev pub OverReading : Type 0
-OverReading = (child parent : List ℕ) (a : ℤ) (sector : List ℕ) → (read_over child parent a ≡ accepted sector) ↔ ItemOver child parent a sector
+OverReading = (child parent : List ℕ) (a : ℤ) (sector : List ℕ) → (read_over child parent a ≡ Ok sector) ↔ ItemOver child parent a sector
 
 -- the same of what the call hands out
 abbrev pub OverReturned : Type 0
@@ -546,25 +546,25 @@ OverReturned =
 
 -- "a second call says which, or gives the same refusal", and a third says where there: what is read is that part of that image
 pub record Agreeing (child parent : List ℕ) (a : ℤ) : Type 0 where
-  pub source : (s : Sourced) → locate_over child parent a ≡ accepted s → source_over child parent a ≡ accepted s.image
-  pub inside : (s : Sourced) → locate_over child parent a ≡ accepted s → s.place.start.0 + s.place.size ≤ length (image_by child parent s.image)
-  pub bytes : (s : Sourced) → locate_over child parent a ≡ accepted s
-      → read_over child parent a ≡ accepted (part (image_by child parent s.image) s.place.start.0 s.place.size)
-  pub refuses : (r : Refusal) → (locate_over child parent a ≡ refused r) ↔ (read_over child parent a ≡ refused r)
-  pub source_refuses : (r : Refusal) → (source_over child parent a ≡ refused r) ↔ (read_over child parent a ≡ refused r)
+  pub source : (s : Sourced) → locate_over child parent a ≡ Ok s → source_over child parent a ≡ Ok s.image
+  pub inside : (s : Sourced) → locate_over child parent a ≡ Ok s → s.place.start.0 + s.place.size ≤ length (image_by child parent s.image)
+  pub bytes : (s : Sourced) → locate_over child parent a ≡ Ok s
+      → read_over child parent a ≡ Ok (part (image_by child parent s.image) s.place.start.0 s.place.size)
+  pub refuses : (r : Refusal) → (locate_over child parent a ≡ Err r) ↔ (read_over child parent a ≡ Err r)
+  pub source_refuses : (r : Refusal) → (source_over child parent a ≡ Err r) ↔ (read_over child parent a ≡ Err r)
 
 abbrev pub OverAgrees : Type 0
 OverAgrees = (child parent : List ℕ) (a : ℤ) → Agreeing child parent a
 
 -- its refusals, by those of the two images: the parent's count only where the child's is 21
 pub data RefusedOver (child parent : List ℕ) (a : ℤ) : Refusal → Type 0 where
-  by_child : {r : Refusal} → read child a ≡ refused r → r.number ≢ 21 → RefusedOver child parent a r
-  by_neither : Missing (read child a) → Missing (read parent a) ⊎ (read parent a ≡ refused (refusal 20 0)) → RefusedOver child parent a (refusal 21 0)
-  by_parent : {r : Refusal} → Missing (read child a) → read parent a ≡ refused r → r.number ≢ 20 → r.number ≢ 21
+  by_child : {r : Refusal} → read child a ≡ Err r → r.number ≢ 21 → RefusedOver child parent a r
+  by_neither : Missing (read child a) → Missing (read parent a) ⊎ (read parent a ≡ Err (refusal 20 0)) → RefusedOver child parent a (refusal 21 0)
+  by_parent : {r : Refusal} → Missing (read child a) → read parent a ≡ Err r → r.number ≢ 20 → r.number ≢ 21
       → RefusedOver child parent a (refusal (100 + r.number) r.place.0)
 
 abbrev pub OverRefused : Type 0
-OverRefused = (child parent : List ℕ) (a : ℤ) (r : Refusal) → (read_over child parent a ≡ refused r) ↔ RefusedOver child parent a r
+OverRefused = (child parent : List ℕ) (a : ℤ) (r : Refusal) → (read_over child parent a ≡ Err r) ↔ RefusedOver child parent a r
 
 -- flattening: the new image "reads afterwards as the pair did", at every address, the same bytes or the same refusal, number and place
 abbrev pub FlattenReads : Type 0
@@ -572,7 +572,7 @@ FlattenReads =
     (buffer : List ℕ) → IsBytes buffer → (child parent application : List ℕ) → IsBytes application
     → (major minor mediaType creationTime lastWrittenTime : ℕ) (p : Placed)
     → let flattened = flatten buffer child parent application major minor mediaType creationTime lastWrittenTime in
-    flattened.result ≡ accepted p → ReadTheSame (read (take p.used flattened.buffer)) (read_over child parent)
+    flattened.result ≡ Ok p → ReadTheSame (read (take p.used flattened.buffer)) (read_over child parent)
 
 -- and its refusals: behind the child's opening, the first "other than 21 by rising address" of a sector is its own, whatever else is wrong
 pub record FirstRefusedOver (child parent : List ℕ) (r : Refusal) : Type 0 where
@@ -580,15 +580,15 @@ pub record FirstRefusedOver (child parent : List ℕ) (r : Refusal) : Type 0 whe
   pub opens : Opens child (index_offset child) First table
   pub address : ℕ
   pub inside : address < table_count child First table
-  pub here : read_over child parent (pos address) ≡ refused r
+  pub here : read_over child parent (pos address) ≡ Err r
   pub other : r.number ≢ 21
-  pub before : (n : ℕ) → n < address → (q : Refusal) → read_over child parent (pos n) ≡ refused q → q.number ≡ 21
+  pub before : (n : ℕ) → n < address → (q : Refusal) → read_over child parent (pos n) ≡ Err q → q.number ≡ 21
 
 abbrev pub FlattenRefused : Type 0
 FlattenRefused =
     (buffer child parent application : List ℕ) (major minor mediaType creationTime lastWrittenTime : ℕ) (r : Refusal)
     → FlattenArguments buffer application → FirstRefusedOver child parent r
-    → (flatten buffer child parent application major minor mediaType creationTime lastWrittenTime).result ≡ refused r
+    → (flatten buffer child parent application major minor mediaType creationTime lastWrittenTime).result ≡ Err r
 
 -- ---- Demand 3: one claim over the whole list. `seen` is how the disc of a moment is read: alone, or, by 8/13, "also where each moment is read with the parent,
 -- whose bytes stay unchanged".
@@ -598,7 +598,7 @@ View = (ℤ → Answer (List ℕ)) → ℤ → Answer (List ℕ)
 -- (a) A rollback, made at m, to the offset of a point: it is accepted, it answers `used` and the offset, and right after it every address
 -- reads the same bytes, or the same refusal, number and place, as at the point
 pub record ReturnsTo (seen : View) (m : Moment) (offset time : ℕ) (p : Point) : Type 0 where
-  pub accepts : (outcome_of m (rolls_back offset time)).result ≡ accepted (placed m.used offset)
+  pub accepts : (outcome_of m (rolls_back offset time)).result ≡ Ok (placed m.used offset)
   pub same : ReadTheSame (seen (reads (after m (rolls_back offset time)))) (seen p.disc)
 
 -- (d) "A refused call passes buffer and `used` on unchanged."
@@ -610,13 +610,13 @@ pub record Unchanged (m n : Moment) : Type 0 where
 unfoldable pub Effect : View → Moment → Call → Type 0
 Effect seen m (rolls_back offset time) = All (λ (p : Point). p.offset ≡ offset → ReturnsTo seen m offset time p) m.points
 Effect seen m (commits addresses size sectors time) =
-    (p : Placed) → (outcome_of m (commits addresses size sectors time)).result ≡ accepted p
+    (p : Placed) → (outcome_of m (commits addresses size sectors time)).result ≡ Ok p
     → ReadsCommitted (seen (reads m)) (seen (reads (after m (commits addresses size sectors time)))) addresses size sectors
 
 -- what is promised of a call that is made at m
 pub record Promised (seen : View) (m : Moment) (c : Call) : Type 0 where
   pub effect : Effect seen m c
-  pub unchanged : (r : Refusal) → (outcome_of m c).result ≡ refused r → Unchanged m (after m c)
+  pub unchanged : (r : Refusal) → (outcome_of m c).result ≡ Err r → Unchanged m (after m c)
 
 -- (b) "No two points have the same offset"
 pub data Distinct : List Point → Type 0 where
@@ -631,7 +631,7 @@ pub record Kept (seen : View) (start : Moment) (calls : List Call) : Type 0 wher
 -- what is lent is bytes
 abbrev pub KeptBy : View → Type 0
 KeptBy seen =
-    (buffer : List ℕ) → IsBytes buffer → (start : Start) → OfBytes start → (p : Placed) → (start_on buffer start).result ≡ accepted p
+    (buffer : List ℕ) → IsBytes buffer → (start : Start) → OfBytes start → (p : Placed) → (start_on buffer start).result ≡ Ok p
     → (calls : List Call) → Throughout Permitted (started (start_on buffer start).buffer p) calls
     → Kept seen (started (start_on buffer start).buffer p) calls
 

@@ -1,11 +1,10 @@
 -- Each record's header as bytes, the identifiers as bytes and what the tests of them say, what a table entry means, both sides of each bound of a
 -- call's arguments, worked out by hand, as a table of tests.
 -- proofs/Examples proves that all hold.
-use Rattle.std.specs.Prelude.{Bool, not, List, [], ◌∷◌, ◌++◌, ℕ, length, replicate, pos, negsuc}
+use Rattle.format.specs.Refusals.{Verdict}
+use Rattle.std.specs.Prelude.{Bool, not, List, [], ◌∷◌, ◌++◌, ℕ, length, replicate, pos, negsuc, Ok, Err}
 use Rattle.fields.specs.Bytes.{field, equal}
 use Rattle.format.specs.declared.TableKind.TheVariants.{First, Second}
-use Rattle.format.specs.declared.Verdict.{Verdict}
-use Rattle.format.specs.declared.Verdict.TheVariants.{Passes, Refuses}
 use Rattle.format.specs.Tests.{same}
 use Rattle.format.specs.Layouts.{ascii, AARUFRMT, DICMFRMT, IDX2, DBLK, DDT*, DDT2, CKSM, header_length, image_major_at, index_offset_at, last_written_at, header_bytes, entry_bytes, user_data_entry, index_bytes, block_bytes, table_bytes, entry_pointer, decode}
 use Rattle.format.specs.Opening.{lacks, is_type, is_table}
@@ -22,8 +21,8 @@ p1_header =
 
 -- the verdict refuses with this number; 0 stands for one that passes
 unfoldable pub gives : ℕ → Verdict → Bool
-gives n Passes = same n 0
-gives n (Refuses r) = same n r.number
+gives n (Ok tt) = same n 0
+gives n (Err r) = same n r.number
 
 abbrev name : List ℕ
 name = replicate 64 7

@@ -5,10 +5,9 @@ use Rattle.std.specs.Prelude.{not, ℕ, zero, suc, length, replicate}
 use mathlib.Core.List.{List, flatten}
 use Rattle.fields.specs.Bytes.{overwrite}
 use Rattle.format.specs.declared.Flat.{Flat}
-use Rattle.format.specs.declared.Verdict.{Verdict}
 use Rattle.format.specs.Tests.{same, differs, below, ◌and◌, choose}
 use Rattle.format.specs.Lists.{of_each, how_many}
-use Rattle.format.specs.Refusals.{refusal, row, ◌then◌, first_refusal}
+use Rattle.format.specs.Refusals.{refusal, row, ◌then◌, first_refusal, Verdict}
 use Rattle.format.specs.Layouts.{index_offset, entries}
 use Rattle.format.specs.Opening.{Opened, opened, open_verdict}
 use Rattle.format.specs.Reading.{not_written, pointer_at, place_of, item_bytes, sector_verdict}

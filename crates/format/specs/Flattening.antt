@@ -1,13 +1,11 @@
 -- 8/13, flattening a disc over its parent: it "makes a new image in a third buffer, as creating with the child's count and one commit (timed as in import) of
 -- all sectors of the pair that aren't 21 would (creating alone if there are none)". 11/13 refuses a child with a table of the second kind, so its addresses
 -- are the numbers of its table entries; the parent's table may be of either kind.
-use Rattle.std.specs.Prelude.{Bool, false, List, [], ◌∷◌, map, ℕ, zero, suc, length, ℤ, pos}
+use Rattle.std.specs.Prelude.{Bool, false, List, [], ◌∷◌, map, ℕ, zero, suc, length, ℤ, pos, Ok, Err}
 use mathlib.Core.List as list
 use Rattle.format.specs.declared.Placed.{Placed}
-use Rattle.format.specs.declared.Verdict.{Verdict}
-use Rattle.format.specs.declared.Verdict.TheVariants.{Passes, Refuses}
 use Rattle.format.specs.Tests.{same, differs, below, ◌or◌}
-use Rattle.format.specs.Refusals.{refusal, row, ◌then◌, first_refusal, Answer, refused, accepted, answer}
+use Rattle.format.specs.Refusals.{refusal, row, ◌then◌, first_refusal, Answer, answer, Verdict}
 use Rattle.format.specs.Layouts.{application_length, index_offset}
 use Rattle.format.specs.Opening.{opened}
 use Rattle.format.specs.Writing.{most_sectors, largest_size, most_addresses, longest_buffer, writable_verdict, Outcome}
@@ -30,8 +28,8 @@ pub record Written : Type 0 where
   pub sector : List ℕ
 
 unfoldable pub with_sector : ℕ → Answer (List ℕ) → List Written → List Written
-with_sector n (accepted sector) ws = record { address = n; sector = sector } ∷ ws
-with_sector n (refused r) ws = ws
+with_sector n (Ok sector) ws = record { address = n; sector = sector } ∷ ws
+with_sector n (Err r) ws = ws
 
 -- those of the k addresses from n on, where a disc reads so
 unfoldable pub written_from : (ℕ → Answer (List ℕ)) → ℕ → ℕ → List Written
@@ -60,8 +58,8 @@ any_other size (w ∷ ws) = differs (length w.sector) size or any_other size ws
 
 -- ---- "flattening's order is 31, 33, the child's opening numbers, the sectors' other than 21 by rising address, 40, mixed sizes, 30, 35"; 74 "after opening's"
 unfoldable pub verdict_of : {A : Type 0} → Answer A → Verdict
-verdict_of (accepted a) = Passes
-verdict_of (refused r) = Refuses r
+verdict_of (Ok a) = Ok tt
+verdict_of (Err r) = Err r
 
 unfoldable pub pair_verdict : List ℕ → List ℕ → Verdict
 pair_verdict child parent = first_refusal (λ n. other_than_21 (verdict_of (pair_at child parent n))) (count_of child) 0
@@ -88,7 +86,7 @@ flatten_verdict buffer child parent application =
 
 -- ---- "as creating .. and one commit .. would (creating alone if there are none)": the commit to the image that a creation, which answered p, left
 unfoldable pub commit_all : List ℕ → Placed → List Written → ℕ → Outcome Placed
-commit_all buffer p [] time = record { result = accepted p; buffer = buffer }
+commit_all buffer p [] time = record { result = Ok p; buffer = buffer }
 commit_all buffer p (w ∷ ws) time = commit buffer p.used (addresses_of (w ∷ ws)) (size_of (w ∷ ws)) (sectors_of (w ∷ ws)) time
 
 unfoldable pub flatten : List ℕ → List ℕ → List ℕ → List ℕ → ℕ → ℕ → ℕ → ℕ → ℕ → Outcome Placed

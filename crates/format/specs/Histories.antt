@@ -1,10 +1,10 @@
 -- Demand 3's history (01's own term): "a list of calls on one buffer, of any length, also empty. It starts with the buffer and the `used`
 -- that an accepted creation left and returned. Each call is a commit or a rollback whose other arguments are free." 4/13: it "may start with an import, whose
 -- one returned offset counts": the offset that the creation in it returned is no point.
-use Rattle.std.specs.Prelude.{List, [], ◌∷◌, ◌≡◌, ℕ, take, ℤ}
+use Rattle.std.specs.Prelude.{List, [], ◌∷◌, ◌≡◌, ℕ, take, ℤ, Ok, Err}
 use Rattle.format.specs.declared.Placed.{Placed}
 use Rattle.format.specs.Lists.{Any, IsBytes}
-use Rattle.format.specs.Refusals.{Answer, refused, accepted}
+use Rattle.format.specs.Refusals.{Answer}
 use Rattle.format.specs.Reading.{read}
 use Rattle.format.specs.Writing.{Outcome}
 use Rattle.format.specs.Creating.{create}
@@ -72,8 +72,8 @@ points_after ps (rolls_back offset time) buffer p = ps
 
 -- the moment after a call, by its answer and the buffer that it left
 unfoldable pub moment_after : Moment → Call → Answer Placed → List ℕ → Moment
-moment_after m c (refused r) buffer = record { buffer = buffer; used = m.used; points = m.points }
-moment_after m c (accepted p) buffer = record { buffer = buffer; used = p.used; points = points_after m.points c buffer p }
+moment_after m c (Err r) buffer = record { buffer = buffer; used = m.used; points = m.points }
+moment_after m c (Ok p) buffer = record { buffer = buffer; used = p.used; points = points_after m.points c buffer p }
 
 unfoldable pub after : Moment → Call → Moment
 after m c = moment_after m c (outcome_of m c).result (outcome_of m c).buffer
@@ -93,4 +93,4 @@ pub data Throughout (P : Moment → Call → Type 0) : Moment → List Call → 
 unfoldable pub Permitted : Moment → Call → Type 0
 Permitted m (commits addresses size sectors time) = IsBytes sectors
 Permitted m (rolls_back offset time) =
-    (p : Placed) → (rollback m.buffer m.used offset time).result ≡ accepted p → Any (λ (q : Point). q.offset ≡ offset) m.points
+    (p : Placed) → (rollback m.buffer m.used offset time).result ≡ Ok p → Any (λ (q : Point). q.offset ≡ offset) m.points

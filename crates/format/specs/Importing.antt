@@ -1,11 +1,10 @@
 -- 4/13, flat sector files in: "Import takes a flat file, a sector size and creating's arguments but E, and makes an image as creating and one commit at the
 -- last time would."
-use Rattle.std.specs.Prelude.{List, ℕ, ◌*◌, ◌/◌, ◌%◌, length, pos}
+use Rattle.std.specs.Prelude.{List, ℕ, ◌*◌, ◌/◌, ◌%◌, length, pos, Ok, Err}
 use Rattle.format.specs.declared.Placed.{Placed}
-use Rattle.format.specs.declared.Verdict.{Verdict}
 use Rattle.format.specs.Tests.{same, differs, below, ◌or◌}
 use Rattle.format.specs.Lists.{of_each}
-use Rattle.format.specs.Refusals.{refusal, row, ◌then◌, Answer, refused, accepted, answer}
+use Rattle.format.specs.Refusals.{refusal, row, ◌then◌, Answer, answer, Verdict}
 use Rattle.format.specs.Layouts.{application_length}
 use Rattle.format.specs.Writing.{largest_size, most_addresses, longest_buffer, Outcome}
 use Rattle.format.specs.Creating.{create}
@@ -21,13 +20,13 @@ import_verdict buffer file size application =
 
 -- ---- a call that consists of others: a refusal of any of them is its own, and leaves the whole call's buffer
 unfoldable pub or_leaves : List ℕ → Answer Placed → List ℕ → Outcome Placed
-or_leaves buffer (accepted p) new = record { result = accepted p; buffer = new }
-or_leaves buffer (refused r) new = record { result = refused r; buffer = buffer }
+or_leaves buffer (Ok p) new = record { result = Ok p; buffer = new }
+or_leaves buffer (Err r) new = record { result = Err r; buffer = buffer }
 
 -- the next one, by the value of the one before
 unfoldable pub and_then : {A : Type 0} → List ℕ → Answer A → (A → Outcome Placed) → Outcome Placed
-and_then buffer (accepted a) next = or_leaves buffer (next a).result (next a).buffer
-and_then buffer (refused r) next = record { result = refused r; buffer = buffer }
+and_then buffer (Ok a) next = or_leaves buffer (next a).result (next a).buffer
+and_then buffer (Err r) next = record { result = Err r; buffer = buffer }
 
 -- "creating and one commit at the last time", of all sectors of the file, to the addresses 0, 1, ..
 unfoldable pub import : List ℕ → List ℕ → ℕ → List ℕ → ℕ → ℕ → ℕ → ℕ → ℕ → Outcome Placed

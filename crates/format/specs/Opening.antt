@@ -1,16 +1,14 @@
 -- Opening, with o for the index's offset: a rollback checks at the offset that it is handed, all else at the header's.
 -- "All sums are whole numbers. Checks in this order", with 2/13's 104 where 01 says 72.
-use Rattle.std.specs.Prelude.{Bool, true, false, not, List, [], ◌∷◌, ℕ, zero, suc, ◌+◌, ◌*◌, length, get_or, pos, neg_ℤ}
+use Rattle.std.specs.Prelude.{Bool, true, false, not, List, [], ◌∷◌, ℕ, zero, suc, ◌+◌, ◌*◌, length, get_or, pos, neg_ℤ, Ok, Err}
 use Rattle.crc64.specs.Crc.{crc_of}
 use Rattle.fields.specs.Bytes.{part, field, to_le, equal}
 use Rattle.format.specs.declared.AddressRange.{AddressRange}
 use Rattle.format.specs.declared.Entry.{Entry}
 use Rattle.format.specs.declared.TableKind.{TableKind}
 use Rattle.format.specs.declared.TableKind.TheVariants.{First, Second}
-use Rattle.format.specs.declared.Verdict.{Verdict}
-use Rattle.format.specs.declared.Verdict.TheVariants.{Passes, Refuses}
 use Rattle.format.specs.Tests.{same, differs, below, ◌or◌, ◌and◌, choose}
-use Rattle.format.specs.Refusals.{refusal, row, ◌then◌, Answer, answer}
+use Rattle.format.specs.Refusals.{refusal, row, ◌then◌, Answer, answer, Verdict}
 use Rattle.format.specs.Layouts.{AARUFRMT, DICMFRMT, IDX2, DDT*, DDT2, header_length, image_major_at, index_offset, index_header_length, entry_count, index_crc64, entry_length, entry_at, entries, entries_part, table_header_length_of, entry_width, table_data_type, table_compression, table_shift, table_count, table_cmp_length, table_length, table_cmp_crc64, table_crc64, table_payload, table_levels, table_blocks, table_overflow, table_size_type, table_alignment, table_negative}
 
 -- 6/13: "test each block's identifier against its printed letters: the test says yes exactly if the bytes are those letters in that order."
@@ -43,7 +41,7 @@ entry_verdict img p =
 
 -- the k entries from place p on
 unfoldable pub entries_verdict : List ℕ → ℕ → ℕ → Verdict
-entries_verdict img zero p = Passes
+entries_verdict img zero p = Ok tt
 entries_verdict img (suc k) p = entry_verdict img p then entries_verdict img k (p + entry_length)
 
 -- 4. "Entries with blockType 'DDT*' and dataType 1: none is 9, more than one is 10."
@@ -70,9 +68,9 @@ is_table e = is_user_data DDT* e or is_user_data DDT2 e
 
 -- where the index at o names these tables
 unfoldable pub one_of : ℕ → List ℕ → Verdict
-one_of o [] = Refuses (refusal 9 o)
-one_of o (t ∷ []) = Passes
-one_of o (t ∷ u ∷ ts) = Refuses (refusal 10 o)
+one_of o [] = Err (refusal 9 o)
+one_of o (t ∷ []) = Ok tt
+one_of o (t ∷ u ∷ ts) = Err (refusal 10 o)
 
 unfoldable pub one_verdict : List ℕ → ℕ → Verdict
 one_verdict img o = one_of o (offsets_with is_table (entries img o))
@@ -93,7 +91,7 @@ kind_at img t = kind_by (lacks img t DDT2)
 -- length: 12. Payload past the end: 11. Either checksum wrong: 14."
 -- 11/13, of the second kind: "70, levels not 1; 71, sizeType not 0; 72, `negative` and `overflow` together exceed blocks; in that order after 13"
 unfoldable pub extent_verdict : List ℕ → TableKind → ℕ → Verdict
-extent_verdict img First t = Passes
+extent_verdict img First t = Ok tt
 extent_verdict img Second t =
     row (differs (table_levels img t) 1) (refusal 70 0)
     then row (differs (table_size_type img t) 0) (refusal 71 0)

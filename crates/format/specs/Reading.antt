@@ -8,9 +8,8 @@ use Rattle.format.specs.declared.Pointer.{Pointer}
 use Rattle.format.specs.declared.Place.{Place}
 use Rattle.format.specs.declared.TableKind.{TableKind}
 use Rattle.format.specs.declared.TableKind.TheVariants.{First, Second}
-use Rattle.format.specs.declared.Verdict.{Verdict}
 use Rattle.format.specs.Tests.{same, differs, below, at_least, less_than, ◌or◌}
-use Rattle.format.specs.Refusals.{refusal, row, ◌then◌, Answer, answer}
+use Rattle.format.specs.Refusals.{refusal, row, ◌then◌, Answer, answer, Verdict}
 use Rattle.format.specs.Layouts.{DBLK, index_offset, entries, block_header_length, block_data_type, block_compression, sector_size, block_cmp_length, block_length, block_cmp_crc64, block_crc64, block_payload, table_header_length_of, entry_width, entry_status, entry_pointer, decode}
 use Rattle.format.specs.Opening.{Opened, opened, open_verdict, offsets_of, sums_differ}
 

@@ -2,8 +2,7 @@
 -- of the header's" (11/13: then 74). "It sets indexOffset and lastWrittenTime only; `used` stays. It answers with `used` and the offset. Times are not compared."
 use Rattle.std.specs.Prelude.{List, ℕ, take}
 use Rattle.format.specs.declared.Placed.{Placed}
-use Rattle.format.specs.declared.Verdict.{Verdict}
-use Rattle.format.specs.Refusals.{◌then◌}
+use Rattle.format.specs.Refusals.{◌then◌, Verdict}
 use Rattle.format.specs.Writing.{buffer_verdict, writable_verdict, Outcome, outcome, placed, set_header}
 
 unfoldable pub rollback_verdict : List ℕ → ℕ → ℕ → Verdict

@@ -1,13 +1,11 @@
 -- Creating, committing, rolling back: what the three have in common, and with the calls that came later.
-use Rattle.std.specs.Prelude.{Bool, true, false, List, ℕ, length}
+use Rattle.std.specs.Prelude.{Bool, true, false, List, ℕ, length, Ok, Err}
 use Rattle.fields.specs.Bytes.{overwrite, to_le}
 use Rattle.format.specs.declared.Placed.{Placed}
 use Rattle.format.specs.declared.TableKind.{TableKind}
 use Rattle.format.specs.declared.TableKind.TheVariants.{First, Second}
-use Rattle.format.specs.declared.Verdict.{Verdict}
-use Rattle.format.specs.declared.Verdict.TheVariants.{Passes, Refuses}
 use Rattle.format.specs.Tests.{below}
-use Rattle.format.specs.Refusals.{refusal, row, ◌then◌, Answer, refused, accepted}
+use Rattle.format.specs.Refusals.{refusal, row, ◌then◌, Answer, Verdict}
 use Rattle.format.specs.Layouts.{index_offset_at, last_written_at}
 use Rattle.format.specs.Opening.{open_verdict, opened}
 
@@ -53,8 +51,8 @@ placed used index = record { used = used; index = record { 0 = index } }
 
 -- the outcome of a call on `buffer` by its verdict. 01, as 1/13 has it: "Each refusal, 1 to 35, returns its number and place and writes nothing."
 unfoldable pub outcome : {A : Type 0} → List ℕ → Verdict → A → List ℕ → Outcome A
-outcome buffer Passes a new = record { result = accepted a; buffer = new }
-outcome buffer (Refuses r) a new = record { result = refused r; buffer = buffer }
+outcome buffer (Ok tt) a new = record { result = Ok a; buffer = new }
+outcome buffer (Err r) a new = record { result = Err r; buffer = buffer }
 
 -- "indexOffset and lastWrittenTime are set"
 unfoldable pub set_header : List ℕ → ℕ → ℕ → List ℕ

@@ -33,13 +33,6 @@ pub struct Refusal {
     pub place: ByteOffset,
 }
 
-// What a check, or a chain of checks, comes to.
-#[derive(Clone, Copy)]
-pub enum Verdict {
-    Passes,
-    Refuses(Refusal),
-}
-
 // An entry of an index. Its fields of four bytes are u64, as every number that is read from an image.
 #[derive(Clone, Copy)]
 pub struct Entry {
@@ -69,39 +62,11 @@ pub struct AddressRange {
     pub lowest: SectorAddress,
 }
 
-// What asking for the number of sectors answers.
-#[derive(Clone, Copy)]
-pub enum Counted {
-    Sectors(AddressRange),
-    Refused(Refusal),
-}
-
-// What locating a sector answers.
-#[derive(Clone, Copy)]
-pub enum Located {
-    At(Place),
-    Refused(Refusal),
-}
-
 // Where a sector of a disc over its parent (8/13) lies: in which image, 0 for the child and 1 for the parent, and where there.
 #[derive(Clone, Copy)]
 pub struct Sourced {
     pub image: u64,
     pub place: Place,
-}
-
-// What locating a sector of a disc over its parent answers.
-#[derive(Clone, Copy)]
-pub enum LocatedOver {
-    In(Sourced),
-    Refused(Refusal),
-}
-
-// What asking which of the two images it is a part of answers.
-#[derive(Clone, Copy)]
-pub enum SourceOver {
-    Image(u64),
-    Refused(Refusal),
 }
 
 // What a call that writes answers: how many bytes of the buffer the image has, and where its index is.
@@ -111,32 +76,11 @@ pub struct Placed {
     pub index: ByteOffset,
 }
 
-// What creating, committing, rolling back, importing and flattening answer.
-#[derive(Clone, Copy)]
-pub enum Updated {
-    To(Placed),
-    Refused(Refusal),
-}
-
 // The flat file that an export wrote: how many bytes it has, and how many sectors of it are filled with zeros (9/13).
 #[derive(Clone, Copy)]
 pub struct Flat {
     pub length: u64,
     pub filled: u64,
-}
-
-// What exporting answers.
-#[derive(Clone, Copy)]
-pub enum Exported {
-    To(Flat),
-    Refused(Refusal),
-}
-
-// What exporting by 4/13's rule, which fills nothing, answers: how many bytes it wrote.
-#[derive(Clone, Copy)]
-pub enum ExportedExact {
-    Length(u64),
-    Refused(Refusal),
 }
 
 // The header, as 2/13 has it: how many bytes it has, and where its fields stand. The identifier, at 0, has 8 bytes.

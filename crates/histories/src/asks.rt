@@ -1,5 +1,5 @@
 // What rows ask of a buffer, and the lines that answer.
-use aaru::Counted;
+use aaru::Result<AddressRange, Refusal>;
 use fields::get;
 use printing::{bytes, located, number, range, refused, text};
 use std::io;
@@ -34,8 +34,8 @@ fn sectors(rt: &impl Print, image: &[u8], count: u64) -> io::Result<()> {
 fn disc(rt: &impl Print, image: &[u8]) -> io::Result<()> {
     let answer = aaru::sector_count(image);
     match answer {
-        Counted::Refused(r) => refused(rt, r),
-        Counted::Sectors(s) => {
+        Err(r) => refused(rt, r),
+        Ok(s) => {
             range(rt, s)?;
             sectors(rt, image, s.count)
         }

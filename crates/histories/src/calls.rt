@@ -75,13 +75,13 @@ const LISTS: [[u64; 6]; 18] = [
 ];
 
 // The answer to a row whose numbers are past the bounds here; 01 has no such refusal.
-fn no_call() -> Updated {
+fn no_call() -> Result<Placed, Refusal> {
     let place = ByteOffset(0);
-    Updated::Refused(Refusal { number: 0, place })
+    Err(Refusal { number: 0, place })
 }
 
 // Creates. The application is bytes of 7, its version 1.2, mediaType 3.
-fn create(buffer: &mut [u8], row: &[u64; 5]) -> Updated {
+fn create(buffer: &mut [u8], row: &[u64; 5]) -> Result<Placed, Refusal> {
     let n = row[2] as usize;
     let application = [7u8; 65];
     if 65 < n {
@@ -91,7 +91,7 @@ fn create(buffer: &mut [u8], row: &[u64; 5]) -> Updated {
 }
 
 // Commits at the addresses of a list.
-fn commit_at(buffer: &mut [u8], row: &[u64; 5], list: &[u64; 6], sectors: &[u8]) -> Updated {
+fn commit_at(buffer: &mut [u8], row: &[u64; 5], list: &[u64; 6], sectors: &[u8]) -> Result<Placed, Refusal> {
     let first = address(list[1]);
     let second = address(list[2]);
     let third = address(list[3]);
@@ -105,7 +105,7 @@ fn commit_at(buffer: &mut [u8], row: &[u64; 5], list: &[u64; 6], sectors: &[u8])
     aaru::commit(buffer, row[1], &addresses[0..n], row[3], sectors, row[4])
 }
 
-fn commit(buffer: &mut [u8], row: &[u64; 5], sectors: &[u8]) -> Updated {
+fn commit(buffer: &mut [u8], row: &[u64; 5], sectors: &[u8]) -> Result<Placed, Refusal> {
     let which = row[2] as usize;
     if 17 < which {
         return no_call();
@@ -114,7 +114,7 @@ fn commit(buffer: &mut [u8], row: &[u64; 5], sectors: &[u8]) -> Updated {
     commit_at(buffer, row, &list, sectors)
 }
 
-fn commit_many(buffer: &mut [u8], row: &[u64; 5], sectors: &[u8]) -> Updated {
+fn commit_many(buffer: &mut [u8], row: &[u64; 5], sectors: &[u8]) -> Result<Placed, Refusal> {
     let n = row[2] as usize;
     let addresses = [0i64; 65537];
     if 65537 < n {
@@ -124,7 +124,7 @@ fn commit_many(buffer: &mut [u8], row: &[u64; 5], sectors: &[u8]) -> Updated {
 }
 
 // Makes the call of a row.
-fn make(buffer: &mut [u8], row: &[u64; 5], sectors: &[u8]) -> Updated {
+fn make(buffer: &mut [u8], row: &[u64; 5], sectors: &[u8]) -> Result<Placed, Refusal> {
     let word = row[0];
     if word == CREATE {
         return create(buffer, row);
@@ -164,11 +164,11 @@ fn report(
     before: &mut [u8; 1200],
     buffer: &[u8; 1200],
     row: &[u64; 5],
-    answer: Updated,
+    answer: Result<Placed, Refusal>,
 ) -> io::Result<()> {
     match answer {
-        Updated::Refused(r) => refused(rt, r)?,
-        Updated::To(p) => {
+        Err(r) => refused(rt, r)?,
+        Ok(p) => {
             let index = p.index;
             number(rt, b"used ", p.used)?;
             number(rt, b", index ", index.0)?;
@@ -185,7 +185,7 @@ fn report(
 }
 
 // Makes the call of a row on the buffer's first `limit` bytes.
-fn make_within(buffer: &mut [u8], limit: usize, row: &[u64; 5], sectors: &[u8]) -> Updated {
+fn make_within(buffer: &mut [u8], limit: usize, row: &[u64; 5], sectors: &[u8]) -> Result<Placed, Refusal> {
     if buffer.len() < limit {
         return no_call();
     }

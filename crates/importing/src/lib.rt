@@ -7,7 +7,7 @@
 
 ghost use Rattle.std.specs.Prelude.{◌≡◌, ℕ, length};
 ghost use Rattle.format.specs.Importing.{import};
-ghost use Rattle.format.specs.Answers.{updated, answered};
+ghost use Rattle.format.specs.Answers.{answered};
 ghost use Rattle.planning.specs.Plans.{sector_of};
 ghost use Rattle.composing.specs.Composes.{stored_of, filled, Lays};
 ghost use Rattle.importing.specs.Imports.{Files};
@@ -61,13 +61,10 @@ pub fn import(
     mediaType: u32,
     created: u64,
     written: u64,
-) -> Updated
-    ensures { answered (updated result) buffer.new ≡ import buffer.old file.now size application.now major minor mediaType created written }
+) -> Result<Placed, Refusal>
+    ensures { answered result buffer.new ≡ import buffer.old file.now size application.now major minor mediaType created written }
 {
-    let v = arguments::import_verdict(buffer, file, size, application);
-    if let Verdict::Refuses(r) = v {
-        return Updated::Refused(r);
-    }
+    arguments::import_verdict(buffer, file, size, application)?;
     let count = file.len() as u64 / size;
     let stored = count_stored(file, count, size);
     let at = composing::lay_out(count, size, stored);
@@ -76,7 +73,7 @@ pub fn import(
     let length = buffer.len() as u64;
     if length < end {
         let place = ByteOffset(0);
-        return Updated::Refused(Refusal { number: 35, place });
+        return Err(Refusal { number: 35, place });
     }
     records::put_image(
         buffer,
@@ -90,5 +87,5 @@ pub fn import(
     );
     put_entries(buffer, file, count, size, at);
     composing::finish(buffer, count, size, stored, at, written);
-    Updated::To(Placed { used: end, index })
+    Ok(Placed { used: end, index })
 }

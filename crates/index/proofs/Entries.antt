@@ -4,13 +4,12 @@ use mathlib.Core.List.{List, [], ◌∷◌}
 use mathlib.Core.Path.{◌≡◌, refl, sym, ap, ◌∙◌}
 use Prim.Native.Nat.{ℕ, suc, ◌+◌, ◌-◌, ◌<◌, ◌≤◌}
 use native.Mathlib.Omega.{arith}
+use Rattle.std.specs.Prelude.{Ok, Err}
 use Rattle.format.specs.declared.ByteOffset.{ByteOffset}
 use Rattle.format.specs.declared.Entry.{Entry}
 use Rattle.format.specs.declared.Refusal.{Refusal}
-use Rattle.format.specs.declared.Verdict.{Verdict}
-use Rattle.format.specs.declared.Verdict.TheVariants.{Passes, Refuses}
 use Rattle.format.specs.Tests.{choose}
-use Rattle.format.specs.Refusals.{refusal, ◌then◌, refused, accepted, answer}
+use Rattle.format.specs.Refusals.{refusal, ◌then◌, answer, Verdict}
 use Rattle.format.specs.Layouts.{entry_length, entry_at, entries_from, entries}
 use Rattle.format.specs.Opening.{entry_verdict, entries_verdict, offsets_with, is_table, one_of, one_verdict, table_at}
 use Rattle.format.proofs.Chains.{stops, goes}
@@ -31,13 +30,13 @@ module _ (img : List ℕ) (left p : ℕ) {v : Verdict} (all : entries_verdict im
   unfolding entries_verdict
   next h = ap (λ (k : ℕ). entries_verdict img k p) (step left h)
 
-  pub verdict-stops : {r : Refusal} → 0 < left → Refuses r ≡ entry_verdict img p → Refuses r ≡ v
+  pub verdict-stops : {r : Refusal} → 0 < left → Err r ≡ entry_verdict img p → Err r ≡ v
   verdict-stops h e = stops _ e ∙ sym (next h) ∙ all
 
-  pub verdict-goes : 0 < left → Passes ≡ entry_verdict img p → entries_verdict img (left - 1) (p + entry_length) ≡ v
+  pub verdict-goes : 0 < left → Ok tt ≡ entry_verdict img p → entries_verdict img (left - 1) (p + entry_length) ≡ v
   verdict-goes h e = goes e refl ∙ sym (next h) ∙ all
 
-  pub verdict-done : left ≤ 0 → Passes ≡ v
+  pub verdict-done : left ≤ 0 → Ok tt ≡ v
   unfolding entries_verdict
   verdict-done h = sym (ap (λ (k : ℕ). entries_verdict img k p) (end left h)) ∙ all
 
@@ -79,14 +78,14 @@ module _ (img : List ℕ) (o : ℕ) where
     done : left ≤ 0 → one_answer o (before seen []) ≡ answer (one_verdict img o) (table_at img o)
     done h = ap (λ (l : List ℕ). one_answer o (before seen l)) (sym (offsets-done is_table img left p h)) ∙ all ∙ one-is
 
-    pub one_none : left ≤ 0 → seen ≡ tables.None → refused (refusal 9 o) ≡ answer (one_verdict img o) (table_at img o)
+    pub one_none : left ≤ 0 → seen ≡ tables.None → Err (refusal 9 o) ≡ answer (one_verdict img o) (table_at img o)
     unfolding before one_of answer
     one_none h e = rw e at (done h)
 
-    pub one_single : (t : ByteOffset) → left ≤ 0 → seen ≡ tables.One t → accepted t.0 ≡ answer (one_verdict img o) (table_at img o)
+    pub one_single : (t : ByteOffset) → left ≤ 0 → seen ≡ tables.One t → Ok t.0 ≡ answer (one_verdict img o) (table_at img o)
     unfolding before one_of answer
     one_single t h e = rw e at (done h)
 
-    pub one-many : left ≤ 0 → seen ≡ tables.More → refused (refusal 10 o) ≡ answer (one_verdict img o) (table_at img o)
+    pub one-many : left ≤ 0 → seen ≡ tables.More → Err (refusal 10 o) ≡ answer (one_verdict img o) (table_at img o)
     unfolding before one_of answer
     one-many h e = rw e at (done h)

@@ -1,7 +1,6 @@
 -- What the search for the one table keeps and answers, in the terms of the definitions.
-use Rattle.std.specs.Prelude.{List, ◌∷◌, ℕ, ◌+◌, get_or}
-use Rattle.format.specs.declared.Verdict.{Verdict}
-use Rattle.format.specs.Refusals.{◌then◌, Answer, refused, accepted, answer}
+use Rattle.std.specs.Prelude.{List, ◌∷◌, ℕ, ◌+◌, get_or, Ok, Err}
+use Rattle.format.specs.Refusals.{◌then◌, Answer, answer, Verdict}
 use Rattle.format.specs.Layouts.{index_header_length, entry_count}
 use Rattle.format.specs.Opening.{entries_verdict, one_of, one_verdict}
 use Rattle.index.specs.declared.Tables.{Tables}
@@ -25,5 +24,5 @@ before tables.More l = 0 ∷ 0 ∷ l
 
 -- the one table's place, or the refusal
 unfoldable pub only_one : Named → Answer ℕ
-only_one (named.One t) = accepted t.0
-only_one (named.Refused r) = refused r
+only_one (named.One t) = Ok t.0
+only_one (named.Refused r) = Err r

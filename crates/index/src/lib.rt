@@ -44,45 +44,45 @@ fn unknown(s: &[u8]) -> bool
 }
 
 // The header: checks 1 to 3.
-pub fn header_verdict(s: &[u8]) -> Verdict
+pub fn header_verdict(s: &[u8]) -> Result<(), Refusal>
     ensures { result ≡ header_verdict s.now }
 {
     let place = ByteOffset(0);
     if (s.len() as u64) < HEADER_LENGTH {
-        return Verdict::Refuses(Refusal { number: 1, place });
+        return Err(Refusal { number: 1, place });
     }
     if unknown(s) {
-        return Verdict::Refuses(Refusal { number: 2, place });
+        return Err(Refusal { number: 2, place });
     }
     if get(s, IMAGE_MAJOR, 1) != 2 {
-        return Verdict::Refuses(Refusal { number: 3, place });
+        return Err(Refusal { number: 3, place });
     }
-    Verdict::Passes
+    Ok(())
 }
 
 // The index at o: checks 4 to 6. One pass over its entries for the checksum.
-pub fn index_verdict(s: &[u8], o: ByteOffset) -> Verdict
+pub fn index_verdict(s: &[u8], o: ByteOffset) -> Result<(), Refusal>
     ensures { result ≡ index_verdict s.now o.0 }
 {
     let place = o;
     let index = o.0;
     if index < HEADER_LENGTH {
-        return Verdict::Refuses(Refusal { number: 4, place });
+        return Err(Refusal { number: 4, place });
     }
     if room(s, index) < 20 {
-        return Verdict::Refuses(Refusal { number: 4, place });
+        return Err(Refusal { number: 4, place });
     }
     if !spells(s, index, b"IDX2") {
-        return Verdict::Refuses(Refusal { number: 5, place });
+        return Err(Refusal { number: 5, place });
     }
     let entries = get(s, index + 4, 8);
     if room(s, index + 20) / 16 < entries {
-        return Verdict::Refuses(Refusal { number: 4, place });
+        return Err(Refusal { number: 4, place });
     }
     if checksum(part(s, index + 20, 16 * entries)) != get(s, index + 12, 8) {
-        return Verdict::Refuses(Refusal { number: 6, place });
+        return Err(Refusal { number: 6, place });
     }
-    Verdict::Passes
+    Ok(())
 }
 
 // The index entry at p.
@@ -102,7 +102,7 @@ pub fn entry(s: &[u8], p: ByteOffset) -> Entry
 }
 
 // The index entry e, which stands at p: checks 7 and 8.
-fn entry_verdict(s: &[u8], p: ByteOffset, e: Entry) -> Verdict
+fn entry_verdict(s: &[u8], p: ByteOffset, e: Entry) -> Result<(), Refusal>
     requires { e ≡ entry_at s.now p.0 }
     ensures { result ≡ entry_verdict s.now p.0 }
 {
@@ -110,15 +110,15 @@ fn entry_verdict(s: &[u8], p: ByteOffset, e: Entry) -> Verdict
     let offset = e.offset;
     let at = offset.0;
     if at < HEADER_LENGTH {
-        return Verdict::Refuses(Refusal { number: 7, place });
+        return Err(Refusal { number: 7, place });
     }
     if room(s, at) < 4 {
-        return Verdict::Refuses(Refusal { number: 7, place });
+        return Err(Refusal { number: 7, place });
     }
     if get(s, at, 4) != e.blockType {
-        return Verdict::Refuses(Refusal { number: 8, place });
+        return Err(Refusal { number: 8, place });
     }
-    Verdict::Passes
+    Ok(())
 }
 
 // The entry is for this kind of block: the four bytes of its blockType are these letters.
@@ -170,7 +170,7 @@ fn with_entry(seen: Tables, e: Entry) -> Tables
 
 // The one table that the index at o names. Each entry is checked in turn, 7 and 8; then the tables among them, 9 and 10. One pass
 // over the entries.
-pub fn one_table(s: &[u8], o: ByteOffset) -> Named
+pub fn one_table(s: &[u8], o: ByteOffset) -> Result<ByteOffset, Refusal>
     requires { o.0 + index_header_length + entry_length * entry_count s.now o.0 ≤ length s.now }
     ensures { only_one result ≡ answer (named_verdict s.now o.0) (table_at s.now o.0) }
 {
@@ -182,18 +182,15 @@ pub fn one_table(s: &[u8], o: ByteOffset) -> Named
     while 0 < left {
         let here = ByteOffset(p);
         let e = entry(s, here);
-        let v = entry_verdict(s, here, e);
-        if let Verdict::Refuses(r) = v {
-            return Named::Refused(r);
-        }
+        entry_verdict(s, here, e)?;
         seen = with_entry(seen, e);
         p += 16;
         left -= 1;
     }
     let place = o;
     match seen {
-        Tables::None => Named::Refused(Refusal { number: 9, place }),
-        Tables::One(t) => Named::One(t),
-        Tables::More => Named::Refused(Refusal { number: 10, place }),
+        Tables::None => Err(Refusal { number: 9, place }),
+        Tables::One(t) => Ok(t),
+        Tables::More => Err(Refusal { number: 10, place }),
     }
 }

@@ -9,9 +9,10 @@ use native.Mathlib.Omega.{arith}
 use lib.Dec.{ltb}
 use lib.IntN.{ℤ, pos, negsuc, neg_ℤ, nat_abs, ◌+ℤ◌, +ℤ_idr}
 use lib.ListN.{length, length-append}
+use Rattle.std.specs.Prelude.{Ok, Err}
 use Rattle.format.specs.declared.Place.{Place}
 use Rattle.format.specs.declared.Refusal.{Refusal}
-use Rattle.format.specs.Refusals.{Answer, refused, accepted}
+use Rattle.format.specs.Refusals.{Answer}
 use Rattle.format.specs.Opening.{Opened, range_of, sector_count}
 use Rattle.format.specs.Reading.{locate}
 use Rattle.format.proofs.Reading.{located-inside}
@@ -36,13 +37,13 @@ low (suc m) n h k = go (ltb n (suc m)) refl
 module _ (img : List ℕ) (short : length img ≤ longest_input) where
   line-fits : (a : ℤ) → nat_abs a < 100000 → (x : Answer Place) → locate img a ≡ x → length (line a x) ≤ 19
   unfolding line
-  line-fits a b (accepted p) e =
+  line-fits a b (Ok p) e =
       let i = located-inside img a p e in
       let u = length-signed 4 a b in
       let v = length-decimal 4 p.start.0 (omega arith) in
       let w = length-decimal 4 p.size (omega arith) in
       simp length-append (omega arith)
-  line-fits a b (refused r) e =
+  line-fits a b (Err r) e =
       let u = length-signed 4 a b in
       let v = length-decimal 1 r.number (locate-refusal img a r e) in
       simp length-append (omega arith)
@@ -56,16 +57,16 @@ module _ (img : List ℕ) (short : length img ≤ longest_input) where
       rw (address-next) (simp length-append (omega arith))
 
   -- an image that opens
-  pub opened-fits : (t : Opened) → accepted (range_of t) ≡ sector_count img → t.negative < 65536 → length (image_text img) ≤ longest_text
+  pub opened-fits : (t : Opened) → Ok (range_of t) ≡ sector_count img → t.negative < 65536 → length (image_text img) ≤ longest_text
   unfolding image_text head lines range_of
   opened-fits t e h =
       let c = count-short img (range_of t) (sym e) in
       let u : length (decimal (range_of t).count) ≤ 5 = length-decimal 4 t.count (omega arith) in
-      let v : length (lines img (accepted (range_of t))) ≤ t.count * 19 = rw +ℤ_idr at (lines_fit t.negative h t.count 0 (omega arith)) in
+      let v : length (lines img (Ok (range_of t))) ≤ t.count * 19 = rw +ℤ_idr at (lines_fit t.negative h t.count 0 (omega arith)) in
       rw (← e) (simp length-append (omega arith))
 
   -- one that does not
-  pub refused-fits : (r : Refusal) → refused r ≡ sector_count img → length (image_text img) ≤ longest_text
+  pub refused-fits : (r : Refusal) → Err r ≡ sector_count img → length (image_text img) ≤ longest_text
   unfolding image_text head lines
   refused-fits r e =
       let u = length-refused 1 r.number (count-refusal img r (sym e)) in

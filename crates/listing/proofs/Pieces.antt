@@ -8,6 +8,7 @@ use native.Mathlib.Numerals.{add-one}
 use native.Mathlib.Omega.{arith}
 use lib.ListN.{length}
 use lib.IntN.{ℤ, pos, ◌+ℤ◌, +ℤ_assoc, +ℤ_idr}
+use Rattle.std.specs.Prelude.{Ok, Err}
 use Rattle.format.specs.declared.AddressRange.{AddressRange}
 use Rattle.format.specs.declared.Counted.{Counted}
 use Rattle.format.specs.declared.Counted.TheVariants as count
@@ -15,7 +16,6 @@ use Rattle.format.specs.declared.Located.{Located}
 use Rattle.format.specs.declared.Located.TheVariants as place
 use Rattle.format.specs.declared.Place.{Place}
 use Rattle.format.specs.declared.Refusal.{Refusal}
-use Rattle.format.specs.Refusals.{refused, accepted}
 use Rattle.format.specs.Answers.{counted, located}
 use Rattle.format.specs.Opening.{sector_count}
 use Rattle.format.specs.Reading.{locate}
@@ -63,12 +63,12 @@ lines_next img low n w v = rw (add-one, lines_from-last) (writes_then w v)
 
 -- ---- the whole, after the first line
 module _ {s t : List ℕ} {at p : ℕ} (img : List ℕ) where
-  pub image-opens : {q : ℕ} {u : List ℕ} (r : AddressRange) → accepted r ≡ sector_count img → Writes s at (head (accepted r)) t p
+  pub image-opens : {q : ℕ} {u : List ℕ} (r : AddressRange) → Ok r ≡ sector_count img → Writes s at (head (Ok r)) t p
       → Writes t p (lines_from img r.count r.lowest.0) u q → Writes s at (image_text img) u q
   unfolding image_text lines
   image-opens r e w v = rw (← e) (writes_then w v)
 
-  pub image-refused : (r : Refusal) → refused r ≡ sector_count img → Writes s at (head (refused r)) t p → Writes s at (image_text img) t p
+  pub image-refused : (r : Refusal) → Err r ≡ sector_count img → Writes s at (head (Err r)) t p → Writes s at (image_text img) t p
   unfolding image_text lines
   image-refused r e w = rw (← e, append-nil) w
 

@@ -7,11 +7,11 @@ use Prim.Native.Nat.{ℕ, ◌+◌, ◌*◌, ◌≤◌, ◌<◌}
 use native.Mathlib.Omega.{arith}
 use lib.IntN.{ℤ}
 use lib.ListN.{length}
+use Rattle.std.specs.Prelude.{Ok, Err}
 use Rattle.format.specs.declared.AddressRange.{AddressRange}
 use Rattle.format.specs.declared.Refusal.{Refusal}
 use Rattle.format.specs.declared.TableKind.{TableKind}
 use Rattle.format.specs.declared.TableKind.TheVariants.{First, Second}
-use Rattle.format.specs.Refusals.{refused, accepted}
 use Rattle.format.specs.Layouts.{index_offset, table_header_length_of, entry_width}
 use Rattle.format.specs.Opening.{opened, range_of, opening, sector_count}
 use Rattle.format.specs.Reading.{locate}
@@ -24,14 +24,14 @@ narrow First at n h = omega arith
 narrow Second at n h = omega arith
 
 module _ (img : List ℕ) where
-  pub count-refusal : (r : Refusal) → sector_count img ≡ refused r → r.number < 100
+  pub count-refusal : (r : Refusal) → sector_count img ≡ Err r → r.number < 100
   count-refusal r e = ⊎_elim (λ f. omega arith) (λ f. omega arith) (demand-1-refusals.counting img r e).0
 
-  pub locate-refusal : (a : ℤ) (r : Refusal) → locate img a ≡ refused r → r.number < 100
+  pub locate-refusal : (a : ℤ) (r : Refusal) → locate img a ≡ Err r → r.number < 100
   locate-refusal a r e = ⊎_elim (λ f. ⊎_elim (λ g. omega arith) (λ g. omega arith) f) (λ f. ⊎_elim (λ g. omega arith) (λ g. omega arith) f) (demand-1-refusals.locating img a r e).0
 
   -- ---- the table lies in the image
-  pub count-short : (s : AddressRange) → sector_count img ≡ accepted s → 49 + 4 * s.count ≤ length img
+  pub count-short : (s : AddressRange) → sector_count img ≡ Ok s → 49 + 4 * s.count ≤ length img
   unfolding sector_count opening range_of
   count-short s e =
       let p = answer-accepted _ _ s e in

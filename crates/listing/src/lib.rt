@@ -4,7 +4,6 @@
 mod lines; // its lines, written into a lent buffer
 
 ghost use Rattle.std.specs.Prelude.{◌≡◌, ◌≤◌, length, pos, neg_ℤ};
-ghost use Rattle.format.specs.Refusals.{accepted};
 ghost use Rattle.format.specs.Opening.{opening};
 ghost use Rattle.opening.specs.Answers.{contents};
 ghost use Rattle.text.specs.Text.{longest_input};
@@ -17,7 +16,7 @@ use sectors::Visit;
 
 // The lines of all addresses of an opened image. Neighbours in one intact block cost one pass over the index and the block.
 fn address_lines(image: &[u8], t: Opened, out: &mut [u8], at: usize) -> usize
-    requires { (opening image.now ≡ accepted (contents t)) × (at ≤ length out.old) }
+    requires { (opening image.now ≡ Ok (contents t)) × (at ≤ length out.old) }
     ensures { Writes out.old at (lines_from image.now (contents t).count (neg_ℤ (pos (contents t).negative))) out.new result }
 {
     let count = opening::count(t);
@@ -43,9 +42,9 @@ fn image_text(image: &[u8], out: &mut [u8]) -> usize
 {
     let opened = opening::open(image);
     match opened {
-        Opening::Refused(r) => lines::head(out, 0, Counted::Refused(r)),
-        Opening::Opens(t) => {
-            let next = lines::head(out, 0, Counted::Sectors(opening::range(t)));
+        Err(r) => lines::head(out, 0, Err(r)),
+        Ok(t) => {
+            let next = lines::head(out, 0, Ok(opening::range(t)));
             address_lines(image, t, out, next)
         }
     }

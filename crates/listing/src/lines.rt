@@ -1,33 +1,32 @@
 // Internal: the lines of a listing, written into a lent buffer.
 ghost use Rattle.std.specs.Prelude.{◌≤◌, length};
-ghost use Rattle.format.specs.Answers.{counted, located};
 ghost use Rattle.text.specs.Buffer.{Writes};
 ghost use Rattle.listing.specs.Listing.{head, line};
 
 use format::{Counted, Located, SectorAddress};
 
 // The first line: how many sectors there are, or why the image does not open.
-pub fn head(out: &mut [u8], at: usize, c: Counted) -> usize
+pub fn head(out: &mut [u8], at: usize, c: Result<AddressRange, Refusal>) -> usize
     requires { at ≤ length out.old }
     ensures { Writes out.old at (head (counted c)) out.new result }
 {
     match c {
-        Counted::Sectors(s) => text::write_end(out, at, b"sectors ", s.count),
-        Counted::Refused(r) => text::refused(out, at, r.number as u64),
+        Ok(s) => text::write_end(out, at, b"sectors ", s.count),
+        Err(r) => text::refused(out, at, r.number as u64),
     }
 }
 
 // The line of an address: where its sector lies, or why it is not read.
-pub fn line(out: &mut [u8], at: usize, a: SectorAddress, l: Located) -> usize
+pub fn line(out: &mut [u8], at: usize, a: SectorAddress, l: Result<Place, Refusal>) -> usize
     requires { at ≤ length out.old }
     ensures { Writes out.old at (line a.0 (located l)) out.new result }
 {
     let next = text::write_signed(out, at, a.0);
     match l {
-        Located::At(p) => {
+        Ok(p) => {
             let last = text::write_both(out, next, b" ", p.start.0);
             text::write_end(out, last, b" ", p.size)
         }
-        Located::Refused(r) => text::write_end(out, next, b" - ", r.number as u64),
+        Err(r) => text::write_end(out, next, b" - ", r.number as u64),
     }
 }

@@ -4,9 +4,9 @@ use mathlib.Core.Path.{◌≡◌, subst}
 use Prim.Native.Nat.{ℕ, ◌+◌, ◌*◌, ◌≤◌, ◌<◌}
 use native.Mathlib.Omega.{arith}
 use lib.ListN.{length}
+use Rattle.std.specs.Prelude.{Ok}
 use Rattle.format.specs.declared.TableKind.{TableKind}
 use Rattle.format.specs.declared.TableKind.TheVariants.{First, Second}
-use Rattle.format.specs.Refusals.{accepted}
 use Rattle.format.specs.Layouts.{index_offset, table_header_length_of, entry_width}
 use Rattle.format.specs.Opening.{Opened, opened_as, opened, opening}
 use Rattle.format.specs.Reading.{table_entry_at}
@@ -19,7 +19,7 @@ four-each : (k : TableKind) (n : ℕ) → 4 * n ≤ entry_width k * n
 four-each First n = omega arith
 four-each Second n = omega arith
 
-module _ (img : List ℕ) (t : Opened) (e : opening img ≡ accepted t) where
+module _ (img : List ℕ) (t : Opened) (e : opening img ≡ Ok t) where
   pub opens : OpenOk img (index_offset img)
   unfolding opening
   opens = (open-ok img (index_offset img)).0 (answer-accepted _ _ t e).0

@@ -1,10 +1,10 @@
 -- What the answers of this crate say in the terms of the definitions.
-use Rattle.std.specs.Prelude.{true, false, List, ◌≡◌, ℕ, ◌≤◌, ◌<◌, ℤ}
+use Rattle.std.specs.Prelude.{true, false, List, ◌≡◌, ℕ, ◌≤◌, ◌<◌, ℤ, Ok, Err}
 use Rattle.std.specs.Borrow.{Bor}
 use Rattle.format.specs.declared.TableKind.{TableKind}
 use Rattle.format.specs.declared.TableKind.TheVariants.{First}
 use Rattle.format.specs.Reading.{outside, entry_number}
-use Rattle.format.specs.Refusals.{Answer, refused, accepted}
+use Rattle.format.specs.Refusals.{Answer}
 use Rattle.format.specs.Tests.{differs}
 use Rattle.format.specs.Opening.{kind_by}
 use Rattle.format.specs.Opening as format
@@ -39,8 +39,8 @@ held image = contents (numbers_of image)
 
 -- ---- what opening found, or the refusal
 unfoldable pub outcome : Opening → Answer format.Opened
-outcome (opening.Opens t) = accepted (contents t)
-outcome (opening.Refused r) = refused r
+outcome (opening.Opens t) = Ok (contents t)
+outcome (opening.Refused r) = Err r
 
 -- what opening has checked so that no pointer of the table wraps
 pub record Decodes (t : format.Opened) : Type 0 where

@@ -8,8 +8,7 @@
 #![tactic(auto)]
 
 ghost use Rattle.std.specs.Prelude.{◌≡◌, ◌+◌, ◌^◌, ◌≤◌, ◌<◌, length, pos, neg_ℤ, ◌+ℤ◌};
-ghost use Rattle.format.specs.declared.Verdict.TheVariants.{Passes};
-ghost use Rattle.format.specs.Refusals.{refusal, row, accepted, answer};
+ghost use Rattle.format.specs.Refusals.{refusal, row, answer};
 ghost use Rattle.format.specs.Layouts.{entry_pointer, decode};
 ghost use Rattle.format.specs.Opening.{header_verdict, kind_at, table_verdict, open_verdict, opened_at, opened, opening, range_of};
 ghost use Rattle.format.specs.Reading.{outside, table_entry_at, table_entry, unwritten, unknown, pointer_at};
@@ -21,7 +20,7 @@ use format::{
     AddressRange, ByteOffset, EntryNumber, INDEX_OFFSET, Pointer, Refusal, SECOND_ENTRY,
     SECOND_HEADER, SectorAddress, TABLE_ENTRY, TABLE_HEADER, TableKind, Verdict,
 };
-use index::Named;
+use index::Result<ByteOffset, Refusal>;
 use tables::layout_of;
 
 // What opening finds of the table: its kind (by a number, 1 for 'DDT*' and 2 for 'DDT2', as the walks over a view take no enum), place (that of the
@@ -75,21 +74,18 @@ fn kind_of(t: Opened) -> TableKind
 }
 
 // The image whose table is at t, if the table passes.
-fn open_table(s: &[u8], t: ByteOffset) -> Opening
+fn open_table(s: &[u8], t: ByteOffset) -> Result<Opened, Refusal>
     requires { t.0 + 4 ≤ length s.now }
     ensures { outcome result ≡ answer (table_verdict s.now (kind_at s.now t.0) t.0) (opened_at s.now t.0) }
 {
     let kind = tables::kind_at(s, t);
-    let v = tables::table_verdict(s, kind, t);
-    if let Verdict::Refuses(r) = v {
-        return Opening::Refused(r);
-    }
+    tables::table_verdict(s, kind, t)?;
     let l = layout_of(kind);
     let count = get(s, t.0 + l.entries, 8);
     let shift = get(s, t.0 + l.shift, 1);
     let alignment = tables::alignment_at(s, kind, t);
     let negative = tables::negative_at(s, kind, t);
-    Opening::Opens(Opened {
+    Ok(Opened {
         kind: kind_number(kind),
         table: t,
         count,
@@ -100,64 +96,49 @@ fn open_table(s: &[u8], t: ByteOffset) -> Opening
 }
 
 // An image whose header passes, with o for its index's offset: checks 4 to 14.
-fn open_index(s: &[u8], o: ByteOffset) -> Opening
-    requires { header_verdict s.now ≡ Passes }
+fn open_index(s: &[u8], o: ByteOffset) -> Result<Opened, Refusal>
+    requires { header_verdict s.now ≡ Ok tt }
     ensures { outcome result ≡ answer (open_verdict s.now o.0) (opened s.now o.0) }
 {
-    let v = index::index_verdict(s, o);
-    if let Verdict::Refuses(r) = v {
-        return Opening::Refused(r);
-    }
-    let named = index::one_table(s, o);
-    match named {
-        Named::Refused(r) => Opening::Refused(r),
-        Named::One(t) => open_table(s, t),
-    }
+    index::index_verdict(s, o)?;
+    let t = index::one_table(s, o)?;
+    open_table(s, t)
 }
 
 // Opening an image.
-pub fn open(s: &[u8]) -> Opening
+pub fn open(s: &[u8]) -> Result<Opened, Refusal>
     ensures { outcome result ≡ opening s.now }
 {
-    let v = index::header_verdict(s);
-    if let Verdict::Refuses(r) = v {
-        return Opening::Refused(r);
-    }
+    index::header_verdict(s)?;
     open_index(s, ByteOffset(get(s, INDEX_OFFSET, 8)))
 }
 
 // The image that opened as t may be written to: check 74.
-pub fn kind_verdict(t: Opened) -> Verdict
+pub fn kind_verdict(t: Opened) -> Result<(), Refusal>
     ensures { result ≡ row (is_second (contents t).kind) (refusal 74 0) }
 {
     let kind = kind_of(t);
     if tables::is_second(kind) {
-        return Verdict::Refuses(Refusal {
+        return Err(Refusal {
             number: 74,
             place: ByteOffset(0),
         });
     }
-    Verdict::Passes
+    Ok(())
 }
 
 // All of opening's checks, with o for the index's offset, and 74.
-pub fn writable_verdict(s: &[u8], o: ByteOffset) -> Verdict
+pub fn writable_verdict(s: &[u8], o: ByteOffset) -> Result<(), Refusal>
     ensures { result ≡ writable_verdict s.now o.0 }
 {
-    let v = index::header_verdict(s);
-    if let Verdict::Refuses(r) = v {
-        return Verdict::Refuses(r);
-    }
-    let opened = open_index(s, o);
-    match opened {
-        Opening::Refused(r) => Verdict::Refuses(r),
-        Opening::Opens(t) => kind_verdict(t),
-    }
+    index::header_verdict(s)?;
+    let t = open_index(s, o)?;
+    kind_verdict(t)
 }
 
 // The opened image of these bytes, which opened as t. Nothing else makes one.
 pub fn view<'a>(s: &'a [u8], t: Opened) -> Image<'a>
-    requires { opening s.now ≡ accepted (contents t) }
+    requires { opening s.now ≡ Ok (contents t) }
     ensures { result ≡ view_of s.entry t }
 {
     Image {
@@ -242,7 +223,7 @@ pub fn entry_place(t: Opened, n: EntryNumber) -> ByteOffset
 
 // The number there.
 pub fn table_entry(s: &[u8], t: Opened, n: EntryNumber) -> u64
-    requires { (opening s.now ≡ accepted (contents t)) × (n.0 < (contents t).count) }
+    requires { (opening s.now ≡ Ok (contents t)) × (n.0 < (contents t).count) }
     ensures { result ≡ table_entry s.now (contents t) n.0 }
 {
     let kind = kind_of(t);
@@ -293,7 +274,7 @@ pub fn entry_decoded(t: Opened, entry: u64) -> Pointer
 
 // What table entry n encodes.
 pub fn pointer_at(s: &[u8], t: Opened, n: EntryNumber) -> Pointer
-    requires { (opening s.now ≡ accepted (contents t)) × (n.0 < (contents t).count) }
+    requires { (opening s.now ≡ Ok (contents t)) × (n.0 < (contents t).count) }
     ensures { result ≡ pointer_at s.now (contents t) n.0 }
 {
     entry_decoded(t, table_entry(s, t, n))
@@ -301,7 +282,7 @@ pub fn pointer_at(s: &[u8], t: Opened, n: EntryNumber) -> Pointer
 
 // Over an opened image, which it takes apart.
 pub fn pointer<'a>(image: Image<'a>, n: EntryNumber) -> Pointer
-    requires { (opening image.bytes.now ≡ accepted (held image)) × (n.0 < (held image).count) }
+    requires { (opening image.bytes.now ≡ Ok (held image)) × (n.0 < (held image).count) }
     ensures { result ≡ pointer_at image.entry.bytes.now (held image.entry) n.0 }
 {
     pointer_at(bytes(image), numbers(image), n)
@@ -309,7 +290,7 @@ pub fn pointer<'a>(image: Image<'a>, n: EntryNumber) -> Pointer
 
 // Makes the opened image and hands it on.
 pub fn pointer_of(s: &[u8], t: Opened, n: EntryNumber) -> Pointer
-    requires { (opening s.now ≡ accepted (contents t)) × (n.0 < (contents t).count) }
+    requires { (opening s.now ≡ Ok (contents t)) × (n.0 < (contents t).count) }
     ensures { result ≡ pointer_at s.now (contents t) n.0 }
 {
     pointer(view(s, t), n)
@@ -323,7 +304,7 @@ pub enum Numbered {
 }
 
 // The number of an address's table entry: address + negative, where that is not below 0 and below the count. No address becomes one anywhere else.
-pub fn entry_number(t: Opened, a: SectorAddress) -> Numbered
+pub fn entry_number(t: Opened, a: SectorAddress) -> Option<EntryNumber>
     ensures { IsNumbered (contents t) a.0 result }
 {
     let n = magnitude(a.0);
@@ -331,21 +312,21 @@ pub fn entry_number(t: Opened, a: SectorAddress) -> Numbered
     let count = t.count;
     if a.0 < 0 {
         if up < n {
-            return Numbered::Outside;
+            return None;
         }
         let number = up - n;
         if number < count {
-            return Numbered::At(EntryNumber(number));
+            return Some(EntryNumber(number));
         }
-        return Numbered::Outside;
+        return None;
     }
     if count <= up {
-        return Numbered::Outside;
+        return None;
     }
     if n < count - up {
-        return Numbered::At(EntryNumber(n + up));
+        return Some(EntryNumber(n + up));
     }
-    Numbered::Outside
+    None
 }
 
 // Whether an address has no table entry.
@@ -354,7 +335,7 @@ pub fn is_outside(t: Opened, a: SectorAddress) -> bool
 {
     let numbered = entry_number(t, a);
     match numbered {
-        Numbered::At(_) => false,
-        Numbered::Outside => true,
+        Some(_) => false,
+        None => true,
     }
 }

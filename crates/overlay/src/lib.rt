@@ -8,48 +8,45 @@
 ghost use Rattle.std.specs.Prelude.{◌≡◌};
 ghost use Rattle.format.specs.Reading.{locate};
 ghost use Rattle.format.specs.Overlaying.{from_parent, in_image, read_over, locate_over, source_over};
-ghost use Rattle.format.specs.Answers.{bytes_read, located_over, sourced_over};
+ghost use Rattle.format.specs.Answers.{bytes_read};
 
 use fields::part;
-use format::Located;
+use format::Result<Place, Refusal>;
 pub use format::{LocatedOver, Refusal, SectorAddress, SourceOver, Sourced};
 
 // Where the parent's sector at address a lies, or the refusal that the pair gives for its own.
-fn locate_parent(parent: &[u8], a: SectorAddress) -> LocatedOver
-    ensures { located_over result ≡ from_parent (in_image 1 (locate parent.now a.0)) }
+fn locate_parent(parent: &[u8], a: SectorAddress) -> Result<Sourced, Refusal>
+    ensures { result ≡ from_parent (in_image 1 (locate parent.now a.0)) }
 {
     let l = sectors::locate_in(parent, a);
     match l {
-        Located::Refused(r) => LocatedOver::Refused(pairs::parent_refusal(r)),
-        Located::At(place) => LocatedOver::In(Sourced { image: 1, place }),
+        Err(r) => Err(pairs::parent_refusal(r)),
+        Ok(place) => Ok(Sourced { image: 1, place }),
     }
 }
 
 // Where the sector at address a lies: in which image, 0 for the child and 1 for the parent, and where there. Or why it can't be read.
-pub fn locate_over(child: &[u8], parent: &[u8], a: SectorAddress) -> LocatedOver
-    ensures { located_over result ≡ locate_over child.now parent.now a.0 }
+pub fn locate_over(child: &[u8], parent: &[u8], a: SectorAddress) -> Result<Sourced, Refusal>
+    ensures { result ≡ locate_over child.now parent.now a.0 }
 {
     let l = sectors::locate_in(child, a);
     match l {
-        Located::At(place) => LocatedOver::In(Sourced { image: 0, place }),
-        Located::Refused(r) => {
+        Ok(place) => Ok(Sourced { image: 0, place }),
+        Err(r) => {
             if r.number == 21 {
                 return locate_parent(parent, a);
             }
-            LocatedOver::Refused(r)
+            Err(r)
         }
     }
 }
 
 // Which image the sector at address a is a part of, 0 for the child and 1 for the parent, or the refusal of `locate_over`.
-pub fn source_over(child: &[u8], parent: &[u8], a: SectorAddress) -> SourceOver
-    ensures { sourced_over result ≡ source_over child.now parent.now a.0 }
+pub fn source_over(child: &[u8], parent: &[u8], a: SectorAddress) -> Result<u64, Refusal>
+    ensures { result ≡ source_over child.now parent.now a.0 }
 {
-    let l = locate_over(child, parent, a);
-    match l {
-        LocatedOver::Refused(r) => SourceOver::Refused(r),
-        LocatedOver::In(s) => SourceOver::Image(s.image),
-    }
+    let s = locate_over(child, parent, a)?;
+    Ok(s.image)
 }
 
 // The sector at address a: a part of the child or of the parent, and the empty part exactly where `locate_over` refuses.
@@ -58,8 +55,8 @@ pub fn read_over<'a>(child: &'a [u8], parent: &'a [u8], a: SectorAddress) -> &'a
 {
     let l = locate_over(child, parent, a);
     match l {
-        LocatedOver::Refused(_) => part(child, 0, 0),
-        LocatedOver::In(s) => {
+        Err(_) => part(child, 0, 0),
+        Ok(s) => {
             let image = s.image;
             let place = s.place;
             let start = place.start;

@@ -8,10 +8,10 @@ use Prim.Native.Nat.{ℕ, ◌+◌, ◌≤◌, ◌<◌}
 use native.Mathlib.Omega.{arith}
 use lib.IntN.{ℤ, pos, nat_abs}
 use borrow.Author.Tests.{not-true}
+use Rattle.std.specs.Prelude.{Ok, Err}
 use Rattle.format.specs.declared.Entry.{Entry}
 use Rattle.format.specs.declared.Refusal.{Refusal}
-use Rattle.format.specs.declared.Verdict.TheVariants.{Refuses}
-use Rattle.format.specs.Refusals.{refusal, refused, accepted}
+use Rattle.format.specs.Refusals.{refusal}
 use Rattle.format.specs.Layouts.{index_offset, entries}
 use Rattle.format.specs.Opening.{Opened, opening, sector_count}
 use Rattle.format.specs.Reading.{displaced, outside, entry_number, not_written, sector_verdict, address_verdict, read_verdict}
@@ -25,7 +25,7 @@ use Rattle.opening.proofs.Accepted.{opens, opened-is}
 use Rattle.checking.specs.Checked.{address_of, leaves}
 
 -- ---- by the number of its table entry
-module _ (img : List ℕ) (t : Opened) (e : opening img ≡ accepted t) (a : ℤ) where
+module _ (img : List ℕ) (t : Opened) (e : opening img ≡ Ok t) (a : ℤ) where
   by_address : read_by img a ≡ address_verdict img (entries img (index_offset img)) t a
   by_address = verdict-opened img (index_offset img) (opens img t e) a ∙ ap (λ (u : Opened). address_verdict img (entries img (index_offset img)) u a) (opened-is img t e)
 
@@ -35,11 +35,11 @@ module _ (img : List ℕ) (t : Opened) (e : opening img ≡ accepted t) (a : ℤ
       by_address ∙ then-rest _ _ ((row-iff (refusal 20 0) Iff.rfl).1 (number-inside t a n k))
       ∙ ap (sector_verdict img (entries img (index_offset img)) t) (number_is t a n k)
 
-  pub read-outside : outside t a ≡ true → read_by img a ≡ Refuses (refusal 20 0)
+  pub read-outside : outside t a ≡ true → read_by img a ≡ Err (refusal 20 0)
   unfolding address_verdict
   read-outside h = by_address ∙ then-refuses _ _ _ (row-refuses _ _ h)
 
-pub read-unopened : (img : List ℕ) (r : Refusal) (a : ℤ) → opening img ≡ refused r → read_by img a ≡ Refuses r
+pub read-unopened : (img : List ℕ) (r : Refusal) (a : ℤ) → opening img ≡ Err r → read_by img a ≡ Err r
 unfolding opening read_verdict
 read-unopened img r a e = then-refuses _ _ _ (answer-refused _ _ r e)
 
@@ -47,13 +47,13 @@ read-unopened img r a e = then-refuses _ _ _ (answer-refused _ _ r e)
 abbrev pub Added : Refusal → Type 0
 Added r = (r.number ≢ 20) × (r.number ≢ 21) × (r.number ≤ 73)
 
-pub opening-added : (img : List ℕ) (r : Refusal) → opening img ≡ refused r → Added r
+pub opening-added : (img : List ℕ) (r : Refusal) → opening img ≡ Err r → Added r
 unfolding opening sector_count
 opening-added img r e =
     ⊎_elim (λ f. ((λ z. omega (arith, f, z)), (λ z. omega (arith, f, z)), omega (arith, f))) (λ f. ((λ z. omega (arith, f, z)), (λ z. omega (arith, f, z)), omega (arith, f)))
     (demand-1-refusals.counting img r (answer-refuses _ _ r (answer-refused _ _ r e))).0
 
-pub sector-added : (img : List ℕ) (es : List Entry) (t : Opened) (n : ℕ) (r : Refusal) → sector_verdict img es t n ≡ Refuses r → r.number ≢ 21 → Added r
+pub sector-added : (img : List ℕ) (es : List Entry) (t : Opened) (n : ℕ) (r : Refusal) → sector_verdict img es t n ≡ Err r → r.number ≢ 21 → Added r
 sector-added img es t n r e d = let k = says-refused _ _ r (sector-numbers img es t n) e in ((λ z. omega (arith, k, z)), d, k.1)
 
 -- ---- a parent's table entries rise with their addresses: that of address n is n + `negative`

@@ -7,13 +7,12 @@ use Prim.Native.Nat.{ℕ, ◌+◌, ◌≤◌, ◌<◌}
 use native.Mathlib.Nat.{eq-or-lt_of_le}
 use native.Mathlib.Omega.{arith}
 use lib.IntN.{pos}
+use Rattle.std.specs.Prelude.{Ok, Err}
 use Rattle.format.specs.declared.Entry.{Entry}
 use Rattle.format.specs.declared.Refusal.{Refusal}
 use Rattle.format.specs.declared.TableKind.TheVariants.{First as first_kind}
-use Rattle.format.specs.declared.Verdict.{Verdict}
-use Rattle.format.specs.declared.Verdict.TheVariants.{Passes, Refuses}
 use Rattle.format.specs.Tests.{same}
-use Rattle.format.specs.Refusals.{refusal, first_refusal, refused, accepted}
+use Rattle.format.specs.Refusals.{refusal, first_refusal, Verdict}
 use Rattle.format.specs.Layouts.{index_offset, entries}
 use Rattle.format.specs.Opening.{Opened, opening}
 use Rattle.format.specs.Reading.{outside, entry_number, not_written, sector_verdict}
@@ -34,41 +33,41 @@ use Rattle.checking.proofs.Whole.{kept}
 use Rattle.pair_checking.proofs.Images.{read-entry, read-outside, read-unopened, Added, opening-added, sector-added, inside-up, number-flat, numbered-up, left-on, left-true}
 
 -- ---- a verdict but for 21
-as_passed : (r : Refusal) → r.number ≡ 21 → other_than_21 (Refuses r) ≡ Passes
+as_passed : (r : Refusal) → r.number ≡ 21 → other_than_21 (Err r) ≡ Ok tt
 unfolding other_than_21
 as_passed r e = choose-true _ _ _ (same_true _ _ e)
 
 -- what it still refuses with
-refused-by : (v : Verdict) (r : Refusal) → other_than_21 v ≡ Refuses r → (v ≡ Refuses r) × (r.number ≢ 21)
+refused-by : (v : Verdict) (r : Refusal) → other_than_21 v ≡ Err r → (v ≡ Err r) × (r.number ≢ 21)
 refused-by v r e =
-    let k : v ≡ Refuses r = kept v (λ z. not-passes (sym e ∙ z)) ∙ e in (k, λ n. not-passes (sym e ∙ ap other_than_21 k ∙ as_passed r n))
+    let k : v ≡ Err r = kept v (λ z. not-passes (sym e ∙ z)) ∙ e in (k, λ n. not-passes (sym e ∙ ap other_than_21 k ∙ as_passed r n))
 
 -- ---- the pair's, by the child's
-over-kept : (v w : Verdict) → other_than_21 v ≢ Passes → other_than_21 (over_verdict v w) ≡ other_than_21 v
+over-kept : (v w : Verdict) → other_than_21 v ≢ Ok tt → other_than_21 (over_verdict v w) ≡ other_than_21 v
 unfolding other_than_21
-over-kept Passes w h = absurd (h refl)
-over-kept (Refuses r) w h = ap other_than_21 (over-verdict-other r w (λ n. h (as_passed r n)))
+over-kept (Ok tt) w h = absurd (h refl)
+over-kept (Err r) w h = ap other_than_21 (over-verdict-other r w (λ n. h (as_passed r n)))
 
 -- ---- by the parent's
-parent-kept : (r : Refusal) → Added r → other_than_21 (parent_verdict (Refuses r)) ≡ Refuses (parent_refusal r)
+parent-kept : (r : Refusal) → Added r → other_than_21 (parent_verdict (Err r)) ≡ Err (parent_refusal r)
 unfolding parent_verdict Gives
 parent-kept r a =
     let e : (parent_refusal r).number ≡ 100 + r.number = ap (λ (q : Refusal). q.number) (parent-other r a.0 a.1) in
-    keeps-others (Refuses (parent_refusal r)) (λ z. omega (arith, e, z))
+    keeps-others (Err (parent_refusal r)) (λ z. omega (arith, e, z))
 
-parent-passed : (w : Verdict) → other_than_21 w ≡ Passes → other_than_21 (parent_verdict w) ≡ Passes
+parent-passed : (w : Verdict) → other_than_21 w ≡ Ok tt → other_than_21 (parent_verdict w) ≡ Ok tt
 unfolding parent_verdict Gives
-parent-passed Passes h = h
-parent-passed (Refuses r) h =
-    ⊎_elim (λ n. ap (λ (q : Refusal). other_than_21 (Refuses q)) (parent-21 r (same-on _ _ n)) ∙ as_passed (refusal 21 0) refl)
-    (λ n. absurd (not-passes (sym (keeps-others (Refuses r) (same-iff.0 n)) ∙ h))) (on-or-off (same r.number 21))
+parent-passed (Ok tt) h = h
+parent-passed (Err r) h =
+    ⊎_elim (λ n. ap (λ (q : Refusal). other_than_21 (Err q)) (parent-21 r (same-on _ _ n)) ∙ as_passed (refusal 21 0) refl)
+    (λ n. absurd (not-passes (sym (keeps-others (Err r) (same-iff.0 n)) ∙ h))) (on-or-off (same r.number 21))
 
-outside-passed : other_than_21 (parent_verdict (Refuses (refusal 20 0))) ≡ Passes
+outside-passed : other_than_21 (parent_verdict (Err (refusal 20 0))) ≡ Ok tt
 unfolding parent_verdict
-outside-passed = ap (λ (q : Refusal). other_than_21 (Refuses q)) (parent-20 (refusal 20 0) refl) ∙ as_passed (refusal 21 0) refl
+outside-passed = ap (λ (q : Refusal). other_than_21 (Err q)) (parent-20 (refusal 20 0) refl) ∙ as_passed (refusal 21 0) refl
 
 -- ---- the child is opened as t, whose addresses are its table entries' numbers
-module _ (child parent : List ℕ) (t : Opened) (e : opening child ≡ accepted t) (kind : t.kind ≡ first_kind) where
+module _ (child parent : List ℕ) (t : Opened) (e : opening child ≡ Ok t) (kind : t.kind ≡ first_kind) where
   abbrev es : List Entry
   es = entries child (index_offset child)
 
@@ -101,9 +100,9 @@ module _ (child parent : List ℕ) (t : Opened) (e : opening child ≡ accepted 
   -- the child's first
   module _ {own : First} (p : FirstRefused child t own) where
     abbrev Passed : ℕ → Type 0
-    Passed n = not_written child t n ≡ true → under n ≡ Passes
+    Passed n = not_written child t n ≡ true → under n ≡ Ok tt
 
-    below-passes : (n : ℕ) → n < own.number.0 → Passed n → sector n ≡ Passes
+    below-passes : (n : ℕ) → n < own.number.0 → Passed n → sector n ≡ Ok tt
     unfolding other_than_21 over_verdict
     below-passes n l h =
         let b : n < t.count = omega (arith, l, p.within) in
@@ -123,8 +122,8 @@ module _ (child parent : List ℕ) (t : Opened) (e : opening child ≡ accepted 
         })
 
     -- a sector below it that the parent refuses
-    parent-first : (n : ℕ) (r : Refusal) → n < own.number.0 → not_written child t n ≡ true → read_by parent (pos n) ≡ Refuses r → Added r
-        → ((i : ℕ) → i < n → Passed i) → Refuses (parent_refusal r) ≡ pair_verdict child parent
+    parent-first : (n : ℕ) (r : Refusal) → n < own.number.0 → not_written child t n ≡ true → read_by parent (pos n) ≡ Err r → Added r
+        → ((i : ℕ) → i < n → Passed i) → Err (parent_refusal r) ≡ pair_verdict child parent
     parent-first n r l g q a h =
         let b : n < t.count = omega (arith, l, p.within) in
         pair-first
@@ -132,11 +131,11 @@ module _ (child parent : List ℕ) (t : Opened) (e : opening child ≡ accepted 
         (sector-left n b g ∙ ap (λ (v : Verdict). other_than_21 (parent_verdict v)) q ∙ parent-kept r a))
 
     -- ---- the parent does not open: the first that the child has not written
-    module _ (r : Refusal) (q : opening parent ≡ refused r) {gap : First} (f : FirstOfAll child t gap) where
+    module _ (r : Refusal) (q : opening parent ≡ Err r) {gap : First} (f : FirstOfAll child t gap) where
       written_below : (n : ℕ) → n < gap.number.0 → Passed n
       written_below n l g = absurd (never g ((sector-ok child es t n).0 (f.before n l)).written)
 
-      pub gap-refused : gap.number.0 < own.number.0 → Refuses (parent_refusal r) ≡ pair_verdict child parent
+      pub gap-refused : gap.number.0 < own.number.0 → Err (parent_refusal r) ≡ pair_verdict child parent
       gap-refused l =
           let n = gap.number.0 in
           let (s, ne) = f.here (omega (arith, l, p.within)) in
@@ -147,7 +146,7 @@ module _ (child parent : List ℕ) (t : Opened) (e : opening child ≡ accepted 
       no-gap-refused l = own_first (λ n k. written_below n (omega arith))
 
     -- ---- it opens as u: the first of those that the child leaves to it
-    module _ (u : Opened) (q : opening parent ≡ accepted u) {other : First} (f : FirstWithin parent u (leaves child t own.number.0 u) other) where
+    module _ (u : Opened) (q : opening parent ≡ Ok u) {other : First} (f : FirstWithin parent u (leaves child t own.number.0 u) other) where
       abbrev parent_es : List Entry
       parent_es = entries parent (index_offset parent)
 
@@ -162,11 +161,11 @@ module _ (child parent : List ℕ) (t : Opened) (e : opening child ≡ accepted 
           (on-or-off (outside u (pos n)))
 
       -- a sector that is refused
-      module _ (r : Refusal) (v : other.verdict ≡ Refuses r) where
+      module _ (r : Refusal) (v : other.verdict ≡ Err r) where
         abbrev m : ℕ
         m = other.number.0
 
-        found : (m < u.count) × (leaves child t own.number.0 u m ≡ true) × (sector_verdict parent parent_es u m ≡ Refuses r) × (r.number ≢ 21)
+        found : (m < u.count) × (leaves child t own.number.0 u m ≡ true) × (sector_verdict parent parent_es u m ≡ Err r) × (r.number ≢ 21)
         found =
             let l : m < u.count = ⊎_elim (λ z. absurd (not-passes (sym v ∙ f.none z))) (λ k. k) (eq-or-lt_of_le f.within) in
             let h = (f.here l).0 ∙ v in
@@ -176,13 +175,13 @@ module _ (child parent : List ℕ) (t : Opened) (e : opening child ≡ accepted 
         pub found-added : Added r
         found-added = sector-added parent parent_es u m r found.2 found.3
 
-        pub left-refused : Refuses (parent_refusal r) ≡ pair_verdict child parent
+        pub left-refused : Err (parent_refusal r) ≡ pair_verdict child parent
         left-refused =
             let (l, w, s, d) = found in
             let n = entry_number t (address_of u m) in
             let (up, b, g) = left-on t flat child own.number.0 u m w in
             parent-first n r b g (read-entry parent u q (pos n) m (numbered-up u n m up l) ∙ s) found-added (λ i k. passed-below i (omega arith) (λ z. omega arith))
 
-      pub none-refused : other.verdict ≡ Passes → own.verdict ≡ pair_verdict child parent
+      pub none-refused : other.verdict ≡ Ok tt → own.verdict ≡ pair_verdict child parent
       none-refused v =
           own_first (λ n l. passed-below n l (λ k. ⊎_elim (λ z. omega arith) (λ z. absurd ((f.here z).1 v)) (eq-or-lt_of_le f.within)))

@@ -6,38 +6,37 @@
 
 ghost use Rattle.std.specs.Prelude.{◌≡◌};
 ghost use Rattle.format.specs.declared.TableKind.TheVariants.{First};
-ghost use Rattle.format.specs.Refusals.{accepted};
 ghost use Rattle.format.specs.Opening.{opening};
 ghost use Rattle.format.specs.Flattening.{pair_verdict};
 ghost use Rattle.opening.specs.Answers.{contents, outcome};
 
-use format::Verdict;
+use format::Result<(), Refusal>;
 use opening::{Opened, Opening};
 
 // All sectors of the pair: the first refusal other than 21. It is the child's first one, unless the parent refuses a sector at a lower address that the
 // child has not written. As both tables rise with the addresses, the parent's first one is that of the lowest such address.
-pub fn pair_verdict(child: &[u8], t: Opened, parent: &[u8], p: Opening) -> Verdict
-    requires { (opening child.now ≡ accepted (contents t)) × ((contents t).kind ≡ First) × (opening parent.now ≡ outcome p) }
+pub fn pair_verdict(child: &[u8], t: Opened, parent: &[u8], p: Result<Opened, Refusal>) -> Result<(), Refusal>
+    requires { (opening child.now ≡ Ok (contents t)) × ((contents t).kind ≡ First) × (opening parent.now ≡ outcome p) }
     ensures { result ≡ pair_verdict child.now parent.now }
 {
     let own = checking::first_refused(child, t);
     let limit = own.number;
     match p {
-        Opening::Refused(r) => {
+        Err(r) => {
             let gap = checking::first_unwritten(child, t, own);
             let here = gap.number;
             if here.0 < limit.0 {
                 let unopened = pairs::parent_refusal(r);
-                return Verdict::Refuses(unopened);
+                return Err(unopened);
             }
             own.verdict
         }
-        Opening::Opens(u) => {
+        Ok(u) => {
             let other = checking::first_left(parent, u, child, t, limit);
             let v = other.verdict;
-            if let Verdict::Refuses(r) = v {
+            if let Err(r) = v {
                 let lower = pairs::parent_refusal(r);
-                return Verdict::Refuses(lower);
+                return Err(lower);
             }
             own.verdict
         }

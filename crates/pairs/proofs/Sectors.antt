@@ -8,15 +8,14 @@ use native.Mathlib.Nat.{zero-add}
 use native.Mathlib.Omega.{arith}
 use lib.ListN.{length}
 use lib.IntN.{ℤ, pos, neg_ℤ, ◌+ℤ◌}
+use Rattle.std.specs.Prelude.{Ok, Err}
 use Rattle.fields.specs.Bytes.{part}
 use Rattle.format.specs.declared.Place.{Place}
 use Rattle.format.specs.declared.Pointer.{Pointer}
 use Rattle.format.specs.declared.Refusal.{Refusal}
 use Rattle.format.specs.declared.TableKind.TheVariants.{First}
-use Rattle.format.specs.declared.Verdict.{Verdict}
-use Rattle.format.specs.declared.Verdict.TheVariants.{Passes, Refuses}
 use Rattle.format.specs.Tests.{same}
-use Rattle.format.specs.Refusals.{refusal, Answer, refused, accepted, answer}
+use Rattle.format.specs.Refusals.{refusal, Answer, answer, Verdict}
 use Rattle.format.specs.Layouts.{index_offset, entries}
 use Rattle.format.specs.Opening.{Opened, opening}
 use Rattle.format.specs.Reading.{outside, entry_number, not_written, pointer_at, place_of, item_bytes, sector_verdict, read_verdict, read_at, read}
@@ -60,42 +59,42 @@ module _ (img : List ℕ) (t : Opened) (n : ℕ) (k : EntryChecked img t n) {b :
           ∙ sym (ap bytes_read (answer-passes _ _ ((sector-ok img (entries img (index_offset img)) t n).1 good)))
 
 -- ---- what reading an address answers, by its table entry
-module _ (img : List ℕ) (t : Opened) (e : opening img ≡ accepted t) (a : ℤ) where
+module _ (img : List ℕ) (t : Opened) (e : opening img ≡ Ok t) (a : ℤ) where
   read-entry : (n : ℕ) → outside t a ≡ false → entry_number t a ≡ n → read img a ≡ entry_answer img t n
   unfolding read entry_read entry_answer
   read-entry n h m =
       read-inside img (index_offset img) (opens img t e) a (rw (opened-is img t e) h)
       ∙ ap (λ (u : Opened). entry_answer img u (entry_number u a)) (opened-is img t e) ∙ ap (entry_answer img t) m
 
-  read-outside : outside t a ≡ true → read img a ≡ refused (refusal 20 0)
+  read-outside : outside t a ≡ true → read img a ≡ Err (refusal 20 0)
   unfolding read
   read-outside h = read-20 img (index_offset img) (opens img t e) a (rw (opened-is img t e) h)
 
-read-unopened : (img : List ℕ) (r : Refusal) → opening img ≡ refused r → (a : ℤ) → read img a ≡ refused r
+read-unopened : (img : List ℕ) (r : Refusal) → opening img ≡ Err r → (a : ℤ) → read img a ≡ Err r
 unfolding read read_at read_verdict opening
 read-unopened img r e a = answer-refuses _ _ r (then-refuses _ _ r (answer-refused _ _ r e))
 
 -- ---- which answers pass: all but refusals with another number than 21
 abbrev Passing : Answer (List ℕ) → Type 0
-Passing x = other_than_21 (verdict_of x) ≡ Passes
+Passing x = other_than_21 (verdict_of x) ≡ Ok tt
 
 -- the child's, where the pair's does
 child-passes : (x y : Answer (List ℕ)) → Passing (over x y) → Passing x
 unfolding verdict_of other_than_21
-child-passes (accepted d) y e = refl
-child-passes (refused r) y e =
-    ⊎_elim (choose-true _ Passes (Refuses r)) (λ f. subst Passing (over-other r y (same-iff.0 f)) e)
+child-passes (Ok d) y e = refl
+child-passes (Err r) y e =
+    ⊎_elim (choose-true _ (Ok tt) (Err r)) (λ f. subst Passing (over-other r y (same-iff.0 f)) e)
     (on-or-off (same r.number 21))
 
 -- the parent's at a table entry, whose numbers are not 20
 sector-not-20 : (img : List ℕ) (t : Opened) (n : ℕ) → ¬ Gives 20 (sector_verdict img (entries img (index_offset img)) t n)
 sector-not-20 img t n = says-not 20 _ (says-also _ (λ m p s e. omega (arith, s, e)) (sector-numbers img (entries img (index_offset img)) t n))
 
-parent-passes : (v : Verdict) (d : List ℕ) → ¬ Gives 20 v → Passing (from_parent (answer v d)) → other_than_21 v ≡ Passes
+parent-passes : (v : Verdict) (d : List ℕ) → ¬ Gives 20 v → Passing (from_parent (answer v d)) → other_than_21 v ≡ Ok tt
 unfolding verdict_of other_than_21 from_parent answer Gives
-parent-passes Passes d m e = refl
-parent-passes (Refuses r) d m e =
-    ⊎_elim (choose-true _ Passes (Refuses r))
+parent-passes (Ok tt) d m e = refl
+parent-passes (Err r) d m e =
+    ⊎_elim (choose-true _ (Ok tt) (Err r))
     (λ f. let n : (100 + r.number) ≡ 21 = sym (ap (λ (q : Refusal). q.number) (parent-other r m (same-iff.0 f))) ∙ only-21 (parent_refusal r) e in
     absurd (omega arith))
     (on-or-off (same r.number 21))
@@ -103,15 +102,15 @@ parent-passes (Refuses r) d m e =
 -- ---- the parent's sector, as the code finds it
 from_bytes : (x : Answer (List ℕ)) → bytes_read (from_parent x) ≡ bytes_read x
 unfolding bytes_read from_parent
-from_bytes (accepted d) = refl
-from_bytes (refused r) = refl
+from_bytes (Ok d) = refl
+from_bytes (Err r) = refl
 
 module _ (parent : List ℕ) (p : Answer Opened) (a : ℤ) (k : ParentChecked parent p a) where
-  pub parent-unopened : (r : Refusal) → p ≡ refused r → [] ≡ bytes_read (from_parent (read parent a))
+  pub parent-unopened : (r : Refusal) → p ≡ Err r → [] ≡ bytes_read (from_parent (read parent a))
   unfolding bytes_read
   parent-unopened r e = sym (from_bytes (read parent a) ∙ ap bytes_read (read-unopened parent r (k.opens ∙ e) a))
 
-  module _ (t : Opened) (e : p ≡ accepted t) where
+  module _ (t : Opened) (e : p ≡ Ok t) where
     pub parent-outside : outside t a ≡ true → [] ≡ bytes_read (from_parent (read parent a))
     unfolding bytes_read
     parent-outside h = sym (from_bytes (read parent a) ∙ ap bytes_read (read-outside parent t (k.opens ∙ e) a h))
@@ -136,7 +135,7 @@ not-nil : (x : List ℕ) → 0 < length x → x ≢ []
 not-nil x h e = let z : length x ≡ 0 = ap length e in omega arith
 
 -- ---- the child's count is that of its table, and the lowest address of one of the first kind is 0
-module _ (child : List ℕ) (t : Opened) (e : opening child ≡ accepted t) where
+module _ (child : List ℕ) (t : Opened) (e : opening child ≡ Ok t) where
   pub count-is : t.count ≡ count_of child
   count-is = ap (λ (u : Opened). u.count) (sym (opened-is child t e))
 
@@ -145,16 +144,16 @@ module _ (child : List ℕ) (t : Opened) (e : opening child ≡ accepted t) wher
 
 -- ---- what the pair answers, by the bytes that are handed out
 module _ (child parent : List ℕ) (n : ℕ) (d : List ℕ) where
-  some-by : (x : Answer (List ℕ)) → pair_at child parent n ≡ x → d ≡ bytes_read x → d ≢ [] → pair_at child parent n ≡ accepted d
+  some-by : (x : Answer (List ℕ)) → pair_at child parent n ≡ x → d ≡ bytes_read x → d ≢ [] → pair_at child parent n ≡ Ok d
   unfolding bytes_read
-  some-by (accepted c) e f h = e ∙ ap accepted (sym f)
-  some-by (refused r) e f h = absurd (h f)
+  some-by (Ok c) e f h = e ∙ ap Ok (sym f)
+  some-by (Err r) e f h = absurd (h f)
 
   -- a sector where they are not empty, which no sector is
-  pub sector-some : d ≡ sector_at child parent n → 0 < length d → pair_at child parent n ≡ accepted d
+  pub sector-some : d ≡ sector_at child parent n → 0 < length d → pair_at child parent n ≡ Ok d
   sector-some f l = some-by (pair_at child parent n) refl f (not-nil d l)
 
-  pub sector-is : pair_at child parent n ≡ accepted d → (sector_at child parent n ≡ d) × (d ≢ [])
+  pub sector-is : pair_at child parent n ≡ Ok d → (sector_at child parent n ≡ d) × (d ≢ [])
   unfolding pair_at bytes_read
   sector-is e = (ap bytes_read e, over-some child parent (pos n) d e)
 
@@ -191,16 +190,16 @@ module _ (child parent : List ℕ) (t : Opened) (p : Answer Opened) (k : Pair ch
   -- where the child has one
   own-by : (x : Answer (List ℕ)) (d : List ℕ) → read child (pos n) ≡ x → d ≡ bytes_read x → 0 < length d → d ≡ sector_at child parent n
   unfolding pair_at read_over disc_over bytes_read
-  own-by (accepted c) d e f l = f ∙ sym (ap bytes_read (ap beneath e ∙ over-child c _))
-  own-by (refused r) d e f l = absurd (not-nil d l f)
+  own-by (Ok c) d e f l = f ∙ sym (ap bytes_read (ap beneath e ∙ over-child c _))
+  own-by (Err r) d e f l = absurd (not-nil d l f)
 
   -- where it has none
   gap_by : (x : Answer (List ℕ)) (d : List ℕ) → read child (pos n) ≡ x → d ≡ bytes_read x → length d ≤ 0
       → pair_at child parent n ≡ from_parent (read parent (pos n))
   unfolding pair_at read_over disc_over bytes_read verdict_of
-  gap_by (accepted c) d e f l = absurd (over-some child parent (pos n) c (ap beneath e ∙ over-child c _) (sym f ∙ empty d l))
-  gap_by (refused r) d e f l =
-      ap beneath e ∙ over-parent r _ (only-21 r (child-passes (refused r) (read parent (pos n)) (subst Passing (ap beneath e) passed)))
+  gap_by (Ok c) d e f l = absurd (over-some child parent (pos n) c (ap beneath e ∙ over-child c _) (sym f ∙ empty d l))
+  gap_by (Err r) d e f l =
+      ap beneath e ∙ over-parent r _ (only-21 r (child-passes (Err r) (read parent (pos n)) (subst Passing (ap beneath e) passed)))
 
   module _ {d : List ℕ} (f : d ≡ bytes_read (entry_answer child t n)) where
     pub sector-own : 0 < length d → d ≡ sector_at child parent n

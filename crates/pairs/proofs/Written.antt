@@ -8,13 +8,13 @@ use native.Mathlib.Nat.{sub-zero}
 use native.Mathlib.Numerals.{add-one}
 use native.Mathlib.Omega.{arith}
 use lib.ListN.{length}
+use Rattle.std.specs.Prelude.{Ok, Err}
 use Rattle.fields.specs.Bytes.{part, equal}
 use Rattle.fields.proofs.Equal.{equal-true}
 use Rattle.fields.proofs.Overwrite.{part-whole}
 use Rattle.fields.proofs.Steps.{sub-step, sub-done}
-use Rattle.format.specs.declared.Verdict.TheVariants.{Passes, Refuses}
 use Rattle.format.specs.Tests.{same, below, ◌or◌}
-use Rattle.format.specs.Refusals.{refusal, Answer, refused, accepted}
+use Rattle.format.specs.Refusals.{refusal, Answer}
 use Rattle.format.specs.Opening.{Opened, opening}
 use Rattle.format.specs.Writing.{most_sectors, largest_size, most_addresses}
 use Rattle.format.specs.Flattening.{count_of, pair_at, Written, with_sector, written_from, written_of, size_of, any_other, sizes_verdict}
@@ -47,8 +47,8 @@ module _ (child parent : List ℕ) (count : ℕ) where
 
     without : (x : Answer (List ℕ)) → pair_at child parent n ≡ x → length d ≤ 0 → with_sector n x (rest (n + 1)) ≡ rest (n + 1)
     unfolding with_sector
-    without (accepted c) e l = let q = sector-is child parent n c e in absurd (q.1 (sym q.0 ∙ sym f ∙ empty d l))
-    without (refused r) e l = refl
+    without (Ok c) e l = let q = sector-is child parent n c e in absurd (q.1 (sym q.0 ∙ sym f ∙ empty d l))
+    without (Err r) e l = refl
 
     rest-none : length d ≤ 0 → rest n ≡ rest (n + 1)
     rest-none l = rest-step ∙ without (pair_at child parent n) refl l
@@ -96,7 +96,7 @@ module _ (child parent : List ℕ) (count : ℕ) where
     other-done size g = sym (ap (any_other size) (rest-done n h)) ∙ g
 
 -- all of them, where the child opens to t
-module _ (child parent : List ℕ) (t : Opened) (e : opening child ≡ accepted t) where
+module _ (child parent : List ℕ) (t : Opened) (e : opening child ≡ Ok t) where
   pub rest_all : rest child parent t.count 0 ≡ written_of child parent
   unfolding written_of
   rest_all = ap (λ k. written_from (pair_at child parent) k 0) (sub-zero t.count ∙ count-is child t e)
@@ -113,11 +113,11 @@ module _ (child parent : List ℕ) where
     others : b ≡ any_other (size_of all) all
     others = o ∙ ap (λ n. any_other n all) s
 
-    pub sizes-40 : b ≡ true → Refuses (refusal 40 0) ≡ sizes_verdict (count_of child) all
+    pub sizes-40 : b ≡ true → Err (refusal 40 0) ≡ sizes_verdict (count_of child) all
     unfolding sizes_verdict
     sizes-40 y = stop _ (sym others ∙ y)
 
-    module _ (one : b ≡ false) {written : ℕ} (w : written ≡ length all) (t : Opened) (e : opening child ≡ accepted t) {count : ℕ} (c : count ≡ t.count)
+    module _ (one : b ≡ false) {written : ℕ} (w : written ≡ length all) (t : Opened) (e : opening child ≡ Ok t) {count : ℕ} (c : count ≡ t.count)
         {r : Bool} (q : r ≡ (same count 0 or below most_sectors count or below largest_size size or below most_addresses written)) where
       counted : count ≡ count_of child
       counted = c ∙ count-is child t e
@@ -125,11 +125,11 @@ module _ (child parent : List ℕ) where
       overs : r ≡ (same (count_of child) 0 or below most_sectors (count_of child) or below largest_size (size_of all) or below most_addresses (length all))
       overs = rw (s, w, counted) at q
 
-      pub sizes-30 : r ≡ true → Refuses (refusal 30 0) ≡ sizes_verdict (count_of child) all
+      pub sizes-30 : r ≡ true → Err (refusal 30 0) ≡ sizes_verdict (count_of child) all
       unfolding sizes_verdict
       sizes-30 y = on _ (sym others ∙ one) (stop-last (sym overs ∙ y))
 
-      pub sizes-pass : r ≡ false → Passes ≡ sizes_verdict (count_of child) all
+      pub sizes-pass : r ≡ false → Ok tt ≡ sizes_verdict (count_of child) all
       unfolding sizes_verdict
       sizes-pass y = on _ (sym others ∙ one) (on-last _ (sym overs ∙ y))
 

@@ -62,17 +62,17 @@ fn entry_sector<'a>(s: &'a [u8], t: Opened, n: EntryNumber) -> &'a [u8]
 }
 
 // The parent's sector at address a, empty where it has none: it does not open, or the address is outside or not written.
-fn parent_sector<'a>(parent: &'a [u8], p: Opening, a: SectorAddress) -> &'a [u8]
+fn parent_sector<'a>(parent: &'a [u8], p: Result<Opened, Refusal>, a: SectorAddress) -> &'a [u8]
     requires { ParentChecked parent.now (outcome p) a.0 }
     ensures { result.now ≡ bytes_read (from_parent (read parent.now a.0)) }
 {
-    let Opening::Opens(t) = p else {
+    let Ok(t) = p else {
         return part(parent, 0, 0);
     };
     let numbered = opening::entry_number(t, a);
     match numbered {
-        Numbered::Outside => part(parent, 0, 0),
-        Numbered::At(n) => entry_sector(parent, t, n),
+        None => part(parent, 0, 0),
+        Some(n) => entry_sector(parent, t, n),
     }
 }
 
@@ -81,7 +81,7 @@ pub fn sector<'a>(
     child: &'a [u8],
     t: Opened,
     parent: &'a [u8],
-    p: Opening,
+    p: Result<Opened, Refusal>,
     n: EntryNumber,
 ) -> &'a [u8]
     requires { Pair child.now parent.now (contents t) (outcome p) × (n.0 < (contents t).count) }
@@ -95,7 +95,7 @@ pub fn sector<'a>(
 }
 
 // The size of the first sector that the pair has, 0 where it has none.
-pub fn size_of<'a>(child: &'a [u8], t: Opened, parent: &'a [u8], p: Opening) -> u64
+pub fn size_of<'a>(child: &'a [u8], t: Opened, parent: &'a [u8], p: Result<Opened, Refusal>) -> u64
     requires { Pair child.now parent.now (contents t) (outcome p) }
     ensures { result ≡ size_of (written_of child.now parent.now) }
 {
@@ -113,7 +113,7 @@ pub fn size_of<'a>(child: &'a [u8], t: Opened, parent: &'a [u8], p: Opening) -> 
 }
 
 // How many sectors the pair has.
-pub fn count_written<'a>(child: &'a [u8], t: Opened, parent: &'a [u8], p: Opening) -> u64
+pub fn count_written<'a>(child: &'a [u8], t: Opened, parent: &'a [u8], p: Result<Opened, Refusal>) -> u64
     requires { Pair child.now parent.now (contents t) (outcome p) }
     ensures { result ≡ length (written_of child.now parent.now) }
 {
@@ -132,7 +132,7 @@ pub fn count_written<'a>(child: &'a [u8], t: Opened, parent: &'a [u8], p: Openin
 }
 
 // Whether a sector of the pair has another size than this.
-fn any_other<'a>(child: &'a [u8], t: Opened, parent: &'a [u8], p: Opening, size: u64) -> bool
+fn any_other<'a>(child: &'a [u8], t: Opened, parent: &'a [u8], p: Result<Opened, Refusal>, size: u64) -> bool
     requires { Pair child.now parent.now (contents t) (outcome p) }
     ensures { result ≡ any_other size (written_of child.now parent.now) }
 {
@@ -172,21 +172,21 @@ pub fn sizes_verdict<'a>(
     child: &'a [u8],
     t: Opened,
     parent: &'a [u8],
-    p: Opening,
+    p: Result<Opened, Refusal>,
     size: u64,
     written: u64,
-) -> Verdict
+) -> Result<(), Refusal>
     requires { Pair child.now parent.now (contents t) (outcome p) × (size ≡ size_of (written_of child.now parent.now)) × (written ≡ length (written_of child.now parent.now)) }
     ensures { result ≡ sizes_verdict (count_of child.now) (written_of child.now parent.now) }
 {
     let place = ByteOffset(0);
     if any_other(child, t, parent, p, size) {
-        return Verdict::Refuses(Refusal { number: 40, place });
+        return Err(Refusal { number: 40, place });
     }
     if is_over(opening::count(t), size, written) {
-        return Verdict::Refuses(Refusal { number: 30, place });
+        return Err(Refusal { number: 30, place });
     }
-    Verdict::Passes
+    Ok(())
 }
 
 // Whether two sectors hold the same bytes, length included.
@@ -200,7 +200,7 @@ fn is_same(x: &[u8], y: &[u8]) -> bool
 }
 
 // Whether no address below n has the same sector. Each comparison ends at the first difference in size or bytes.
-pub fn is_new<'a>(child: &'a [u8], t: Opened, parent: &'a [u8], p: Opening, n: EntryNumber) -> bool
+pub fn is_new<'a>(child: &'a [u8], t: Opened, parent: &'a [u8], p: Result<Opened, Refusal>, n: EntryNumber) -> bool
     requires { Pair child.now parent.now (contents t) (outcome p) × (n.0 < (contents t).count) }
     ensures { result ≡ not (held_below (sector_at child.now parent.now) (sector_at child.now parent.now n.0) n.0) }
 {

@@ -6,7 +6,6 @@
 #![tactic(auto)]
 
 ghost use Rattle.std.specs.Prelude.{false, ◌≡◌, ◌+◌, ◌*◌, ◌^◌, ◌≤◌, ◌<◌, max, length};
-ghost use Rattle.format.specs.Refusals.{accepted};
 ghost use Rattle.format.specs.Opening.{opening};
 ghost use Rattle.format.specs.Committing.{any_outside, entry_numbers, old_pointer, item_or_zero, shift_for};
 ghost use Rattle.opening.specs.Answers.{contents};
@@ -54,7 +53,7 @@ pub fn is_next(t: Opened, addresses: &[i64], k: usize, n: EntryNumber) -> bool
 
 // The item number that table entry n has, 0 where it is not written. It is read once.
 fn old_item(s: &[u8], t: Opened, n: EntryNumber) -> ItemNumber
-    requires { (opening s.now ≡ accepted (contents t)) × (n.0 < (contents t).count) }
+    requires { (opening s.now ≡ Ok (contents t)) × (n.0 < (contents t).count) }
     ensures { result.0 ≡ item_or_zero (old_pointer s.now (contents t) n.0) }
 {
     let e = opening::table_entry(s, t, n);
@@ -72,7 +71,7 @@ pub fn is_new(sectors: &[u8], size: u64, k: u64) -> bool
 {
     let sector = fields::part(sectors, k * size, size);
     let earlier = search::among(sectors, ByteOffset(0), k, sector);
-    if let Item::Is(_) = earlier {
+    if let Some(_) = earlier {
         return false;
     }
     true
@@ -86,7 +85,7 @@ fn look(s: &[u8], t: Opened, size: u64, sectors: &[u8], k: usize, stored: u64) -
     let handed = k as u64;
     let sector = fields::part(sectors, handed * size, size);
     let old = search::on_disc_of(s, t, sector);
-    if let TableEntry::Is(a) = old {
+    if let Some(a) = old {
         let p = opening::pointer_of(s, t, a);
         let item = p.item;
         return Looked {

@@ -77,22 +77,22 @@ pub fn range(rt: &impl Print, s: AddressRange) -> io::Result<()> {
 }
 
 // A sector count, or the refusal.
-pub fn counted(rt: &impl Print, answer: Counted) -> io::Result<()> {
+pub fn counted(rt: &impl Print, answer: Result<AddressRange, Refusal>) -> io::Result<()> {
     match answer {
-        Counted::Sectors(s) => range(rt, s),
-        Counted::Refused(r) => refused(rt, r),
+        Ok(s) => range(rt, s),
+        Err(r) => refused(rt, r),
     }
 }
 
 // A sector's place and size, or the refusal.
-pub fn located(rt: &impl Print, answer: Located) -> io::Result<()> {
+pub fn located(rt: &impl Print, answer: Result<Place, Refusal>) -> io::Result<()> {
     match answer {
-        Located::At(p) => {
+        Ok(p) => {
             let start = p.start;
             number(rt, b"", start.0)?;
             number(rt, b" ", p.size)
         }
-        Located::Refused(r) => refused(rt, r),
+        Err(r) => refused(rt, r),
     }
 }
 

@@ -1,9 +1,7 @@
 -- What the searches answer, and what they ask for.
-use Rattle.std.specs.Prelude.{List, ◌≡◌, ℕ}
+use Rattle.std.specs.Prelude.{List, ◌≡◌, ℕ, Ok}
 use Rattle.std.proofs.Math.Option.{Option, none, some}
-use Rattle.format.specs.declared.Verdict.TheVariants.{Passes}
 use Rattle.format.specs.Tests.{choose}
-use Rattle.format.specs.Refusals.{accepted}
 use Rattle.format.specs.Layouts.{index_offset, entries}
 use Rattle.format.specs.Opening.{Opened, opening}
 use Rattle.format.specs.Reading.{not_written, pointer_at, place_of}
@@ -17,7 +15,7 @@ use Rattle.search.specs.declared.Slot.TheVariants as slot
 
 -- an image that opens to t, all of whose sectors pass a commit's checks: each is good or not written
 abbrev pub Checked : List ℕ → Opened → Type 0
-Checked img t = (opening img ≡ accepted t) × (sectors_verdict img (entries img (index_offset img)) t ≡ Passes)
+Checked img t = (opening img ≡ Ok t) × (sectors_verdict img (entries img (index_offset img)) t ≡ Ok tt)
 
 -- the table entry found
 unfoldable pub entry_found : TableEntry → Option ℕ

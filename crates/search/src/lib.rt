@@ -34,29 +34,29 @@ pub enum Slot {
 }
 
 // What table entry a has. It is read once.
-pub fn slot_at(s: &[u8], t: Opened, a: EntryNumber) -> Slot
+pub fn slot_at(s: &[u8], t: Opened, a: EntryNumber) -> Option<Place>
     requires { Checked s.now (contents t) × (a.0 < (contents t).count) }
     ensures { result ≡ slot_at s.now (contents t) a.0 }
 {
     let e = opening::table_entry(s, t, a);
     if opening::is_unwritten(t, e) {
-        return Slot::Empty;
+        return None;
     }
     let p = opening::entry_decoded(t, e);
-    Slot::Sector(sectors::place(s, p))
+    Some(sectors::place(s, p))
 }
 
 // The first table entry of the disc that opened as t whose sector holds these bytes, length included.
-pub fn on_disc_at(s: &[u8], t: Opened, sector: &[u8]) -> TableEntry
+pub fn on_disc_at(s: &[u8], t: Opened, sector: &[u8]) -> Option<EntryNumber>
     requires { Checked s.now (contents t) }
     ensures { entry_found result ≡ on_disc s.now (contents t) sector.now }
 {
     let size = sector.len();
-    let mut found = TableEntry::Missing;
+    let mut found = None;
     // an iteration for each table entry, up to the one that is found; within it at most one for each byte, up to the first that differs
     'search: for a in 0..opening::count(t) {
         let slot = slot_at(s, t, EntryNumber(a));
-        let Slot::Sector(place) = slot else {
+        let Some(place) = slot else {
             continue 'search;
         };
         if place.size != size as u64 {
@@ -67,7 +67,7 @@ pub fn on_disc_at(s: &[u8], t: Opened, sector: &[u8]) -> TableEntry
         let mut j: usize = 0;
         loop {
             if j == size {
-                found = TableEntry::Is(EntryNumber(a));
+                found = Some(EntryNumber(a));
                 break 'search;
             }
             if s[start + j] != sector[j] {
@@ -80,7 +80,7 @@ pub fn on_disc_at(s: &[u8], t: Opened, sector: &[u8]) -> TableEntry
 }
 
 // Over an opened image, which it takes apart.
-pub fn on_disc<'a, 'b>(image: Image<'a>, sector: &'b [u8]) -> TableEntry
+pub fn on_disc<'a, 'b>(image: Image<'a>, sector: &'b [u8]) -> Option<EntryNumber>
     requires { Checked image.bytes.now (held image) }
     ensures { entry_found result ≡ on_disc image.entry.bytes.now (held image.entry) sector.now }
 {
@@ -88,7 +88,7 @@ pub fn on_disc<'a, 'b>(image: Image<'a>, sector: &'b [u8]) -> TableEntry
 }
 
 // Makes the opened image and hands it on.
-pub fn on_disc_of(s: &[u8], t: Opened, sector: &[u8]) -> TableEntry
+pub fn on_disc_of(s: &[u8], t: Opened, sector: &[u8]) -> Option<EntryNumber>
     requires { Checked s.now (contents t) }
     ensures { entry_found result ≡ on_disc s.now (contents t) sector.now }
 {
@@ -96,13 +96,13 @@ pub fn on_disc_of(s: &[u8], t: Opened, sector: &[u8]) -> TableEntry
 }
 
 // The first of the n sectors that stand one after another from `at` on that holds these bytes; each has as many.
-pub fn among(s: &[u8], at: ByteOffset, n: u64, sector: &[u8]) -> Item
+pub fn among(s: &[u8], at: ByteOffset, n: u64, sector: &[u8]) -> Option<ItemNumber>
     requires { at.0 + n * length sector.now ≤ length s.now }
     ensures { item_found result ≡ among_stored (pieces n (length sector.now) (drop at.0 s.now)) sector.now }
 {
     let size = sector.len();
     let first = at.0 as usize;
-    let mut found = Item::Missing;
+    let mut found = None;
     // an iteration for each sector, up to the one that is found; within it at most one for each byte, up to the first that differs
     let mut i: u64 = 0;
     'search: while i < n {
@@ -110,7 +110,7 @@ pub fn among(s: &[u8], at: ByteOffset, n: u64, sector: &[u8]) -> Item
         let mut j: usize = 0;
         loop {
             if j == size {
-                found = Item::Is(ItemNumber(i));
+                found = Some(ItemNumber(i));
                 break 'search;
             }
             if s[start + j] != sector[j] {

@@ -5,9 +5,10 @@ use mathlib.Core.Logic.{inr}
 use mathlib.Core.Path.{◌≡◌, sym, ap, ◌∙◌}
 use Prim.Native.Nat.{ℕ}
 use lib.IntN.{ℤ}
+use Rattle.std.specs.Prelude.{Ok, Err}
 use Rattle.format.specs.declared.Pointer.{Pointer}
 use Rattle.format.specs.declared.Refusal.{Refusal}
-use Rattle.format.specs.Refusals.{refused, accepted, answer}
+use Rattle.format.specs.Refusals.{answer}
 use Rattle.format.specs.Layouts.{index_offset, entries}
 use Rattle.format.specs.Opening.{Opened, opening}
 use Rattle.format.specs.Reading.{entry_number, pointer_at, address_verdict, pointer_of, place_of, read_verdict, locate}
@@ -18,17 +19,17 @@ use Rattle.opening.proofs.Accepted.{opens, opened-is}
 use Rattle.sectors.specs.Found.{Known}
 
 -- ---- in an image that opens to t
-module _ (img : List ℕ) (t : Opened) (e : opening img ≡ accepted t) (a : ℤ) where
+module _ (img : List ℕ) (t : Opened) (e : opening img ≡ Ok t) (a : ℤ) where
   verdict : read_verdict img (index_offset img) a ≡ address_verdict img (entries img (index_offset img)) t a
   verdict =
       verdict-opened img (index_offset img) (opens img t e) a
       ∙ ap (λ (u : Opened). address_verdict img (entries img (index_offset img)) u a) (opened-is img t e)
 
-  pub locate-refused : (r : Refusal) → refused r ≡ answer (address_verdict img (entries img (index_offset img)) t a) (pointer_of img t a) → refused r ≡ locate img a
+  pub locate-refused : (r : Refusal) → Err r ≡ answer (address_verdict img (entries img (index_offset img)) t a) (pointer_of img t a) → Err r ≡ locate img a
   unfolding locate
   locate-refused r f = sym (answer-refuses _ _ r (verdict ∙ answer-refused _ _ r (sym f)))
 
-  module _ (p : Pointer) (f : accepted p ≡ answer (address_verdict img (entries img (index_offset img)) t a) (pointer_of img t a)) where
+  module _ (p : Pointer) (f : Ok p ≡ answer (address_verdict img (entries img (index_offset img)) t a) (pointer_of img t a)) where
     found_ok : SectorOk img (entries img (index_offset img)) t (entry_number t a)
     unfolding address_verdict
     found_ok = ((then-iff (row-iff _ Iff.rfl) (sector-ok img _ t (entry_number t a))).0 (answer-accepted _ _ p (sym f)).0).1
@@ -46,8 +47,8 @@ module _ (img : List ℕ) (t : Opened) (e : opening img ≡ accepted t) (a : ℤ
         let k = found-item in
         inr (record { indexed = rw (← found-is) found_ok.named; block = k.block; cmp_sum = k.cmp_sum; sum = k.sum })
 
-    pub locate-found : accepted (place_of img p) ≡ locate img a
+    pub locate-found : Ok (place_of img p) ≡ locate img a
     unfolding locate pointer_of
     locate-found =
-        ap (λ (q : Pointer). accepted (place_of img q)) (sym (ap (λ (u : Opened). pointer_of img u a) (opened-is img t e) ∙ found-is))
+        ap (λ (q : Pointer). Ok (place_of img q)) (sym (ap (λ (u : Opened). pointer_of img u a) (opened-is img t e) ∙ found-is))
         ∙ sym (answer-passes _ _ (verdict ∙ (answer-accepted _ _ p (sym f)).0))

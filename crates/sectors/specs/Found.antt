@@ -1,8 +1,8 @@
 -- What this crate's answers say, and what its functions ask for.
-use Rattle.std.specs.Prelude.{true, List, ◌⊎◌, ◌≡◌, ℕ}
+use Rattle.std.specs.Prelude.{true, List, ◌⊎◌, ◌≡◌, ℕ, Ok, Err}
 use Rattle.crc64.specs.Crc.{crc_of}
 use Rattle.format.specs.declared.Pointer.{Pointer}
-use Rattle.format.specs.Refusals.{Answer, refused, accepted}
+use Rattle.format.specs.Refusals.{Answer}
 use Rattle.format.specs.Layouts.{DBLK, index_offset, entries, block_cmp_crc64, block_crc64, block_payload}
 use Rattle.format.specs.Opening.{offsets_of}
 use Rattle.format.specs.Reading.{has}
@@ -12,8 +12,8 @@ use Rattle.sectors.specs.declared.Found.TheVariants.{At, Refused}
 
 -- a pointer, or the refusal
 unfoldable pub found : Found → Answer Pointer
-found (At p) = accepted p
-found (Refused r) = refused r
+found (At p) = Ok p
+found (Refused r) = Err r
 
 -- the index names a block at b, which passes all checks of a block
 pub record Intact (img : List ℕ) (b : ℕ) : Type 0 where

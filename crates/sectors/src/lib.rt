@@ -4,14 +4,13 @@
 #![tactic(auto)]
 
 ghost use Rattle.std.specs.Prelude.{◌≡◌, ◌+◌, ◌*◌, ◌/◌, ◌≤◌, ◌<◌, length};
-ghost use Rattle.format.specs.declared.Verdict.TheVariants.{Passes};
 ghost use Rattle.format.specs.Tests.{same, differs, at_least, ◌and◌};
-ghost use Rattle.format.specs.Refusals.{refusal, row, accepted, answer};
+ghost use Rattle.format.specs.Refusals.{refusal, row, answer};
 ghost use Rattle.format.specs.Layouts.{DBLK, index_offset, index_header_length, entry_count, entry_length, entries_from, entries, block_length, sector_size};
 ghost use Rattle.format.specs.Opening.{is_user_data, offsets_of, open_verdict, opening};
 ghost use Rattle.format.specs.Reading.{has, pointer_at, block_malformed, block_verdict, item_verdict, pointer_verdict, sector_verdict, address_verdict, pointer_of, place_of, locate, read};
 ghost use Rattle.format.specs.Facts.{BlockOk, ItemOk};
-ghost use Rattle.format.specs.Answers.{located, bytes_read};
+ghost use Rattle.format.specs.Answers.{bytes_read};
 ghost use Rattle.opening.specs.Answers.{contents, held};
 ghost use Rattle.sectors.specs.Found.{found, Known};
 
@@ -40,7 +39,7 @@ pub struct Visit {
 // Where a sector lies, and a block that is known to be intact: the sector's, or where it is refused the one handed in.
 #[derive(Clone, Copy)]
 pub struct Near {
-    pub located: Located,
+    pub located: Result<Place, Refusal>,
     pub known: ByteOffset,
 }
 
@@ -109,28 +108,28 @@ fn block_malformed(s: &[u8], b: ByteOffset) -> bool
 }
 
 // The block at b: checks 23 to 25, and 23 of its payload.
-pub fn block_verdict(s: &[u8], b: ByteOffset) -> Verdict
+pub fn block_verdict(s: &[u8], b: ByteOffset) -> Result<(), Refusal>
     ensures { result ≡ block_verdict s.now b.0 }
 {
     let place = b;
     let block = b.0;
     if room(s, block) < 36 {
-        return Verdict::Refuses(Refusal { number: 23, place });
+        return Err(Refusal { number: 23, place });
     }
     if get(s, block + 6, 2) != 0 {
-        return Verdict::Refuses(Refusal { number: 24, place });
+        return Err(Refusal { number: 24, place });
     }
     if block_malformed(s, b) {
-        return Verdict::Refuses(Refusal { number: 25, place });
+        return Err(Refusal { number: 25, place });
     }
     if room(s, block + 36) < get(s, block + 16, 4) {
-        return Verdict::Refuses(Refusal { number: 23, place });
+        return Err(Refusal { number: 23, place });
     }
-    Verdict::Passes
+    Ok(())
 }
 
 // The item of p, in a block that passed: check 26.
-pub fn number_verdict(s: &[u8], p: Pointer) -> Verdict
+pub fn number_verdict(s: &[u8], p: Pointer) -> Result<(), Refusal>
     requires { BlockOk s.now p.block.0 }
     ensures { result ≡ row (at_least p.item.0 (block_length s.now p.block.0 / sector_size s.now p.block.0)) (refusal 26 p.block.0) }
 {
@@ -140,24 +139,18 @@ pub fn number_verdict(s: &[u8], p: Pointer) -> Verdict
     let length = get(s, block + 16, 4);
     let size = get(s, block + 8, 4);
     if length / size <= item.0 {
-        return Verdict::Refuses(Refusal { number: 26, place });
+        return Err(Refusal { number: 26, place });
     }
-    Verdict::Passes
+    Ok(())
 }
 
 // The item of p: checks 23 to 27. One pass over the block for its checksum.
-fn item_verdict(s: &[u8], p: Pointer) -> Verdict
+fn item_verdict(s: &[u8], p: Pointer) -> Result<(), Refusal>
     ensures { result ≡ item_verdict s.now p }
 {
     let place = p.block;
-    let v = block_verdict(s, place);
-    if let Verdict::Refuses(r) = v {
-        return Verdict::Refuses(r);
-    }
-    let w = number_verdict(s, p);
-    if let Verdict::Refuses(r) = w {
-        return Verdict::Refuses(r);
-    }
+    block_verdict(s, place)?;
+    number_verdict(s, p)?;
     let block = place.0;
     let length = get(s, block + 16, 4);
     if tables::sums_differ(
@@ -165,9 +158,9 @@ fn item_verdict(s: &[u8], p: Pointer) -> Verdict
         get(s, block + 20, 8),
         get(s, block + 28, 8),
     ) {
-        return Verdict::Refuses(Refusal { number: 27, place });
+        return Err(Refusal { number: 27, place });
     }
-    Verdict::Passes
+    Ok(())
 }
 
 // b is the block that is known.
@@ -184,8 +177,8 @@ pub fn is_known(b: ByteOffset, known: ByteOffset) -> bool
 }
 
 // What p, whose table entry stands at `place`, points to: checks 22 to 27. Of the block that is known only the item's number is looked at.
-fn pointer_verdict(s: &[u8], place: ByteOffset, p: Pointer, known: ByteOffset) -> Verdict
-    requires { (open_verdict s.now (index_offset s.now) ≡ Passes) × Known s.now known.0 }
+fn pointer_verdict(s: &[u8], place: ByteOffset, p: Pointer, known: ByteOffset) -> Result<(), Refusal>
+    requires { (open_verdict s.now (index_offset s.now) ≡ Ok tt) × Known s.now known.0 }
     ensures { result ≡ pointer_verdict s.now (entries s.now (index_offset s.now)) place.0 p }
 {
     let b = p.block;
@@ -195,40 +188,37 @@ fn pointer_verdict(s: &[u8], place: ByteOffset, p: Pointer, known: ByteOffset) -
     if is_indexed(s, ByteOffset(get(s, INDEX_OFFSET, 8)), b) {
         return item_verdict(s, p);
     }
-    Verdict::Refuses(Refusal { number: 22, place })
+    Err(Refusal { number: 22, place })
 }
 
 // The sector of table entry n of the image that opened as t: checks 21 to 27, 73. Its table entry is read once; of the block that is known only the
 // item's number is looked at.
-fn find(s: &[u8], t: Opened, n: EntryNumber, known: ByteOffset) -> Found
-    requires { (opening s.now ≡ accepted (contents t)) × (n.0 < (contents t).count) × Known s.now known.0 }
-    ensures { found result ≡ answer (sector_verdict s.now (entries s.now (index_offset s.now)) (contents t) n.0) (pointer_at s.now (contents t) n.0) }
+fn find(s: &[u8], t: Opened, n: EntryNumber, known: ByteOffset) -> Result<Pointer, Refusal>
+    requires { (opening s.now ≡ Ok (contents t)) × (n.0 < (contents t).count) × Known s.now known.0 }
+    ensures { result ≡ answer (sector_verdict s.now (entries s.now (index_offset s.now)) (contents t) n.0) (pointer_at s.now (contents t) n.0) }
 {
     let place = ByteOffset(0);
     let e = opening::table_entry(s, t, n);
     if opening::is_unwritten(t, e) {
-        return Found::Refused(Refusal { number: 21, place });
+        return Err(Refusal { number: 21, place });
     }
     if opening::is_unknown(t, e) {
-        return Found::Refused(Refusal { number: 73, place });
+        return Err(Refusal { number: 73, place });
     }
     let p = opening::entry_decoded(t, e);
-    let v = pointer_verdict(s, opening::entry_place(t, n), p, known);
-    if let Verdict::Refuses(r) = v {
-        return Found::Refused(r);
-    }
-    Found::At(p)
+    pointer_verdict(s, opening::entry_place(t, n), p, known)?;
+    Ok(p)
 }
 
 // The sector at address a: check 20, and its table entry's.
-fn find_address(s: &[u8], t: Opened, a: SectorAddress, known: ByteOffset) -> Found
-    requires { (opening s.now ≡ accepted (contents t)) × Known s.now known.0 }
-    ensures { found result ≡ answer (address_verdict s.now (entries s.now (index_offset s.now)) (contents t) a.0) (pointer_of s.now (contents t) a.0) }
+fn find_address(s: &[u8], t: Opened, a: SectorAddress, known: ByteOffset) -> Result<Pointer, Refusal>
+    requires { (opening s.now ≡ Ok (contents t)) × Known s.now known.0 }
+    ensures { result ≡ answer (address_verdict s.now (entries s.now (index_offset s.now)) (contents t) a.0) (pointer_of s.now (contents t) a.0) }
 {
     let numbered = opening::entry_number(t, a);
     match numbered {
-        Numbered::At(n) => find(s, t, n, known),
-        Numbered::Outside => Found::Refused(Refusal {
+        Some(n) => find(s, t, n, known),
+        None => Err(Refusal {
             number: 20,
             place: ByteOffset(0),
         }),
@@ -251,20 +241,20 @@ pub fn place(s: &[u8], p: Pointer) -> Place
 // Where the sector at an address of the image that opened as t lies. A caller that goes from address to address hands in the block
 // that the last answer left known, so that neighbours in one intact block cost one pass over the index and the block, not one each.
 fn locate_near_at(s: &[u8], t: Opened, v: Visit) -> Near
-    requires { (opening s.now ≡ accepted (contents t)) × Known s.now v.known.0 }
-    ensures { (located result.located ≡ locate s.now v.address.0) × Known s.now result.known.0 }
+    requires { (opening s.now ≡ Ok (contents t)) × Known s.now v.known.0 }
+    ensures { (result.located ≡ locate s.now v.address.0) × Known s.now result.known.0 }
 {
     let known = v.known;
     let f = find_address(s, t, v.address, known);
     match f {
-        Found::Refused(r) => Near {
-            located: Located::Refused(r),
+        Err(r) => Near {
+            located: Err(r),
             known,
         },
-        Found::At(p) => {
+        Ok(p) => {
             let block = p.block;
             Near {
-                located: Located::At(place(s, p)),
+                located: Ok(place(s, p)),
                 known: block,
             }
         }
@@ -273,24 +263,24 @@ fn locate_near_at(s: &[u8], t: Opened, v: Visit) -> Near
 
 // Over an opened image, which it takes apart.
 pub fn locate_near<'a>(image: Image<'a>, v: Visit) -> Near
-    requires { (opening image.bytes.now ≡ accepted (held image)) × Known image.bytes.now v.known.0 }
-    ensures { (located result.located ≡ locate image.entry.bytes.now v.address.0) × Known image.entry.bytes.now result.known.0 }
+    requires { (opening image.bytes.now ≡ Ok (held image)) × Known image.bytes.now v.known.0 }
+    ensures { (result.located ≡ locate image.entry.bytes.now v.address.0) × Known image.entry.bytes.now result.known.0 }
 {
     locate_near_at(opening::bytes(image), opening::numbers(image), v)
 }
 
 // Makes the opened image and hands it on.
 pub fn locate_near_of(s: &[u8], t: Opened, v: Visit) -> Near
-    requires { (opening s.now ≡ accepted (contents t)) × Known s.now v.known.0 }
-    ensures { (located result.located ≡ locate s.now v.address.0) × Known s.now result.known.0 }
+    requires { (opening s.now ≡ Ok (contents t)) × Known s.now v.known.0 }
+    ensures { (result.located ≡ locate s.now v.address.0) × Known s.now result.known.0 }
 {
     locate_near(opening::view(s, t), v)
 }
 
 // Where the sector at address a of the image that opened as t lies.
-fn locate_at(s: &[u8], t: Opened, a: SectorAddress) -> Located
-    requires { opening s.now ≡ accepted (contents t) }
-    ensures { located result ≡ locate s.now a.0 }
+fn locate_at(s: &[u8], t: Opened, a: SectorAddress) -> Result<Place, Refusal>
+    requires { opening s.now ≡ Ok (contents t) }
+    ensures { result ≡ locate s.now a.0 }
 {
     let near = locate_near_at(
         s,
@@ -304,41 +294,38 @@ fn locate_at(s: &[u8], t: Opened, a: SectorAddress) -> Located
 }
 
 // Over an opened image, which it takes apart.
-pub fn locate<'a>(image: Image<'a>, a: SectorAddress) -> Located
-    requires { opening image.bytes.now ≡ accepted (held image) }
-    ensures { located result ≡ locate image.entry.bytes.now a.0 }
+pub fn locate<'a>(image: Image<'a>, a: SectorAddress) -> Result<Place, Refusal>
+    requires { opening image.bytes.now ≡ Ok (held image) }
+    ensures { result ≡ locate image.entry.bytes.now a.0 }
 {
     locate_at(opening::bytes(image), opening::numbers(image), a)
 }
 
 // Makes the opened image and hands it on.
-pub fn locate_of(s: &[u8], t: Opened, a: SectorAddress) -> Located
-    requires { opening s.now ≡ accepted (contents t) }
-    ensures { located result ≡ locate s.now a.0 }
+pub fn locate_of(s: &[u8], t: Opened, a: SectorAddress) -> Result<Place, Refusal>
+    requires { opening s.now ≡ Ok (contents t) }
+    ensures { result ≡ locate s.now a.0 }
 {
     locate(opening::view(s, t), a)
 }
 
 // The same of an image that is not opened yet: opening's numbers come first.
-pub fn locate_in(image: &[u8], a: SectorAddress) -> Located
-    ensures { located result ≡ locate image.now a.0 }
+pub fn locate_in(image: &[u8], a: SectorAddress) -> Result<Place, Refusal>
+    ensures { result ≡ locate image.now a.0 }
 {
-    let opened = opening::open(image);
-    match opened {
-        Opening::Refused(r) => Located::Refused(r),
-        Opening::Opens(t) => locate_of(image, t, a),
-    }
+    let t = opening::open(image)?;
+    locate_of(image, t, a)
 }
 
 // The sector at address a of the image that opened as t: the part that `locate_at` names, and the empty part exactly where it refuses.
 fn read_at<'a>(s: &'a [u8], t: Opened, a: SectorAddress) -> &'a [u8]
-    requires { opening s.now ≡ accepted (contents t) }
+    requires { opening s.now ≡ Ok (contents t) }
     ensures { result.now ≡ bytes_read (read s.now a.0) }
 {
     let l = locate_at(s, t, a);
     match l {
-        Located::Refused(_) => part(s, 0, 0),
-        Located::At(p) => {
+        Err(_) => part(s, 0, 0),
+        Ok(p) => {
             let start = p.start;
             part(s, start.0, p.size)
         }
@@ -347,7 +334,7 @@ fn read_at<'a>(s: &'a [u8], t: Opened, a: SectorAddress) -> &'a [u8]
 
 // Over an opened image, which it takes apart; the answer is a part of the lent bytes.
 pub fn read<'a>(image: Image<'a>, a: SectorAddress) -> &'a [u8]
-    requires { opening image.bytes.now ≡ accepted (held image) }
+    requires { opening image.bytes.now ≡ Ok (held image) }
     ensures { result.now ≡ bytes_read (read image.entry.bytes.now a.0) }
 {
     read_at(opening::bytes(image), opening::numbers(image), a)
@@ -355,7 +342,7 @@ pub fn read<'a>(image: Image<'a>, a: SectorAddress) -> &'a [u8]
 
 // Makes the opened image and hands it on.
 pub fn read_of<'a>(s: &'a [u8], t: Opened, a: SectorAddress) -> &'a [u8]
-    requires { opening s.now ≡ accepted (contents t) }
+    requires { opening s.now ≡ Ok (contents t) }
     ensures { result.now ≡ bytes_read (read s.now a.0) }
 {
     read(opening::view(s, t), a)

@@ -10,12 +10,12 @@ use native.Mathlib.Numerals.{add-one}
 use native.Mathlib.Omega.{arith}
 use lib.ListN.{length, take, drop, length-append}
 use lib.Seq.{length-take-le}
+use Rattle.std.specs.Prelude.{Ok}
 use Rattle.fields.specs.Bytes.{part, overwrite}
 use Rattle.format.specs.declared.ItemNumber.{ItemNumber}
 use Rattle.format.specs.declared.Pointer.{Pointer}
 use Rattle.format.specs.declared.EntryNumber.{EntryNumber}
 use Rattle.format.specs.Layouts.{block_header_length, encode}
-use Rattle.format.specs.Refusals.{accepted}
 use Rattle.format.specs.Opening.{Opened, opening}
 use Rattle.format.specs.Reading.{not_written, pointer_at}
 use Rattle.format.specs.Writing.{longest_buffer}
@@ -168,7 +168,7 @@ module _ (buf : List ℕ) (used : ℕ) (t : Opened) (sector : List ℕ) (n : ℕ
     unfolding entry_found
     at_address = on-disc r es e ∙ ap entry_found q
 
-    pub readable : (opening s' ≡ accepted t) × (a.0 < t.count)
+    pub readable : (opening s' ≡ Ok t) × (a.0 < t.count)
     unfolding part
     readable = (rw es' k.0, (on_disc-found img t sector a.0 at_address).inside)
 

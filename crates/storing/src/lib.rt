@@ -52,7 +52,7 @@ pub fn store_among(buf: &mut [u8], block: ByteOffset, sector: &[u8], stored: u64
 {
     let start = block.0 + 36;
     let found = search::among(buf, ByteOffset(start), stored, sector);
-    if let Item::Is(item) = found {
+    if let Some(item) = found {
         return Handed {
             pointer: Pointer { block, item },
             stored,
@@ -73,7 +73,7 @@ fn store(buf: &mut [u8], used: u64, t: Opened, sector: &[u8], stored: u64) -> Ha
     ensures { Stepped buf.old buf.new used (step_in buf.old used (contents t) sector.now stored) result }
 {
     let old = search::on_disc_at(part(buf, 0, used), t, sector);
-    if let TableEntry::Is(a) = old {
+    if let Some(a) = old {
         return Handed {
             pointer: opening::pointer_at(part(buf, 0, used), t, a),
             stored,

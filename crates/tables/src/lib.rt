@@ -97,36 +97,36 @@ pub fn negative_at(s: &[u8], kind: TableKind, t: ByteOffset) -> u16
 }
 
 // The table of the second kind at t: checks 70 to 72.
-fn second_verdict(s: &[u8], t: ByteOffset) -> Verdict
+fn second_verdict(s: &[u8], t: ByteOffset) -> Result<(), Refusal>
     requires { t.0 + 82 ≤ length s.now }
     ensures { result ≡ extent_verdict s.now Second t.0 }
 {
     let place = ByteOffset(0);
     let table = t.0;
     if get(s, table + 8, 1) != 1 {
-        return Verdict::Refuses(Refusal { number: 70, place });
+        return Err(Refusal { number: 70, place });
     }
     if get(s, table + 41, 1) != 0 {
-        return Verdict::Refuses(Refusal { number: 71, place });
+        return Err(Refusal { number: 71, place });
     }
     let blocks = get(s, table + 20, 8);
     let negative = get(s, table + 18, 2);
     if blocks < negative {
-        return Verdict::Refuses(Refusal { number: 72, place });
+        return Err(Refusal { number: 72, place });
     }
     if blocks - negative < get(s, table + 28, 2) {
-        return Verdict::Refuses(Refusal { number: 72, place });
+        return Err(Refusal { number: 72, place });
     }
-    Verdict::Passes
+    Ok(())
 }
 
 // The table at t, of either kind: checks 70 to 72.
-fn extent_verdict(s: &[u8], kind: TableKind, t: ByteOffset) -> Verdict
+fn extent_verdict(s: &[u8], kind: TableKind, t: ByteOffset) -> Result<(), Refusal>
     requires { t.0 + table_header_length_of kind ≤ length s.now }
     ensures { result ≡ extent_verdict s.now kind t.0 }
 {
     match kind {
-        TableKind::First => Verdict::Passes,
+        TableKind::First => Ok(()),
         TableKind::Second => second_verdict(s, t),
     }
 }
@@ -169,7 +169,7 @@ fn table_malformed(s: &[u8], kind: TableKind, t: ByteOffset) -> bool
 }
 
 // The payload of the table at t, whose header passed: checks 11 and 14. One pass over its entries for the checksum.
-fn payload_verdict(s: &[u8], kind: TableKind, t: ByteOffset) -> Verdict
+fn payload_verdict(s: &[u8], kind: TableKind, t: ByteOffset) -> Result<(), Refusal>
     requires { t.0 + table_header_length_of kind ≤ length s.now }
     ensures { result ≡ payload_verdict s.now kind t.0 }
 {
@@ -178,37 +178,34 @@ fn payload_verdict(s: &[u8], kind: TableKind, t: ByteOffset) -> Verdict
     let table = t.0;
     let length = get(s, table + (l.entries + 16), 8);
     if room(s, table + l.header) < length {
-        return Verdict::Refuses(Refusal { number: 11, place });
+        return Err(Refusal { number: 11, place });
     }
     if sums_differ(
         part(s, table + l.header, length),
         get(s, table + (l.entries + 24), 8),
         get(s, table + (l.entries + 32), 8),
     ) {
-        return Verdict::Refuses(Refusal { number: 14, place });
+        return Err(Refusal { number: 14, place });
     }
-    Verdict::Passes
+    Ok(())
 }
 
 // The table at t: checks 11 to 14, 70 to 72.
-pub fn table_verdict(s: &[u8], kind: TableKind, t: ByteOffset) -> Verdict
+pub fn table_verdict(s: &[u8], kind: TableKind, t: ByteOffset) -> Result<(), Refusal>
     ensures { result ≡ table_verdict s.now kind t.0 }
 {
     let l = layout_of(kind);
     let place = t;
     let table = t.0;
     if room(s, table) < l.header {
-        return Verdict::Refuses(Refusal { number: 11, place });
+        return Err(Refusal { number: 11, place });
     }
     if get(s, table + 6, 2) != 0 {
-        return Verdict::Refuses(Refusal { number: 13, place });
+        return Err(Refusal { number: 13, place });
     }
-    let v = extent_verdict(s, kind, t);
-    if let Verdict::Refuses(r) = v {
-        return Verdict::Refuses(r);
-    }
+    extent_verdict(s, kind, t)?;
     if table_malformed(s, kind, t) {
-        return Verdict::Refuses(Refusal { number: 12, place });
+        return Err(Refusal { number: 12, place });
     }
     payload_verdict(s, kind, t)
 }

@@ -1,10 +1,10 @@
 -- 4/13: a flat file of three sectors, imported and exported again, and the worked disc exported, by 4/13's rule; worked out by hand, as a table of tests about
 -- the definitions. proofs/FlatDisc proves that all hold.
-use Rattle.std.specs.Prelude.{Bool, false, List, [], ◌∷◌, ◌++◌, ℕ, take, replicate, pos}
+use Rattle.std.specs.Prelude.{Bool, false, List, [], ◌∷◌, ◌++◌, ℕ, take, replicate, pos, Ok, Err}
 use Rattle.fields.specs.Bytes.{field, equal}
 use Rattle.format.specs.declared.Placed.{Placed}
 use Rattle.format.specs.Tests.{same}
-use Rattle.format.specs.Refusals.{Answer, refused, accepted}
+use Rattle.format.specs.Refusals.{Answer}
 use Rattle.format.specs.Writing.{Outcome}
 use Rattle.format.specs.Creating.{create}
 use Rattle.format.specs.Committing.{commit}
@@ -14,8 +14,8 @@ use Rattle.worked_disc.specs.WorkedDisc.{leaves, refused_with, has_table, AAAA, 
 
 -- accepted with so many bytes
 unfoldable pub exports : ℕ → Answer ℕ → Bool
-exports n (refused r) = false
-exports n (accepted length) = same length n
+exports n (Err r) = false
+exports n (Ok length) = same length n
 
 abbrev pub file : List ℕ
 file = AAAA ++ (BBBB ++ AAAA)

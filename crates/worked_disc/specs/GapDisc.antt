@@ -1,10 +1,10 @@
 -- 9/13: discs with gaps, of both kinds of table, exported by both rules; worked out by hand, as a table of tests about the definitions. proofs/GapDisc proves that
 -- all hold.
-use Rattle.std.specs.Prelude.{Bool, false, List, [], ◌∷◌, ◌++◌, ℕ, ◌+◌, ◌*◌, length, replicate}
+use Rattle.std.specs.Prelude.{Bool, false, List, [], ◌∷◌, ◌++◌, ℕ, ◌+◌, ◌*◌, length, replicate, Ok, Err}
 use Rattle.fields.specs.Bytes.{to_le, overwrite, equal}
 use Rattle.format.specs.declared.Flat.{Flat}
 use Rattle.format.specs.Tests.{same, ◌and◌}
-use Rattle.format.specs.Refusals.{Answer, refused, accepted}
+use Rattle.format.specs.Refusals.{Answer}
 use Rattle.format.specs.Layouts.{DBLK, DDT*, DDT2, header_bytes, user_data_entry, index_bytes, block_bytes, table_bytes}
 use Rattle.format.specs.Exporting.{export_exact, export}
 use Rattle.worked_disc.specs.WorkedDisc.{refused_with, AAAA, BBBB}
@@ -13,8 +13,8 @@ use Rattle.worked_disc.specs.FlatDisc.{exports}
 
 -- accepted with so many bytes and so many filled
 unfoldable pub fills : ℕ → ℕ → Answer Flat → Bool
-fills length filled (refused r) = false
-fills length filled (accepted n) = same n.length length and same n.filled filled
+fills length filled (Err r) = false
+fills length filled (Ok n) = same n.length length and same n.filled filled
 
 -- into a buffer of two bytes more than the file: it is this one, and so many are filled; later bytes stay
 unfoldable pub exports_as : List ℕ → List ℕ → ℕ → Bool

@@ -1,11 +1,11 @@
 -- 8/13: discs over parents, of both kinds of table, read and flattened; worked out by hand, as a table of tests about the definitions. proofs/PairDisc proves that
 -- all hold.
-use Rattle.std.specs.Prelude.{Bool, false, List, [], ◌∷◌, ◌++◌, ℕ, length, take, replicate, ℤ, pos, negsuc}
+use Rattle.std.specs.Prelude.{Bool, false, List, [], ◌∷◌, ◌++◌, ℕ, length, take, replicate, ℤ, pos, negsuc, Ok, Err}
 use Rattle.fields.specs.Bytes.{to_le, field, overwrite, equal}
 use Rattle.format.specs.declared.Placed.{Placed}
 use Rattle.format.specs.declared.Sourced.{Sourced}
 use Rattle.format.specs.Tests.{same, ◌and◌}
-use Rattle.format.specs.Refusals.{Answer, refused, accepted}
+use Rattle.format.specs.Refusals.{Answer}
 use Rattle.format.specs.Writing.{Outcome}
 use Rattle.format.specs.Overlaying.{read_over, locate_over, source_over}
 use Rattle.format.specs.Flattening.{flatten}
@@ -15,8 +15,8 @@ use Rattle.worked_disc.specs.GapDisc.{gap_image, three, second_three}
 
 -- located in this image at this place, of this size
 unfoldable pub lies_in : ℕ → ℕ → ℕ → Answer Sourced → Bool
-lies_in image start size (refused r) = false
-lies_in image start size (accepted s) = same s.image image and same s.place.start.0 start and same s.place.size size
+lies_in image start size (Err r) = false
+lies_in image start size (Ok s) = same s.image image and same s.place.start.0 start and same s.place.size size
 
 -- read as these bytes, which are that part of that image
 unfoldable pub reads_from : ℕ → ℕ → List ℕ → List ℕ → List ℕ → ℤ → Bool

@@ -1,11 +1,11 @@
 -- 11/13: a disc with a table of the second kind, worked out by hand, as a table of tests about the definitions. proofs/SecondDisc proves that all hold.
-use Rattle.std.specs.Prelude.{Bool, false, List, [], ◌∷◌, ◌++◌, ℕ, suc, ◌+◌, ◌/◌, length, replicate, ℤ, pos, negsuc}
+use Rattle.std.specs.Prelude.{Bool, false, List, [], ◌∷◌, ◌++◌, ℕ, suc, ◌+◌, ◌/◌, length, replicate, ℤ, pos, negsuc, Ok, Err}
 use Rattle.crc64.specs.Crc.{crc_of}
 use Rattle.fields.specs.Bytes.{to_le, overwrite}
 use Rattle.fields.specs.Layout.{num, raw, layout}
 use Rattle.format.specs.declared.AddressRange.{AddressRange}
 use Rattle.format.specs.Tests.{same, ◌and◌}
-use Rattle.format.specs.Refusals.{Answer, refused, accepted}
+use Rattle.format.specs.Refusals.{Answer}
 use Rattle.format.specs.Layouts.{DBLK, DDT*, DDT2, header_bytes, user_data_entry, index_bytes, block_bytes}
 use Rattle.format.specs.Opening.{Opened, opening, sector_count}
 use Rattle.format.specs.Reading.{read, locate}
@@ -19,8 +19,8 @@ is_minus n (negsuc m) = same n (suc m)
 
 -- accepted with so many addresses, the lowest of them minus `low`
 unfoldable pub ranges : ℕ → ℕ → Answer AddressRange → Bool
-ranges count low (refused r) = false
-ranges count low (accepted s) = same s.count count and is_minus low s.lowest.0
+ranges count low (Err r) = false
+ranges count low (Ok s) = same s.count count and is_minus low s.lowest.0
 
 -- A block of two items, "AAAA" and "BBBB", at 104; the table at 148, the index at 250; used 302. Its lowest address is -1, its alignment 2, its dataShift 1: the
 -- pointer 26 x 2 + i, 0x34 + i, is item i of the block at 26 x 4.

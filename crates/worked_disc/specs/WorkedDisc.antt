@@ -1,11 +1,11 @@
 -- "A small disc, worked out": P1 to P12, with the numbers of 2/13, as one table of tests. proofs/WorkedDisc proves that all hold.
-use Rattle.std.specs.Prelude.{Bool, false, List, [], ◌∷◌, ◌++◌, map, ℕ, length, take, replicate, pos}
+use Rattle.std.specs.Prelude.{Bool, false, List, [], ◌∷◌, ◌++◌, map, ℕ, length, take, replicate, pos, Ok, Err}
 use Rattle.crc64.specs.Crc.{crc_of}
 use Rattle.fields.specs.Bytes.{part, field, to_le, overwrite, equal}
 use Rattle.format.specs.declared.Place.{Place}
 use Rattle.format.specs.declared.Placed.{Placed}
 use Rattle.format.specs.Tests.{same, ◌and◌}
-use Rattle.format.specs.Refusals.{Answer, refused, accepted}
+use Rattle.format.specs.Refusals.{Answer}
 use Rattle.format.specs.Layouts.{ascii, DBLK, DDT*, index_offset, header_bytes, user_data_entry, index_bytes, block_bytes, table_bytes, decode}
 use Rattle.format.specs.Opening.{opening, opened}
 use Rattle.format.specs.Reading.{table_entry, read, locate}
@@ -16,23 +16,23 @@ use Rattle.format.specs.Examples.{p1_header}
 
 -- accepted, with this `used` and this index offset
 unfoldable pub leaves : ℕ → ℕ → Answer Placed → Bool
-leaves used index (refused r) = false
-leaves used index (accepted p) = same p.used used and same p.index.0 index
+leaves used index (Err r) = false
+leaves used index (Ok p) = same p.used used and same p.index.0 index
 
 -- refused with this number at this place
 unfoldable pub refused_with : {A : Type 0} → ℕ → ℕ → Answer A → Bool
-refused_with n place (refused r) = same r.number n and same r.place.0 place
-refused_with n place (accepted a) = false
+refused_with n place (Err r) = same r.number n and same r.place.0 place
+refused_with n place (Ok a) = false
 
 -- accepted with these bytes
 unfoldable pub gives : List ℕ → Answer (List ℕ) → Bool
-gives bytes (refused r) = false
-gives bytes (accepted l) = equal l bytes
+gives bytes (Err r) = false
+gives bytes (Ok l) = equal l bytes
 
 -- accepted with this place and size
 unfoldable pub lies_at : ℕ → ℕ → Answer Place → Bool
-lies_at start size (refused r) = false
-lies_at start size (accepted p) = same p.start.0 start and same p.size size
+lies_at start size (Err r) = false
+lies_at start size (Ok p) = same p.start.0 start and same p.size size
 
 -- the image's table has this place, this shift and these three entries
 unfoldable pub has_table : List ℕ → ℕ → ℕ → List ℕ → Bool

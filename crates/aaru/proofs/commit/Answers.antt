@@ -1,8 +1,8 @@
 -- `aaru::commit` meets its contract. Assumes nothing.
 use native.Mathlib.Omega.{arith}
 use mathlib.Core.Path.{◌≡◌, sym, ap, ◌∙◌}
+use Rattle.std.specs.Prelude.{Ok}
 use Rattle.fields.specs.Bytes.{part}
-use Rattle.format.specs.declared.Verdict.TheVariants.{Passes}
 use Rattle.format.specs.Opening.{opening}
 use Rattle.format.specs.Writing.{writable_verdict}
 use Rattle.format.specs.Committing.{arguments_verdict, disc_verdict, commit_verdict, append, commit}
@@ -15,7 +15,7 @@ use Rattle.opening.specs.Answers.{outcome}
 use Rattle.aaru.proofs.commit.Goals as goal
 use Rattle.aaru.proofs.commit.Goals.{In_default}
 
-passes : (c : In_default) → let a = c.args in Passes ≡ arguments_verdict a.buffer.now a.used a.addresses.now a.size a.sectors.now
+passes : (c : In_default) → let a = c.args in Ok tt ≡ arguments_verdict a.buffer.now a.used a.addresses.now a.size a.sectors.now
 passes c = by c.in_default.is c.commit_verdict-v.ensures
 
 pub returns-in-Refuses : goal.returns-in-Refuses

@@ -2,8 +2,8 @@
 use native.Mathlib.Omega.{arith}
 use mathlib.Core.Path.{◌≡◌, refl, sym}
 use lib.ListN.{take, length-take}
+use Rattle.std.specs.Prelude.{Ok}
 use Rattle.fields.specs.Bytes.{part}
-use Rattle.format.specs.declared.Verdict.TheVariants.{Passes}
 use Rattle.format.specs.Writing.{buffer_verdict, writable_verdict}
 use Rattle.format.specs.RollingBack.{rollback_verdict, rollback}
 use Rattle.format.specs.Answers.{updated}
@@ -13,10 +13,10 @@ use Rattle.format.proofs.Answers.{outcome-stops, outcome-done}
 use Rattle.aaru.proofs.rollback.Goals as goal
 use Rattle.aaru.proofs.rollback.Goals.{In_default, In_default-w}
 
-buffer-passes : (c : In_default) → let a = c.args in Passes ≡ buffer_verdict a.buffer.now a.used
+buffer-passes : (c : In_default) → let a = c.args in Ok tt ≡ buffer_verdict a.buffer.now a.used
 buffer-passes c = by c.in_default.is c.buffer_verdict-v.ensures
 
-image-passes : (c : In_default-w) → let a = c.args in Passes ≡ writable_verdict (take a.used a.buffer.now) a.offset.0
+image-passes : (c : In_default-w) → let a = c.args in Ok tt ≡ writable_verdict (take a.used a.buffer.now) a.offset.0
 unfolding part
 image-passes c = rw c.part.ensures at (by c.in_default-w.is c.writable_verdict-w.ensures)
 

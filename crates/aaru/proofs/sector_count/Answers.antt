@@ -1,6 +1,6 @@
 -- `aaru::sector_count` meets its contract. Assumes nothing.
 use mathlib.Core.Path.{sym, ap, ◌∙◌}
-use Rattle.format.specs.Refusals.{accepted}
+use Rattle.std.specs.Prelude.{Ok}
 use Rattle.format.specs.Answers.{counted}
 use Rattle.format.proofs.Answers.{count-refused, count-opened}
 use Rattle.opening.specs.Answers.{outcome}
@@ -13,5 +13,5 @@ returns-in-Refused c = count-refused _ _ (ap outcome (sym c.in-Refused.is) ∙ c
 pub returns-in-Opens : goal.returns-in-Opens
 unfolding counted outcome
 returns-in-Opens c =
-    ap accepted c.range.ensures.0
+    ap Ok c.range.ensures.0
     ∙ count-opened _ _ (ap outcome (sym c.in-Opens.is) ∙ c.open-opened.ensures)

@@ -6,7 +6,7 @@ use mathlib.Core.Logic.{◌≢◌}
 use mathlib.Core.Path.{◌≡◌, ap}
 use Prim.Native.Nat.{◌≤◌}
 use lib.ListN.{length}
-use Rattle.format.specs.declared.Verdict.TheVariants.{Passes}
+use Rattle.std.specs.Prelude.{Ok}
 use Rattle.format.specs.Writing.{largest_size, most_addresses, buffer_verdict}
 use Rattle.format.specs.Committing.{arguments_verdict}
 use Rattle.format.proofs.Tests.{below-iff, same-iff, differs_true, differs-iff, or-iff, not_iff}
@@ -15,7 +15,7 @@ use Rattle.arguments.proofs.commit_verdict.Goals as goal
 use Rattle.arguments.proofs.commit_verdict.Goals.{Else-size_refused, In_default}
 
 -- what is known once the buffer has passed
-passes : (c : In_default) → Passes ≡ buffer_verdict c.args.buffer.now c.args.used
+passes : (c : In_default) → Ok tt ≡ buffer_verdict c.args.buffer.now c.args.used
 passes c = by c.in_default.is c.buffer_verdict-v.ensures
 
 -- and once check 30 has

@@ -1,6 +1,6 @@
 -- `flat::export_at` meets its contract. Assumes nothing.
 use mathlib.Core.Path.{◌≡◌, sym, ◌∙◌}
-use Rattle.format.specs.declared.Verdict.TheVariants.{Passes}
+use Rattle.std.specs.Prelude.{Ok}
 use Rattle.format.specs.Tests.{same, differs, ◌and◌}
 use Rattle.format.specs.Refusals.{refusal}
 use Rattle.format.specs.Layouts.{index_offset, entries}
@@ -17,7 +17,7 @@ use Rattle.flat.proofs.export_at.Goals.{After-is_blank, In_default}
 -- the sectors pass, but for 21
 sectors : (c : In_default)
     → let a = c.args in
-    Passes ≡ sectors_verdict a.s.now (entries a.s.now (index_offset a.s.now)) (contents a.t)
+    Ok tt ≡ sectors_verdict a.s.now (entries a.s.now (index_offset a.s.now)) (contents a.t)
 sectors c = by c.in_default.is c.sectors_verdict-v.ensures
 
 -- what the test of 21 asks

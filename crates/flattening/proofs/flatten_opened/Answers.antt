@@ -3,7 +3,7 @@ use native.Mathlib.Omega.{arith}
 use mathlib.Core.List.{List}
 use mathlib.Core.Path.{◌≡◌, sym, ap, ◌∙◌}
 use lib.ListN.{length}
-use Rattle.format.specs.declared.Verdict.TheVariants.{Passes}
+use Rattle.std.specs.Prelude.{Ok}
 use Rattle.format.specs.Answers.{updated}
 use Rattle.format.specs.Flattening.{Written, flatten_verdict}
 use Rattle.format.proofs.Chains.{stops, goes, by}
@@ -48,7 +48,7 @@ returns-in-Refuses-w c =
 -- all checks but 35 have
 checked : (c : In_default-w)
     → (let a = c.args in
-    flatten_verdict a.buffer.now a.child.now a.parent.now a.application.now ≡ Passes)
+    flatten_verdict a.buffer.now a.child.now a.parent.now a.application.now ≡ Ok tt)
 checked c =
     rest-is _ _ _ _ c.requires.2 _ c.requires.0 c.requires.1 ∙ sym (goes (by c.in_default.is c.pair_verdict-v.ensures) (by c.in_default-w.is c.sizes_verdict-w.ensures))
 

@@ -1,7 +1,7 @@
 -- `listing::image_text` meets its contract. Assumes nothing.
 use mathlib.Core.Path.{◌≡◌, sym, ap, ◌∙◌}
 use native.Mathlib.Omega.{arith}
-use Rattle.format.specs.Refusals.{accepted}
+use Rattle.std.specs.Prelude.{Ok}
 use Rattle.format.specs.Opening.{opening, range_of}
 use Rattle.format.specs.Answers.{counted}
 use Rattle.format.proofs.Answers.{count-refused, count-opened}
@@ -11,7 +11,7 @@ use Rattle.listing.proofs.Pieces.{image-opens, image-refused}
 use Rattle.listing.proofs.image_text.Goals as goal
 use Rattle.listing.proofs.image_text.Goals.{In-Opens}
 
-opens : (c : In-Opens) → accepted (contents c.in-Opens.t) ≡ opening c.args.image.now
+opens : (c : In-Opens) → Ok (contents c.in-Opens.t) ≡ opening c.args.image.now
 unfolding outcome
 opens c = ap outcome (sym c.in-Opens.is) ∙ c.open-opened.ensures
 

@@ -1,7 +1,7 @@
 -- `opening::open` meets its contract. Assumes nothing.
 use native.Mathlib.Omega.{arith}
 use mathlib.Core.Path.{◌≡◌, sym}
-use Rattle.format.specs.declared.Verdict.TheVariants.{Passes}
+use Rattle.std.specs.Prelude.{Ok}
 use Rattle.format.specs.Layouts.{index_offset}
 use Rattle.format.specs.Opening.{header_verdict, open_verdict, opening}
 use Rattle.format.proofs.Checks.{header_ok}
@@ -10,7 +10,7 @@ use Rattle.opening.specs.Answers.{outcome}
 use Rattle.opening.proofs.open.Goals as goal
 use Rattle.opening.proofs.open.Goals.{In_default}
 
-passes : (c : In_default) → header_verdict c.args.s.now ≡ Passes
+passes : (c : In_default) → header_verdict c.args.s.now ≡ Ok tt
 passes c = sym (by c.in_default.is c.header_verdict-v.ensures)
 
 pub returns-in-Refuses : goal.returns-in-Refuses

@@ -1,6 +1,6 @@
 -- `opening::open_index` meets its contract. Assumes nothing.
 use mathlib.Core.Path.{◌≡◌, sym, ap, ◌∙◌}
-use Rattle.format.specs.declared.Verdict.TheVariants.{Passes}
+use Rattle.std.specs.Prelude.{Ok}
 use Rattle.format.specs.Facts.{IndexOk}
 use Rattle.format.specs.Opening.{index_verdict, open_verdict, opened}
 use Rattle.format.proofs.Refusals.{answer-accepted, answer-refused}
@@ -13,7 +13,7 @@ use Rattle.opening.proofs.open_index.Goals as goal
 use Rattle.opening.proofs.open_index.Goals.{In_default}
 
 -- what is known once the index has passed
-index-passes : (c : In_default) → Passes ≡ index_verdict c.args.s.now c.args.o.0
+index-passes : (c : In_default) → Ok tt ≡ index_verdict c.args.s.now c.args.o.0
 index-passes c = by c.in_default.is c.index_verdict-v.ensures
 
 ok : (c : In_default) → IndexOk c.args.s.now c.args.o.0

@@ -1,8 +1,8 @@
 -- `overlay::read_over` meets its contract. Assumes nothing.
 use native.Mathlib.Omega.{arith}
 use mathlib.Core.Path.{◌≡◌, sym, ap, ◌∙◌}
+use Rattle.std.specs.Prelude.{Ok}
 use Rattle.fields.specs.Bytes.{part}
-use Rattle.format.specs.Refusals.{accepted}
 use Rattle.format.specs.Answers.{located_over}
 use Rattle.format.specs.Overlaying.{locate_over}
 use Rattle.overlay.proofs.Pair.{reads_none, of-child, of-parent}
@@ -10,7 +10,7 @@ use Rattle.overlay.proofs.read_over.Goals as goal
 use Rattle.overlay.proofs.read_over.Goals.{In-In}
 
 found : (c : In-In)
-    → (let s = c.args in accepted c.in-In.s ≡ locate_over s.child.now s.parent.now s.a.0)
+    → (let s = c.args in Ok c.in-In.s ≡ locate_over s.child.now s.parent.now s.a.0)
 unfolding located_over
 found c = ap located_over (sym c.in-In.is) ∙ c.locate_over-l.ensures
 

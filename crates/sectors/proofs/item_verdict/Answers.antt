@@ -1,8 +1,8 @@
 -- `sectors::item_verdict` meets its contract. Assumes nothing.
 use native.Mathlib.Omega.{arith}
 use mathlib.Core.Path.{◌≡◌, sym}
+use Rattle.std.specs.Prelude.{Ok}
 use Rattle.crc64.specs.Crc.{crc_of}
-use Rattle.format.specs.declared.Verdict.TheVariants.{Passes}
 use Rattle.format.specs.Facts.{BlockOk}
 use Rattle.format.specs.Layouts.{block_payload, block_cmp_crc64, block_crc64}
 use Rattle.format.specs.Opening.{sums_differ}
@@ -13,7 +13,7 @@ use Rattle.sectors.proofs.item_verdict.Goals as goal
 use Rattle.sectors.proofs.item_verdict.Goals.{After-sums_differ, In_default}
 
 -- what is known once each call has answered
-passes : (c : In_default) → Passes ≡ block_verdict c.args.s.now c.args.p.block.0
+passes : (c : In_default) → Ok tt ≡ block_verdict c.args.s.now c.args.p.block.0
 passes c = by c.in_default.is c.block_verdict-v.ensures
 
 ok : (c : In_default) → BlockOk c.args.s.now c.args.p.block.0

@@ -1,6 +1,7 @@
 -- `sectors::locate_near_at` meets its contract. Assumes nothing.
 use mathlib.Core.Path.{◌≡◌, sym, ap, ◌∙◌}
-use Rattle.format.specs.Refusals.{accepted, answer}
+use Rattle.std.specs.Prelude.{Ok}
+use Rattle.format.specs.Refusals.{answer}
 use Rattle.format.specs.Layouts.{index_offset, entries}
 use Rattle.format.specs.Reading.{address_verdict, pointer_of}
 use Rattle.format.specs.Answers.{located}
@@ -14,7 +15,7 @@ given : (c : In-At)
     → let s = c.args.s.now in
     let t = contents c.args.t in
     let a = c.args.v.address.0 in
-    accepted c.in-At.p ≡ answer (address_verdict s (entries s (index_offset s)) t a) (pointer_of s t a)
+    Ok c.in-At.p ≡ answer (address_verdict s (entries s (index_offset s)) t a) (pointer_of s t a)
 unfolding found
 given c = ap found (sym c.in-At.is) ∙ c.find_address-f.ensures
 
@@ -32,6 +33,6 @@ pub returns-in-At : goal.returns-in-At
 unfolding located
 returns-in-At c =
     let g = given (goal.at.returns-in-At c).In-At in (
-      ap accepted c.place.ensures ∙ locate-found _ _ c.requires.0 _ _ g,
+      ap Ok c.place.ensures ∙ locate-found _ _ c.requires.0 _ _ g,
       found-known _ _ c.requires.0 _ _ g,
     )

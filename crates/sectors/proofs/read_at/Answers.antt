@@ -1,7 +1,7 @@
 -- `sectors::read_at` meets its contract. Assumes nothing.
 use mathlib.Core.Path.{◌≡◌, sym, ap, ◌∙◌}
+use Rattle.std.specs.Prelude.{Ok}
 use Rattle.fields.specs.Bytes.{part}
-use Rattle.format.specs.Refusals.{accepted}
 use Rattle.format.specs.Reading.{locate}
 use Rattle.format.specs.Answers.{located}
 use Rattle.format.specs.Demands.{part_at}
@@ -9,7 +9,7 @@ use Rattle.format.proofs.Reading.{read-is-located, located-inside}
 use Rattle.sectors.proofs.read_at.Goals as goal
 use Rattle.sectors.proofs.read_at.Goals.{In-At}
 
-given : (c : In-At) → accepted c.in-At.p ≡ locate c.args.s.now c.args.a.0
+given : (c : In-At) → Ok c.in-At.p ≡ locate c.args.s.now c.args.a.0
 unfolding located
 given c = ap located (sym c.in-At.is) ∙ c.locate_at-l.ensures
 
