@@ -10,10 +10,8 @@ ghost use Rattle.format.specs.Committing.{commit};
 ghost use Rattle.format.specs.RollingBack.{rollback};
 ghost use Rattle.format.specs.Answers.{bytes_read, answered};
 
-pub use format::{
-    AddressRange, ByteOffset, Counted, Located, Place, Placed, Refusal, SectorAddress, Updated,
-};
-use format::{CREATED_ENTRIES, Verdict};
+pub use format::{AddressRange, ByteOffset, Place, Placed, Refusal, SectorAddress};
+use format::CREATED_ENTRIES;
 use opening::Result<Opened, Refusal>;
 
 // How many sectors the image has and which address is the lowest, or why it does not open: 1 to 14, 70 to 72.

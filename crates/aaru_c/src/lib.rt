@@ -17,8 +17,7 @@ ghost use Rattle.format.specs.Flattening.{flatten};
 ghost use Rattle.format.specs.Writing.{placed};
 ghost use Rattle.aaru_c.specs.Returned.{returned, count_and_lowest, start_and_size, which_start_and_size, left};
 
-use aaru::{ByteOffset, Counted, Located, Refusal, SectorAddress, Updated};
-use flat::{Exported, ExportedExact};
+use aaru::{ByteOffset, Refusal, SectorAddress};
 use overlay::Result<Sourced, Refusal>;
 
 // What a refused call returns, and sets.

@@ -19,7 +19,7 @@ ghost use Rattle.format.specs.Facts.{block_length_for, block_entry};
 ghost use Rattle.appending.specs.Appends.{Passed, layout_for, Data, Fits};
 
 use fields::{get, part};
-use format::{ByteOffset, INDEX_OFFSET, Placed, Refusal, Updated, Verdict};
+use format::{ByteOffset, INDEX_OFFSET, Placed, Refusal};
 use opening::Opened;
 use planning::Planned;
 

@@ -18,8 +18,8 @@ ghost use Rattle.opening.specs.Answers.{contents, held};
 ghost use Rattle.checking.specs.Checked.{leaves, in_scope, Lent, looked_at, indexed, form_verdict, entry_form, Formed, damaged, FirstLeft, FirstFrom, FirstWithin, FirstRefused, FirstOfAll};
 
 use fields::{get, part};
-use format::{ByteOffset, EntryNumber, INDEX_OFFSET, Pointer, Refusal, SectorAddress, Verdict};
-use opening::{Image, Numbered, Opened};
+use format::{ByteOffset, EntryNumber, INDEX_OFFSET, Pointer, Refusal, SectorAddress};
+use opening::{Image, Opened};
 
 // The first table entry that is refused, and how; their number where none is.
 #[derive(Clone, Copy)]

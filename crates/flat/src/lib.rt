@@ -18,11 +18,11 @@ ghost use Rattle.search.specs.Found.{Checked};
 ghost use Rattle.flat.specs.Exports.{Uniform};
 
 use fields::{clear, copy, part};
-use format::{ByteOffset, EntryNumber, Verdict};
-pub use format::{Exported, ExportedExact, Flat, Refusal, Updated};
+use format::{ByteOffset, EntryNumber};
+pub use format::{Flat, Refusal};
 // an import, with its contract
 pub use importing::import;
-use opening::{Opened, Opening};
+use opening::Opened;
 use search::Option<Place>;
 
 // The size of the lowest written sector; 0 where none is written.

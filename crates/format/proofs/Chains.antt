@@ -2,7 +2,8 @@
 -- then `stop` or `stops` for the one that applies.
 use mathlib.Core.Bool.{Bool, true, false}
 use mathlib.Core.Path.{◌≡◌, refl, sym, ap, ◌∙◌}
-use Rattle.std.specs.Prelude.{Ok, Err}
+use Rattle.std.specs.Prelude.{Ok, Err, IsErr, IsErrAnd}
+use Rattle.std.proofs.lemmas.Result.{err_from_is_err_and}
 use Rattle.format.specs.declared.Refusal.{Refusal}
 use Rattle.format.specs.Refusals.{row, ◌then◌, Answer, answer, Verdict}
 use Rattle.format.proofs.Refusals.{row-refuses, row-passes, then-refuses, then-rest, then-assoc, answer-passes, answer-refuses}
@@ -10,6 +11,14 @@ use Rattle.format.proofs.Refusals.{row-refuses, row-passes, then-refuses, then-r
 -- what a call answered, by what it ensures and by the branch that was taken on it
 pub by : {A : Type 0} {x y z : A} → x ≡ y → x ≡ z → y ≡ z
 by p q = sym p ∙ q
+
+-- what `?` hands on is the refusal that it met; also where a definition says what the answer stands for
+pub early-as : {A B : Type 0} (f : Answer A → B) {x : Answer A} {y : B} {r : Refusal}
+    → IsErr x × IsErrAnd x (λ (q : Refusal). q ≡ r) → f (Err r) ≡ y → f x ≡ y
+early-as f {x} h e = let p = err_from_is_err_and x h.1 in ap f (p.1 ∙ ap Err p.2) ∙ e
+
+pub early : {A : Type 0} {x y : Answer A} {r : Refusal} → IsErr x × IsErrAnd x (λ (q : Refusal). q ≡ r) → Err r ≡ y → x ≡ y
+early {A} h e = early-as (λ (x : Answer A). x) h e
 
 -- ---- one check
 pub stop : {b : Bool} {r : Refusal} (v : Verdict) → b ≡ true → Err r ≡ (row b r then v)

@@ -1,5 +1,5 @@
 // The calls that rows make, and the lines that say what they answer and whether they wrote what document 01 allows and nothing else.
-use aaru::{ByteOffset, Refusal, Updated};
+use aaru::{ByteOffset, Refusal};
 use printing::{MINUS, address, number, refused, text};
 use std::io;
 

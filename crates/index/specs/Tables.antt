@@ -1,12 +1,11 @@
 -- What the search for the one table keeps and answers, in the terms of the definitions.
 use Rattle.std.specs.Prelude.{List, ◌∷◌, ℕ, ◌+◌, get_or, Ok, Err}
+use Rattle.format.specs.declared.ByteOffset.{ByteOffset}
 use Rattle.format.specs.Refusals.{◌then◌, Answer, answer, Verdict}
 use Rattle.format.specs.Layouts.{index_header_length, entry_count}
 use Rattle.format.specs.Opening.{entries_verdict, one_of, one_verdict}
 use Rattle.index.specs.declared.Tables.{Tables}
 use Rattle.index.specs.declared.Tables.TheVariants as tables
-use Rattle.index.specs.declared.Named.{Named}
-use Rattle.index.specs.declared.Named.TheVariants as named
 
 -- checks 7 to 10 of the index at o
 abbrev pub named_verdict : List ℕ → ℕ → Verdict
@@ -23,6 +22,6 @@ before (tables.One t) l = t.0 ∷ l
 before tables.More l = 0 ∷ 0 ∷ l
 
 -- the one table's place, or the refusal
-unfoldable pub only_one : Named → Answer ℕ
-only_one (named.One t) = Ok t.0
-only_one (named.Refused r) = Err r
+unfoldable pub only_one : Answer ByteOffset → Answer ℕ
+only_one (Ok t) = Ok t.0
+only_one (Err r) = Err r

@@ -12,7 +12,7 @@ ghost use Rattle.index.specs.Tables.{named_verdict, one_answer, before, only_one
 
 use crc64::checksum;
 use fields::{get, part, put, room, spells};
-use format::{ByteOffset, Entry, HEADER_LENGTH, IMAGE_MAJOR, Refusal, Verdict};
+use format::{ByteOffset, Entry, HEADER_LENGTH, IMAGE_MAJOR, Refusal};
 
 // The tables among the index entries seen so far.
 #[derive(Clone, Copy)]
@@ -20,13 +20,6 @@ enum Tables {
     None,
     One(ByteOffset),
     More,
-}
-
-// The one table that an index names.
-#[derive(Clone, Copy)]
-pub enum Named {
-    One(ByteOffset),
-    Refused(Refusal),
 }
 
 // The image begins with neither of the two identifiers that a header may have.

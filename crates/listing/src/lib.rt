@@ -10,8 +10,8 @@ ghost use Rattle.text.specs.Text.{longest_input};
 ghost use Rattle.text.specs.Buffer.{Writes, Prints};
 ghost use Rattle.listing.specs.Listing.{lines_from, image_text, listing};
 
-use format::{ByteOffset, Counted, EntryNumber};
-use opening::{Opened, Opening};
+use format::{ByteOffset, EntryNumber};
+use opening::Opened;
 use sectors::Visit;
 
 // The lines of all addresses of an opened image. Neighbours in one intact block cost one pass over the index and the block.

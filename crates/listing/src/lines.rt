@@ -3,7 +3,7 @@ ghost use Rattle.std.specs.Prelude.{◌≤◌, length};
 ghost use Rattle.text.specs.Buffer.{Writes};
 ghost use Rattle.listing.specs.Listing.{head, line};
 
-use format::{Counted, Located, SectorAddress};
+use format::SectorAddress;
 
 // The first line: how many sectors there are, or why the image does not open.
 pub fn head(out: &mut [u8], at: usize, c: Result<AddressRange, Refusal>) -> usize

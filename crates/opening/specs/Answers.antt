@@ -1,27 +1,18 @@
 -- What the answers of this crate say in the terms of the definitions.
-use Rattle.std.specs.Prelude.{true, false, List, ◌≡◌, ℕ, ◌≤◌, ◌<◌, ℤ, Ok, Err}
+use Rattle.std.specs.Prelude.{true, false, List, ◌≡◌, ℕ, ◌≤◌, ◌<◌, ℤ, Option, Some, None, Ok, Err}
 use Rattle.std.specs.Borrow.{Bor}
-use Rattle.format.specs.declared.TableKind.{TableKind}
+use Rattle.format.specs.declared.EntryNumber.{EntryNumber}
 use Rattle.format.specs.declared.TableKind.TheVariants.{First}
 use Rattle.format.specs.Reading.{outside, entry_number}
 use Rattle.format.specs.Refusals.{Answer}
-use Rattle.format.specs.Tests.{differs}
 use Rattle.format.specs.Opening.{kind_by}
 use Rattle.format.specs.Opening as format
 use Rattle.opening.specs.declared.Image.{Image}
-use Rattle.opening.specs.declared.Numbered.{Numbered}
-use Rattle.opening.specs.declared.Numbered.TheVariants as numbered
 use Rattle.opening.specs.declared.Opened.{Opened}
-use Rattle.opening.specs.declared.Opening.{Opening}
-use Rattle.opening.specs.declared.Opening.TheVariants as opening
-
--- the kind that a number stands for
-unfoldable pub kind_numbered : ℕ → TableKind
-kind_numbered n = kind_by (differs n 2)
 
 -- what opening found
 abbrev pub contents : Opened → format.Opened
-contents t = record { kind = kind_numbered t.kind; table = t.table.0; count = t.count; shift = t.shift; alignment = t.alignment; negative = t.negative }
+contents t = record { kind = t.kind; table = t.table.0; count = t.count; shift = t.shift; alignment = t.alignment; negative = t.negative }
 
 -- ---- the opened image: the lent bytes, and what opening found in them
 -- how it is made
@@ -38,9 +29,9 @@ abbrev pub held : Image → format.Opened
 held image = contents (numbers_of image)
 
 -- ---- what opening found, or the refusal
-unfoldable pub outcome : Opening → Answer format.Opened
-outcome (opening.Opens t) = Ok (contents t)
-outcome (opening.Refused r) = Err r
+unfoldable pub outcome : Answer Opened → Answer format.Opened
+outcome (Ok t) = Ok (contents t)
+outcome (Err r) = Err r
 
 -- what opening has checked so that no pointer of the table wraps
 pub record Decodes (t : format.Opened) : Type 0 where
@@ -49,6 +40,6 @@ pub record Decodes (t : format.Opened) : Type 0 where
   pub flat : t.kind ≡ First → t.alignment ≡ 0
 
 -- ---- an address: its table entry's number, or that it is outside
-unfoldable pub IsNumbered : format.Opened → ℤ → Numbered → Type 0
-IsNumbered t a (numbered.At n) = (outside t a ≡ false) × (entry_number t a ≡ n.0) × (n.0 < t.count)
-IsNumbered t a numbered.Outside = outside t a ≡ true
+unfoldable pub IsNumbered : format.Opened → ℤ → Option EntryNumber → Type 0
+IsNumbered t a (Some n) = (outside t a ≡ false) × (entry_number t a ≡ n.0) × (n.0 < t.count)
+IsNumbered t a None = outside t a ≡ true

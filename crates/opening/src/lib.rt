@@ -13,21 +13,20 @@ ghost use Rattle.format.specs.Layouts.{entry_pointer, decode};
 ghost use Rattle.format.specs.Opening.{header_verdict, kind_at, table_verdict, open_verdict, opened_at, opened, opening, range_of};
 ghost use Rattle.format.specs.Reading.{outside, table_entry_at, table_entry, unwritten, unknown, pointer_at};
 ghost use Rattle.format.specs.Writing.{is_second, writable_verdict};
-ghost use Rattle.opening.specs.Answers.{contents, outcome, numbers_of, view_of, held, kind_numbered, Decodes, IsNumbered};
+ghost use Rattle.opening.specs.Answers.{contents, outcome, numbers_of, view_of, held, Decodes, IsNumbered};
 
 use fields::{get, magnitude};
 use format::{
     AddressRange, ByteOffset, EntryNumber, INDEX_OFFSET, Pointer, Refusal, SECOND_ENTRY,
-    SECOND_HEADER, SectorAddress, TABLE_ENTRY, TABLE_HEADER, TableKind, Verdict,
+    SECOND_HEADER, SectorAddress, TABLE_ENTRY, TABLE_HEADER, TableKind,
 };
-use index::Result<ByteOffset, Refusal>;
 use tables::layout_of;
 
-// What opening finds of the table: its kind (by a number, 1 for 'DDT*' and 2 for 'DDT2', as the walks over a view take no enum), place (that of the
-// header), count and shift, alignment and negative, which are 0 for 'DDT*'. The fields are private, so that opening alone makes one.
+// What opening finds of the table: its kind, place (that of the header), count and shift, alignment and negative, which are 0 for 'DDT*'. The fields are
+// private, so that opening alone makes one.
 #[derive(Clone, Copy)]
 pub struct Opened {
-    kind: u64,
+    kind: TableKind,
     table: ByteOffset,
     count: u64,
     shift: u64,
@@ -39,38 +38,12 @@ pub struct Opened {
 #[derive(Clone, Copy)]
 pub struct Image<'a> {
     bytes: &'a [u8],
-    kind: u64,
+    kind: TableKind,
     table: ByteOffset,
     count: u64,
     shift: u64,
     alignment: u64,
     negative: u16,
-}
-
-// What opening answers. No enum can hold a slice, so `view` puts the bytes and what was found together.
-#[derive(Clone, Copy)]
-pub enum Opening {
-    Opens(Opened),
-    Refused(Refusal),
-}
-
-// The number of a kind, and the kind of a number.
-fn kind_number(kind: TableKind) -> u64
-    ensures { kind_numbered result ≡ kind }
-{
-    match kind {
-        TableKind::First => 1,
-        TableKind::Second => 2,
-    }
-}
-
-fn kind_of(t: Opened) -> TableKind
-    ensures { result ≡ (contents t).kind }
-{
-    if t.kind == 2 {
-        return TableKind::Second;
-    }
-    TableKind::First
 }
 
 // The image whose table is at t, if the table passes.
@@ -86,7 +59,7 @@ fn open_table(s: &[u8], t: ByteOffset) -> Result<Opened, Refusal>
     let alignment = tables::alignment_at(s, kind, t);
     let negative = tables::negative_at(s, kind, t);
     Ok(Opened {
-        kind: kind_number(kind),
+        kind,
         table: t,
         count,
         shift,
@@ -117,8 +90,7 @@ pub fn open(s: &[u8]) -> Result<Opened, Refusal>
 pub fn kind_verdict(t: Opened) -> Result<(), Refusal>
     ensures { result ≡ row (is_second (contents t).kind) (refusal 74 0) }
 {
-    let kind = kind_of(t);
-    if tables::is_second(kind) {
+    if tables::is_second(t.kind) {
         return Err(Refusal {
             number: 74,
             place: ByteOffset(0),
@@ -213,9 +185,8 @@ pub fn entry_place(t: Opened, n: EntryNumber) -> ByteOffset
     requires { table_entry_at (contents t) n.0 < 2 ^ 64 }
     ensures { result.0 ≡ table_entry_at (contents t) n.0 }
 {
-    let kind = kind_of(t);
     let table = t.table;
-    match kind {
+    match t.kind {
         TableKind::First => ByteOffset(table.0 + TABLE_HEADER + TABLE_ENTRY * n.0),
         TableKind::Second => ByteOffset(table.0 + SECOND_HEADER + SECOND_ENTRY * n.0),
     }
@@ -226,9 +197,8 @@ pub fn table_entry(s: &[u8], t: Opened, n: EntryNumber) -> u64
     requires { (opening s.now ≡ Ok (contents t)) × (n.0 < (contents t).count) }
     ensures { result ≡ table_entry s.now (contents t) n.0 }
 {
-    let kind = kind_of(t);
     let table = t.table;
-    match kind {
+    match t.kind {
         TableKind::First => get(s, table.0 + TABLE_HEADER + TABLE_ENTRY * n.0, TABLE_ENTRY),
         TableKind::Second => get(
             s,
@@ -242,8 +212,7 @@ pub fn table_entry(s: &[u8], t: Opened, n: EntryNumber) -> u64
 pub fn is_unwritten(t: Opened, entry: u64) -> bool
     ensures { result ≡ unwritten (contents t).kind entry }
 {
-    let kind = kind_of(t);
-    match kind {
+    match t.kind {
         TableKind::First => entry == 0,
         TableKind::Second => entry / 0x1000_0000 == 0,
     }
@@ -253,8 +222,7 @@ pub fn is_unwritten(t: Opened, entry: u64) -> bool
 pub fn is_unknown(t: Opened, entry: u64) -> bool
     ensures { result ≡ unknown (contents t).kind entry }
 {
-    let kind = kind_of(t);
-    match kind {
+    match t.kind {
         TableKind::First => false,
         TableKind::Second => entry / 0x1000_0000 != 1,
     }
@@ -265,8 +233,7 @@ pub fn entry_decoded(t: Opened, entry: u64) -> Pointer
     requires { Decodes (contents t) }
     ensures { result ≡ decode (contents t).shift (contents t).alignment (entry_pointer (contents t).kind entry) }
 {
-    let kind = kind_of(t);
-    match kind {
+    match t.kind {
         TableKind::First => tables::decode(t.shift, 0, entry),
         TableKind::Second => tables::decode(t.shift, t.alignment, entry % 0x1000_0000),
     }
@@ -294,13 +261,6 @@ pub fn pointer_of(s: &[u8], t: Opened, n: EntryNumber) -> Pointer
     ensures { result ≡ pointer_at s.now (contents t) n.0 }
 {
     pointer(view(s, t), n)
-}
-
-// An address, by the number of its table entry.
-#[derive(Clone, Copy)]
-pub enum Numbered {
-    At(EntryNumber),
-    Outside,
 }
 
 // The number of an address's table entry: address + negative, where that is not below 0 and below the count. No address becomes one anywhere else.

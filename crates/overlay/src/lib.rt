@@ -12,7 +12,7 @@ ghost use Rattle.format.specs.Answers.{bytes_read};
 
 use fields::part;
 use format::Result<Place, Refusal>;
-pub use format::{LocatedOver, Refusal, SectorAddress, SourceOver, Sourced};
+pub use format::{Refusal, SectorAddress, Sourced};
 
 // Where the parent's sector at address a lies, or the refusal that the pair gives for its own.
 fn locate_parent(parent: &[u8], a: SectorAddress) -> Result<Sourced, Refusal>

@@ -11,7 +11,7 @@ ghost use Rattle.format.specs.Flattening.{pair_verdict};
 ghost use Rattle.opening.specs.Answers.{contents, outcome};
 
 use format::Result<(), Refusal>;
-use opening::{Opened, Opening};
+use opening::Opened;
 
 // All sectors of the pair: the first refusal other than 21. It is the child's first one, unless the parent refuses a sector at a lower address that the
 // child has not written. As both tables rise with the addresses, the parent's first one is that of the lowest such address.

@@ -17,8 +17,8 @@ ghost use Rattle.opening.specs.Answers.{contents, outcome};
 ghost use Rattle.pairs.specs.Pairs.{entry_answer, EntryChecked, ParentChecked, Pair, sector_at, held_below};
 
 use fields::part;
-use format::{ByteOffset, EntryNumber, Refusal, SectorAddress, Verdict};
-use opening::{Numbered, Opened, Opening};
+use format::{ByteOffset, EntryNumber, Refusal, SectorAddress};
+use opening::Opened;
 
 // A refusal of the parent, as the pair gives it: 20 and 21 as 21, any other with 100 added. A read's are at most 73, so that the sum is no larger number's.
 #[tactic(auto, using(crate::proofs::ParentRefusal::parent_numbers))]

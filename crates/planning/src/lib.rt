@@ -13,7 +13,6 @@ ghost use Rattle.planning.specs.Plans.{is_next, is_new, Commits, plan_for, Looks
 
 use format::{ByteOffset, EntryNumber, ItemNumber};
 use opening::Opened;
-use search::{Item, TableEntry};
 
 // What a commit will store: how many sectors, and the largest item number of its table.
 #[derive(Clone, Copy)]

@@ -15,12 +15,9 @@ ghost use Rattle.opening.specs.Answers.{contents, held};
 ghost use Rattle.sectors.specs.Found.{found, Known};
 
 use fields::{get, part, room};
-use format::{
-    ByteOffset, Entry, EntryNumber, INDEX_OFFSET, Located, Place, Pointer, Refusal, SectorAddress,
-    Verdict,
-};
+use format::{ByteOffset, Entry, EntryNumber, INDEX_OFFSET, Place, Pointer, Refusal, SectorAddress};
 use index::{entry, is_user_data};
-use opening::{Image, Numbered, Opened, Opening};
+use opening::{Image, Opened};
 
 // What finding a sector answers: its block and item.
 #[derive(Clone, Copy)]

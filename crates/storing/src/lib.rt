@@ -17,7 +17,6 @@ ghost use Rattle.storing.specs.Turns.{entry_of, add_in, step_in, Steps, Stepped,
 use fields::part;
 use format::{ByteOffset, EntryNumber, ItemNumber, Pointer};
 use opening::Opened;
-use search::{Item, TableEntry};
 
 // Where a sector is, and how many are stored with it.
 #[derive(Clone, Copy)]

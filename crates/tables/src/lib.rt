@@ -17,7 +17,7 @@ use crc64::checksum;
 use fields::{get, get_short, part, room, spells};
 use format::{
     ByteOffset, ItemNumber, Pointer, Refusal, SECOND_ENTRY, SECOND_HEADER, TABLE_ENTRY,
-    TABLE_HEADER, TableKind, Verdict,
+    TABLE_HEADER, TableKind,
 };
 
 // Either of two stored checksums is not that of the payload. One pass over the payload.

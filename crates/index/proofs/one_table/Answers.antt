@@ -1,6 +1,6 @@
 use native.Mathlib.Omega.{arith}
 use Rattle.format.specs.Layouts.{entry_count, entries}
-use Rattle.format.proofs.Chains.{stops, refuses, answers, by}
+use Rattle.format.proofs.Chains.{early-as, stops, refuses, answers}
 use Rattle.index.specs.Tables.{before, only_one}
 use Rattle.index.proofs.Entries.{verdict-stops, verdict-goes, verdict-done, one-goes, one_none, one_single, one-many}
 use Rattle.index.proofs.one_table.Goals as goal
@@ -9,20 +9,20 @@ pub loop-left-init : goal.loop-left-init
 unfolding before entries entry_count
 loop-left-init c = (omega arith, rw c.get-left.ensures, rw c.get-left.ensures)
 
-pub returns-in-Refuses : goal.returns-in-Refuses
+pub returns-in_err-entry_verdict : goal.returns-in_err-entry_verdict
 unfolding only_one
-returns-in-Refuses c =
-    refuses _
+returns-in_err-entry_verdict c =
+    early-as only_one c.from_residual.ensures (refuses _
     (stops _
     (verdict-stops _ _ _ c.loop-left.invariant.1 (omega arith)
-    (by c.in-Refuses.is c.entry_verdict-v.ensures)))
+    c.in_err-entry_verdict.ensures)))
 
 pub loop-left-preserved : goal.loop-left-preserved
 loop-left-preserved c =
     let l = c.loop-left.invariant in
     let e = c.entry-e.ensures in (
       omega arith,
-      verdict-goes _ _ _ l.1 (omega arith) (by c.in_default.is c.entry_verdict-v.ensures),
+      verdict-goes _ _ _ l.1 (omega arith) c.in_ok-entry_verdict.ensures,
       one-goes _ _ _ _ _ l.2 _ (omega arith) (λ z. rw (← e) (c.with_entry-seen.ensures _ z)),
     )
 

@@ -4,7 +4,6 @@ use native.Mathlib.Omega.{arith}
 use Rattle.format.specs.declared.TableKind.TheVariants.{First, Second}
 use Rattle.format.specs.Layouts.{entry_pointer}
 use Rattle.format.proofs.Checks.{first-second}
-use Rattle.format.proofs.Chains.{by}
 use Rattle.opening.specs.Answers.{contents}
 use Rattle.opening.proofs.Wraps.{no_wrap}
 use Rattle.opening.proofs.entry_decoded.Goals as goal
@@ -12,10 +11,10 @@ use Rattle.opening.proofs.entry_decoded.Goals.{In-First, In-Second}
 
 -- the kind, in each arm
 first : (c : In-First) → (contents c.args.t).kind ≡ First
-first c = by c.kind_of-kind.ensures c.in-First.is
+first c = c.in-First.is
 
 second : (c : In-Second) → (contents c.args.t).kind ≡ Second
-second c = by c.kind_of-kind.ensures c.in-Second.is
+second c = c.in-Second.is
 
 pub decode-requires : goal.decode-requires
 unfolding entry_pointer

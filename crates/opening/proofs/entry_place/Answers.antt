@@ -3,17 +3,16 @@ use mathlib.Core.Path.{◌≡◌}
 use Prim.Native.Nat.{◌+◌, ◌*◌, ◌^◌, ◌<◌}
 use native.Mathlib.Omega.{arith}
 use Rattle.format.specs.declared.TableKind.TheVariants.{First, Second}
-use Rattle.format.proofs.Chains.{by}
 use Rattle.opening.specs.Answers.{contents}
 use Rattle.opening.proofs.entry_place.Goals as goal
 use Rattle.opening.proofs.entry_place.Goals.{In-First, In-Second}
 
 -- the kind, in each arm, and its sum
 first : (c : In-First) → (contents c.args.t).kind ≡ First
-first c = by c.kind_of-kind.ensures c.in-First.is
+first c = c.in-First.is
 
 second : (c : In-Second) → (contents c.args.t).kind ≡ Second
-second c = by c.kind_of-kind.ensures c.in-Second.is
+second c = c.in-Second.is
 
 first_fits : (c : In-First) → let a = c.args in a.t.table.0 + 49 + 8 * a.n.0 < 2 ^ 64
 first_fits c = rw (first c) at c.requires

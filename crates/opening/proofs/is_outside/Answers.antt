@@ -3,10 +3,10 @@ use mathlib.Core.Path.{sym, subst}
 use Rattle.opening.specs.Answers.{IsNumbered}
 use Rattle.opening.proofs.is_outside.Goals as goal
 
-pub returns-in-At : goal.returns-in-At
+pub returns-in-Some : goal.returns-in-Some
 unfolding IsNumbered
-returns-in-At c = sym (subst (IsNumbered _ _) c.in-At.is c.entry_number-numbered.ensures).0
+returns-in-Some c = sym (subst (IsNumbered _ _) c.in-Some.is c.entry_number-numbered.ensures).0
 
-pub returns-in-Outside : goal.returns-in-Outside
+pub returns-in-None : goal.returns-in-None
 unfolding IsNumbered
-returns-in-Outside c = sym (subst (IsNumbered _ _) c.in-Outside.is c.entry_number-numbered.ensures)
+returns-in-None c = sym (subst (IsNumbered _ _) c.in-None.is c.entry_number-numbered.ensures)

@@ -5,23 +5,23 @@ use Rattle.std.specs.Prelude.{Ok}
 use Rattle.format.specs.Layouts.{index_offset}
 use Rattle.format.specs.Opening.{header_verdict, open_verdict, opening}
 use Rattle.format.proofs.Checks.{header_ok}
-use Rattle.format.proofs.Chains.{stops, refuses, by}
+use Rattle.format.proofs.Chains.{early-as, stops, refuses}
 use Rattle.opening.specs.Answers.{outcome}
 use Rattle.opening.proofs.open.Goals as goal
-use Rattle.opening.proofs.open.Goals.{In_default}
+use Rattle.opening.proofs.open.Goals.{In_ok-header_verdict}
 
-passes : (c : In_default) → header_verdict c.args.s.now ≡ Ok tt
-passes c = sym (by c.in_default.is c.header_verdict-v.ensures)
+passes : (c : In_ok-header_verdict) → header_verdict c.args.s.now ≡ Ok tt
+passes c = sym c.in_ok-header_verdict.ensures
 
-pub returns-in-Refuses : goal.returns-in-Refuses
+pub returns-in_err-header_verdict : goal.returns-in_err-header_verdict
 unfolding outcome opening open_verdict
-returns-in-Refuses c = refuses _ (stops _ (by c.in-Refuses.is c.header_verdict-v.ensures))
+returns-in_err-header_verdict c = early-as outcome c.from_residual.ensures (refuses _ (stops _ c.in_err-header_verdict.ensures))
 
 pub get-requires : goal.get-requires
-get-requires c = let k = (header_ok _).0 (passes (goal.at.get-requires c).In_default) in omega arith
+get-requires c = let k = (header_ok _).0 (passes (goal.at.get-requires c).In_ok-header_verdict) in omega arith
 
 pub open_index-requires : goal.open_index-requires
-open_index-requires c = passes (goal.at.open_index-requires c).In_default
+open_index-requires c = passes (goal.at.open_index-requires c).In_ok-header_verdict
 
 pub returns : goal.returns
 unfolding opening index_offset

@@ -5,7 +5,6 @@ use native.Mathlib.Omega.{arith}
 use lib.ListN.{length}
 use Rattle.format.specs.declared.TableKind.TheVariants.{First, Second}
 use Rattle.format.specs.Reading.{table_entry}
-use Rattle.format.proofs.Chains.{by}
 use Rattle.opening.specs.Answers.{contents}
 use Rattle.opening.proofs.Accepted.{entry-inside}
 use Rattle.opening.proofs.table_entry.Goals as goal
@@ -13,10 +12,10 @@ use Rattle.opening.proofs.table_entry.Goals.{In-First, In-Second}
 
 -- the kind, in each arm, and that its entry lies in the image
 first : (c : In-First) → (contents c.args.t).kind ≡ First
-first c = by c.kind_of-kind.ensures c.in-First.is
+first c = c.in-First.is
 
 second : (c : In-Second) → (contents c.args.t).kind ≡ Second
-second c = by c.kind_of-kind.ensures c.in-Second.is
+second c = c.in-Second.is
 
 first-inside : (c : In-First)
     → let a = c.args in a.t.table.0 + 49 + 8 * a.n.0 + 8 ≤ length a.s.now

@@ -2,7 +2,7 @@
 use native.Mathlib.Omega.{arith}
 use Rattle.format.specs.Opening.{table_verdict}
 use Rattle.format.proofs.Tests.{below_true, below-iff, differs_true, differs-iff}
-use Rattle.format.proofs.Chains.{stop, on, stops, goes, by}
+use Rattle.format.proofs.Chains.{early, stop, on, stops, goes, by}
 use Rattle.tables.proofs.table_verdict.Goals as goal
 
 pub returns-then-room-l : goal.returns-then-room-l
@@ -13,23 +13,23 @@ pub returns-then-get-ne0 : goal.returns-then-get-ne0
 unfolding table_verdict
 returns-then-get-ne0 c = on _ (below-iff.1 (omega arith)) (stop _ (differs_true _ _ (λ e. omega arith)))
 
-pub returns-in-Refuses : goal.returns-in-Refuses
+pub returns-in_err-extent_verdict : goal.returns-in_err-extent_verdict
 unfolding table_verdict
-returns-in-Refuses c =
-    on _ (below-iff.1 (omega arith))
-    (on _ (differs-iff.1 (omega arith)) (stops _ (by c.in-Refuses.is c.extent_verdict-v.ensures)))
+returns-in_err-extent_verdict c =
+    early c.from_residual.ensures (on _ (below-iff.1 (omega arith))
+    (on _ (differs-iff.1 (omega arith)) (stops _ c.in_err-extent_verdict.ensures)))
 
 pub returns-then-table_malformed : goal.returns-then-table_malformed
 unfolding table_verdict
 returns-then-table_malformed c =
     on _ (below-iff.1 (omega arith))
     (on _ (differs-iff.1 (omega arith))
-    (goes (by c.in_default.is c.extent_verdict-v.ensures) (stop _ (by c.table_malformed.ensures c.if-table_malformed.true))))
+    (goes c.in_ok-extent_verdict.ensures (stop _ (by c.table_malformed.ensures c.if-table_malformed.true))))
 
 pub returns : goal.returns
 unfolding table_verdict
 returns c =
     on _ (below-iff.1 (omega arith))
     (on _ (differs-iff.1 (omega arith))
-    (goes (by c.in_default.is c.extent_verdict-v.ensures)
+    (goes c.in_ok-extent_verdict.ensures
     (on _ (by c.table_malformed.ensures c.if-table_malformed.false) c.payload_verdict.ensures)))
