@@ -1,25 +1,26 @@
 -- A block of which something is known: what is left to check of a pointer into it.
-use mathlib.Core.Bool.{true}
+use mathlib.Core.Bool.{true, true≢false}
 use mathlib.Core.List.{List}
-use mathlib.Core.Logic.{◌⊎◌, ⊎_elim}
 use mathlib.Core.Path.{◌≡◌, sym, subst}
 use Prim.Native.Nat.{ℕ, ◌/◌}
+use Rattle.std.specs.Prelude.{Option, Some, None, IfSome}
+use Rattle.format.specs.declared.ByteOffset.{ByteOffset}
 use Rattle.format.specs.declared.Pointer.{Pointer}
-use Rattle.format.specs.Tests.{same, differs, at_least, ◌and◌}
+use Rattle.format.specs.Tests.{at_least}
 use Rattle.format.specs.Refusals.{refusal, row}
 use Rattle.format.specs.Layouts.{index_offset, entries, block_length, sector_size}
 use Rattle.format.specs.Opening.{sums_differ}
 use Rattle.format.specs.Reading.{item_verdict, pointer_verdict}
-use Rattle.format.proofs.Tests.{never, not_iff, same-on, differs-iff, or-iff, and-on}
+use Rattle.format.proofs.Tests.{not_iff, same-on, differs-iff, or-iff}
 use Rattle.format.proofs.Checks.{block-ok}
 use Rattle.format.proofs.Chains.{on, on-last, goes, ends}
-use Rattle.sectors.specs.Found.{Intact}
+use Rattle.sectors.specs.Found.{Intact, is_known}
 
 -- the block at b is the one that is known
-pub known-block : (P : ℕ → Type 0) (b k : ℕ) → (k ≡ 0) ⊎ P k → (differs k 0 and same b k) ≡ true → P b
-known-block P b k known e =
-    let both = and-on (differs k 0) (same b k) e in
-    ⊎_elim (λ z. absurd (never both.0 (differs-iff.1 z))) (λ i. subst P (sym (same-on b k both.1)) i) known
+pub known-block : (P : ℕ → Type 0) (known : Option ByteOffset) (b : ℕ) → IfSome known (λ (k : ByteOffset). P k.0) → is_known known b ≡ true → P b
+unfolding is_known
+known-block P None b p e = absurd (true≢false (sym e))
+known-block P (Some k) b p e = subst P (sym (same-on b k.0 e)) p
 
 -- of an intact block's item only the check of its number is left
 pub known-verdict : (img : List ℕ) (at : ℕ) (p : Pointer) → Intact img p.block.0

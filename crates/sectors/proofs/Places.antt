@@ -1,11 +1,10 @@
 -- A sector's place, and what is known of its block, by what finding it answers.
 use mathlib.Core.List.{List}
 use mathlib.Core.Logic.Iff
-use mathlib.Core.Logic.{inr}
 use mathlib.Core.Path.{◌≡◌, sym, ap, ◌∙◌}
 use Prim.Native.Nat.{ℕ}
 use lib.IntN.{ℤ}
-use Rattle.std.specs.Prelude.{Ok, Err}
+use Rattle.std.specs.Prelude.{Ok, Err, Some}
 use Rattle.format.specs.declared.Pointer.{Pointer}
 use Rattle.format.specs.declared.Refusal.{Refusal}
 use Rattle.format.specs.Refusals.{answer}
@@ -42,10 +41,10 @@ module _ (img : List ℕ) (t : Opened) (e : opening img ≡ Ok t) (a : ℤ) wher
     found-item = rw (← found-is) found_ok.item
 
     -- its block is known from then on
-    pub found-known : Known img p.block.0
+    pub found-known : Known img (Some p.block)
     found-known =
         let k = found-item in
-        inr (record { indexed = rw (← found-is) found_ok.named; block = k.block; cmp_sum = k.cmp_sum; sum = k.sum })
+        record { indexed = rw (← found-is) found_ok.named; block = k.block; cmp_sum = k.cmp_sum; sum = k.sum }
 
     pub locate-found : Ok (place_of img p) ≡ locate img a
     unfolding locate pointer_of

@@ -12,32 +12,27 @@ ghost use Rattle.format.specs.Reading.{has, pointer_at, block_malformed, block_v
 ghost use Rattle.format.specs.Facts.{BlockOk, ItemOk};
 ghost use Rattle.format.specs.Answers.{bytes_read};
 ghost use Rattle.opening.specs.Answers.{contents, held};
-ghost use Rattle.sectors.specs.Found.{found, Known};
+ghost use Rattle.sectors.specs.Found.{Known, is_known};
 
 use fields::{get, part, room};
-use format::{ByteOffset, Entry, EntryNumber, INDEX_OFFSET, Place, Pointer, Refusal, SectorAddress};
+use format::{
+    ByteOffset, Entry, EntryNumber, INDEX_OFFSET, Place, Pointer, Refusal, SectorAddress,
+};
 use index::{entry, is_user_data};
 use opening::{Image, Opened};
 
-// What finding a sector answers: its block and item.
-#[derive(Clone, Copy)]
-enum Found {
-    At(Pointer),
-    Refused(Refusal),
-}
-
-// An address to locate, and a block that is known to be intact; ByteOffset(0) stands for none.
+// An address to locate, and a block that is known to be intact, if there is one.
 #[derive(Clone, Copy)]
 pub struct Visit {
     pub address: SectorAddress,
-    pub known: ByteOffset,
+    pub known: Option<ByteOffset>,
 }
 
 // Where a sector lies, and a block that is known to be intact: the sector's, or where it is refused the one handed in.
 #[derive(Clone, Copy)]
 pub struct Near {
     pub located: Result<Place, Refusal>,
-    pub known: ByteOffset,
+    pub known: Option<ByteOffset>,
 }
 
 // The entry names a data block at b, of user data.
@@ -161,21 +156,23 @@ fn item_verdict(s: &[u8], p: Pointer) -> Result<(), Refusal>
 }
 
 // b is the block that is known.
-pub fn is_known(b: ByteOffset, known: ByteOffset) -> bool
-    ensures { result ≡ (differs known.0 0 and same b.0 known.0) }
+pub fn is_known(b: ByteOffset, known: Option<ByteOffset>) -> bool
+    ensures { result ≡ is_known known b.0 }
 {
-    if known.0 == 0 {
-        return false;
+    match known {
+        None => false,
+        Some(k) => b.0 == k.0,
     }
-    if b.0 != known.0 {
-        return false;
-    }
-    true
 }
 
 // What p, whose table entry stands at `place`, points to: checks 22 to 27. Of the block that is known only the item's number is looked at.
-fn pointer_verdict(s: &[u8], place: ByteOffset, p: Pointer, known: ByteOffset) -> Result<(), Refusal>
-    requires { (open_verdict s.now (index_offset s.now) ≡ Ok tt) × Known s.now known.0 }
+fn pointer_verdict(
+    s: &[u8],
+    place: ByteOffset,
+    p: Pointer,
+    known: Option<ByteOffset>,
+) -> Result<(), Refusal>
+    requires { (open_verdict s.now (index_offset s.now) ≡ Ok tt) × Known s.now known }
     ensures { result ≡ pointer_verdict s.now (entries s.now (index_offset s.now)) place.0 p }
 {
     let b = p.block;
@@ -190,8 +187,8 @@ fn pointer_verdict(s: &[u8], place: ByteOffset, p: Pointer, known: ByteOffset) -
 
 // The sector of table entry n of the image that opened as t: checks 21 to 27, 73. Its table entry is read once; of the block that is known only the
 // item's number is looked at.
-fn find(s: &[u8], t: Opened, n: EntryNumber, known: ByteOffset) -> Result<Pointer, Refusal>
-    requires { (opening s.now ≡ Ok (contents t)) × (n.0 < (contents t).count) × Known s.now known.0 }
+fn find(s: &[u8], t: Opened, n: EntryNumber, known: Option<ByteOffset>) -> Result<Pointer, Refusal>
+    requires { (opening s.now ≡ Ok (contents t)) × (n.0 < (contents t).count) × Known s.now known }
     ensures { result ≡ answer (sector_verdict s.now (entries s.now (index_offset s.now)) (contents t) n.0) (pointer_at s.now (contents t) n.0) }
 {
     let place = ByteOffset(0);
@@ -208,8 +205,13 @@ fn find(s: &[u8], t: Opened, n: EntryNumber, known: ByteOffset) -> Result<Pointe
 }
 
 // The sector at address a: check 20, and its table entry's.
-fn find_address(s: &[u8], t: Opened, a: SectorAddress, known: ByteOffset) -> Result<Pointer, Refusal>
-    requires { (opening s.now ≡ Ok (contents t)) × Known s.now known.0 }
+fn find_address(
+    s: &[u8],
+    t: Opened,
+    a: SectorAddress,
+    known: Option<ByteOffset>,
+) -> Result<Pointer, Refusal>
+    requires { (opening s.now ≡ Ok (contents t)) × Known s.now known }
     ensures { result ≡ answer (address_verdict s.now (entries s.now (index_offset s.now)) (contents t) a.0) (pointer_of s.now (contents t) a.0) }
 {
     let numbered = opening::entry_number(t, a);
@@ -238,8 +240,8 @@ pub fn place(s: &[u8], p: Pointer) -> Place
 // Where the sector at an address of the image that opened as t lies. A caller that goes from address to address hands in the block
 // that the last answer left known, so that neighbours in one intact block cost one pass over the index and the block, not one each.
 fn locate_near_at(s: &[u8], t: Opened, v: Visit) -> Near
-    requires { (opening s.now ≡ Ok (contents t)) × Known s.now v.known.0 }
-    ensures { (result.located ≡ locate s.now v.address.0) × Known s.now result.known.0 }
+    requires { (opening s.now ≡ Ok (contents t)) × Known s.now v.known }
+    ensures { (result.located ≡ locate s.now v.address.0) × Known s.now result.known }
 {
     let known = v.known;
     let f = find_address(s, t, v.address, known);
@@ -248,28 +250,25 @@ fn locate_near_at(s: &[u8], t: Opened, v: Visit) -> Near
             located: Err(r),
             known,
         },
-        Ok(p) => {
-            let block = p.block;
-            Near {
-                located: Ok(place(s, p)),
-                known: block,
-            }
-        }
+        Ok(p) => Near {
+            located: Ok(place(s, p)),
+            known: Some(p.block),
+        },
     }
 }
 
 // Over an opened image, which it takes apart.
 pub fn locate_near<'a>(image: Image<'a>, v: Visit) -> Near
-    requires { (opening image.bytes.now ≡ Ok (held image)) × Known image.bytes.now v.known.0 }
-    ensures { (result.located ≡ locate image.entry.bytes.now v.address.0) × Known image.entry.bytes.now result.known.0 }
+    requires { (opening image.bytes.now ≡ Ok (held image)) × Known image.bytes.now v.known }
+    ensures { (result.located ≡ locate image.entry.bytes.now v.address.0) × Known image.entry.bytes.now result.known }
 {
     locate_near_at(opening::bytes(image), opening::numbers(image), v)
 }
 
 // Makes the opened image and hands it on.
 pub fn locate_near_of(s: &[u8], t: Opened, v: Visit) -> Near
-    requires { (opening s.now ≡ Ok (contents t)) × Known s.now v.known.0 }
-    ensures { (result.located ≡ locate s.now v.address.0) × Known s.now result.known.0 }
+    requires { (opening s.now ≡ Ok (contents t)) × Known s.now v.known }
+    ensures { (result.located ≡ locate s.now v.address.0) × Known s.now result.known }
 {
     locate_near(opening::view(s, t), v)
 }
@@ -284,7 +283,7 @@ fn locate_at(s: &[u8], t: Opened, a: SectorAddress) -> Result<Place, Refusal>
         t,
         Visit {
             address: a,
-            known: ByteOffset(0),
+            known: None,
         },
     );
     near.located

@@ -3,11 +3,10 @@ use mathlib.Core.Path.{◌≡◌}
 use native.Mathlib.Omega.{arith}
 use Rattle.format.specs.Reading.{not_written, unknown_status, pointer_at, sector_verdict}
 use Rattle.format.proofs.Checks.{open-ok}
-use Rattle.format.proofs.Chains.{stop, on, refuses, accepts, by}
+use Rattle.format.proofs.Chains.{early, stop, on, refuses, accepts, by}
 use Rattle.opening.specs.Answers.{contents}
 use Rattle.opening.proofs.Accepted.{opens, entry-inside, decodes}
 use Rattle.opening.proofs.Entries.{written_is, status-is, pointer_is}
-use Rattle.sectors.specs.Found.{found}
 use Rattle.sectors.proofs.find.Goals as goal
 use Rattle.sectors.proofs.find.Goals.{After-entry_decoded-p, After-is_unknown, After-is_unwritten}
 
@@ -22,11 +21,11 @@ pointer : (c : After-entry_decoded-p) → let a = c.args in c.entry_decoded-p.re
 pointer c = pointer_is _ _ _ c.table_entry-e.ensures c.entry_decoded-p.ensures
 
 pub returns-then-is_unwritten : goal.returns-then-is_unwritten
-unfolding sector_verdict found
+unfolding sector_verdict
 returns-then-is_unwritten c = refuses _ (stop _ (by (unwritten (goal.at.returns-then-is_unwritten c).After-is_unwritten) c.if-is_unwritten.true))
 
 pub returns-then-is_unknown : goal.returns-then-is_unknown
-unfolding sector_verdict found
+unfolding sector_verdict
 returns-then-is_unknown c = refuses _ (on _ (by (unwritten (goal.at.returns-then-is_unknown c).After-is_unwritten) c.if-is_unwritten.false) (stop _ (by (unknown (goal.at.returns-then-is_unknown c).After-is_unknown) c.if-is_unknown.true)))
 
 pub entry_decoded-p-requires : goal.entry_decoded-p-requires
@@ -35,22 +34,22 @@ entry_decoded-p-requires c = decodes _ _ c.requires.0
 pub entry_place-requires : goal.entry_place-requires
 entry_place-requires c = let p = c.requires in let k = entry-inside _ _ p.0 _ p.1 in omega arith
 
-pub pointer_verdict-v-requires : goal.pointer_verdict-v-requires
-pointer_verdict-v-requires c = let p = c.requires in ((open-ok _ _).1 (opens _ _ p.0), p.2)
+pub pointer_verdict-requires : goal.pointer_verdict-requires
+pointer_verdict-requires c = let p = c.requires in ((open-ok _ _).1 (opens _ _ p.0), p.2)
 
-pub returns-in-Refuses : goal.returns-in-Refuses
-unfolding sector_verdict found
-returns-in-Refuses c =
-    refuses _
-    (on _ (by (unwritten (goal.at.returns-in-Refuses c).After-is_unwritten) c.if-is_unwritten.false)
-    (on _ (by (unknown (goal.at.returns-in-Refuses c).After-is_unknown) c.if-is_unknown.false)
-    (rw (pointer (goal.at.returns-in-Refuses c).After-entry_decoded-p, c.entry_place.ensures) at (by c.in-Refuses.is c.pointer_verdict-v.ensures))))
+pub returns-in_err-pointer_verdict : goal.returns-in_err-pointer_verdict
+unfolding sector_verdict
+returns-in_err-pointer_verdict c =
+    early c.from_residual.ensures (refuses _
+    (on _ (by (unwritten (goal.at.returns-in_err-pointer_verdict c).After-is_unwritten) c.if-is_unwritten.false)
+    (on _ (by (unknown (goal.at.returns-in_err-pointer_verdict c).After-is_unknown) c.if-is_unknown.false)
+    (rw (pointer (goal.at.returns-in_err-pointer_verdict c).After-entry_decoded-p, c.entry_place.ensures) at c.in_err-pointer_verdict.ensures))))
 
 pub returns : goal.returns
-unfolding sector_verdict found
+unfolding sector_verdict
 returns c =
     accepts
     (on _ (by (unwritten (goal.at.returns c).After-is_unwritten) c.if-is_unwritten.false)
     (on _ (by (unknown (goal.at.returns c).After-is_unknown) c.if-is_unknown.false)
-    (rw (pointer (goal.at.returns c).After-entry_decoded-p, c.entry_place.ensures) at (by c.in_default.is c.pointer_verdict-v.ensures))))
+    (rw (pointer (goal.at.returns c).After-entry_decoded-p, c.entry_place.ensures) at c.in_ok-pointer_verdict.ensures)))
     (pointer (goal.at.returns c).After-entry_decoded-p)

@@ -1,15 +1,12 @@
 -- `sectors::is_known` meets its contract. Assumes nothing.
-use mathlib.Core.Logic.{inl, inr}
-use mathlib.Core.Path.{sym}
-use native.Mathlib.Omega.{arith}
-use Rattle.format.proofs.Tests.{same-iff, same_true, differs-iff, differs_true, and-iff, and-true}
+use Rattle.format.specs.Tests.{same}
+use Rattle.sectors.specs.Found.{is_known}
 use Rattle.sectors.proofs.is_known.Goals as goal
 
-pub returns-then-known-eq0 : goal.returns-then-known-eq0
-returns-then-known-eq0 c = sym ((and-iff differs-iff same-iff).1 (inl (omega arith)))
+pub returns-in-None : goal.returns-in-None
+unfolding is_known
+returns-in-None c = rw c.in-None.is
 
-pub returns-then-b-known : goal.returns-then-b-known
-returns-then-b-known c = sym ((and-iff differs-iff same-iff).1 (inr (λ e. omega arith)))
-
-pub returns : goal.returns
-returns c = sym (and-true _ _ (differs_true _ _ (λ e. omega arith)) (same_true _ _ (omega arith)))
+pub returns-in-Some : goal.returns-in-Some
+unfolding is_known same
+returns-in-Some c = rw c.in-Some.is

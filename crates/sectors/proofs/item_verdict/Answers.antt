@@ -8,15 +8,15 @@ use Rattle.format.specs.Layouts.{block_payload, block_cmp_crc64, block_crc64}
 use Rattle.format.specs.Opening.{sums_differ}
 use Rattle.format.specs.Reading.{block_verdict, item_verdict}
 use Rattle.format.proofs.Checks.{block-ok}
-use Rattle.format.proofs.Chains.{stops, goes, stop-last, on-last, by}
+use Rattle.format.proofs.Chains.{early, stops, goes, stop-last, on-last, by}
 use Rattle.sectors.proofs.item_verdict.Goals as goal
-use Rattle.sectors.proofs.item_verdict.Goals.{After-sums_differ, In_default}
+use Rattle.sectors.proofs.item_verdict.Goals.{After-sums_differ, In_ok-block_verdict}
 
 -- what is known once each call has answered
-passes : (c : In_default) → Ok tt ≡ block_verdict c.args.s.now c.args.p.block.0
-passes c = by c.in_default.is c.block_verdict-v.ensures
+passes : (c : In_ok-block_verdict) → Ok tt ≡ block_verdict c.args.s.now c.args.p.block.0
+passes c = c.in_ok-block_verdict.ensures
 
-ok : (c : In_default) → BlockOk c.args.s.now c.args.p.block.0
+ok : (c : In_ok-block_verdict) → BlockOk c.args.s.now c.args.p.block.0
 ok c = (block-ok _ _).0 (sym (passes c))
 
 sums : (c : After-sums_differ)
@@ -27,49 +27,49 @@ sums c =
     rw (c.part.ensures, c.get.ensures, c.get-2.ensures, c.get-length.ensures)
     at c.sums_differ.ensures
 
-pub returns-in-Refuses : goal.returns-in-Refuses
+pub returns-in_err-block_verdict : goal.returns-in_err-block_verdict
 unfolding item_verdict
-returns-in-Refuses c = stops _ (by c.in-Refuses.is c.block_verdict-v.ensures)
+returns-in_err-block_verdict c = early c.from_residual.ensures (stops _ c.in_err-block_verdict.ensures)
 
-pub number_verdict-w-requires : goal.number_verdict-w-requires
-number_verdict-w-requires c = ok (goal.at.number_verdict-w-requires c).In_default
+pub number_verdict-requires : goal.number_verdict-requires
+number_verdict-requires c = ok (goal.at.number_verdict-requires c).In_ok-block_verdict
 
-pub returns-in-Refuses-w : goal.returns-in-Refuses-w
+pub returns-in_err-number_verdict : goal.returns-in_err-number_verdict
 unfolding item_verdict
-returns-in-Refuses-w c = goes (passes (goal.at.returns-in-Refuses-w c).In_default) (stops _ (by c.in-Refuses-w.is c.number_verdict-w.ensures))
+returns-in_err-number_verdict c = early c.from_residual-in_err-number_verdict.ensures (goes (passes (goal.at.returns-in_err-number_verdict c).In_ok-block_verdict) (stops _ c.in_err-number_verdict.ensures))
 
 pub overflow_add-block : goal.overflow_add-block
-overflow_add-block c = let k = ok (goal.at.overflow_add-block c).In_default in omega arith
+overflow_add-block c = let k = ok (goal.at.overflow_add-block c).In_ok-block_verdict in omega arith
 
 pub get-length-requires : goal.get-length-requires
-get-length-requires c = let k = ok (goal.at.get-length-requires c).In_default in omega arith
+get-length-requires c = let k = ok (goal.at.get-length-requires c).In_ok-block_verdict in omega arith
 
 pub overflow_add-block-2 : goal.overflow_add-block-2
-overflow_add-block-2 c = let k = ok (goal.at.overflow_add-block-2 c).In_default in omega arith
+overflow_add-block-2 c = let k = ok (goal.at.overflow_add-block-2 c).In_ok-block_verdict in omega arith
 
 pub part-requires : goal.part-requires
-part-requires c = let k = ok (goal.at.part-requires c).In_default in omega arith
+part-requires c = let k = ok (goal.at.part-requires c).In_ok-block_verdict in omega arith
 
 pub overflow_add-block-3 : goal.overflow_add-block-3
-overflow_add-block-3 c = let k = ok (goal.at.overflow_add-block-3 c).In_default in omega arith
+overflow_add-block-3 c = let k = ok (goal.at.overflow_add-block-3 c).In_ok-block_verdict in omega arith
 
 pub get-requires : goal.get-requires
-get-requires c = let k = ok (goal.at.get-requires c).In_default in omega arith
+get-requires c = let k = ok (goal.at.get-requires c).In_ok-block_verdict in omega arith
 
 pub overflow_add-block-4 : goal.overflow_add-block-4
-overflow_add-block-4 c = let k = ok (goal.at.overflow_add-block-4 c).In_default in omega arith
+overflow_add-block-4 c = let k = ok (goal.at.overflow_add-block-4 c).In_ok-block_verdict in omega arith
 
 pub get-requires-2 : goal.get-requires-2
-get-requires-2 c = let k = ok (goal.at.get-requires-2 c).In_default in omega arith
+get-requires-2 c = let k = ok (goal.at.get-requires-2 c).In_ok-block_verdict in omega arith
 
 pub returns-then-sums_differ : goal.returns-then-sums_differ
 unfolding item_verdict
 returns-then-sums_differ c =
-    goes (passes (goal.at.returns-then-sums_differ c).In_default)
-    (goes (by c.in_default-w.is c.number_verdict-w.ensures) (stop-last (by (sums (goal.at.returns-then-sums_differ c).After-sums_differ) c.if-sums_differ.true)))
+    goes (passes (goal.at.returns-then-sums_differ c).In_ok-block_verdict)
+    (goes c.in_ok-number_verdict.ensures (stop-last (by (sums (goal.at.returns-then-sums_differ c).After-sums_differ) c.if-sums_differ.true)))
 
 pub returns : goal.returns
 unfolding item_verdict
 returns c =
-    goes (passes (goal.at.returns c).In_default)
-    (goes (by c.in_default-w.is c.number_verdict-w.ensures) (on-last _ (by (sums (goal.at.returns c).After-sums_differ) c.if-sums_differ.false)))
+    goes (passes (goal.at.returns c).In_ok-block_verdict)
+    (goes c.in_ok-number_verdict.ensures (on-last _ (by (sums (goal.at.returns c).After-sums_differ) c.if-sums_differ.false)))

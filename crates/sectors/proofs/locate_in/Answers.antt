@@ -1,17 +1,17 @@
 -- `sectors::locate_in` meets its contract. Assumes nothing.
-use mathlib.Core.Path.{sym, ap, ◌∙◌}
-use Rattle.format.specs.Answers.{located}
+use mathlib.Core.Path.{sym}
 use Rattle.format.proofs.Answers.{locate-unopened}
 use Rattle.opening.specs.Answers.{outcome}
+use Rattle.format.proofs.Chains.{early}
 use Rattle.sectors.proofs.locate_in.Goals as goal
 
 pub locate_of-requires : goal.locate_of-requires
 unfolding outcome
-locate_of-requires c = sym c.open-opened.ensures ∙ ap outcome c.in-Opens.is
+locate_of-requires c = sym c.in_ok-t.ensures
 
-pub returns-in-Refused : goal.returns-in-Refused
-unfolding located outcome
-returns-in-Refused c = locate-unopened _ _ _ (ap outcome (sym c.in-Refused.is) ∙ c.open-opened.ensures)
+pub returns-in_err-t : goal.returns-in_err-t
+unfolding outcome
+returns-in_err-t c = early c.from_residual.ensures (locate-unopened _ _ _ (c.in_err-t.ensures))
 
-pub returns-in-Opens : goal.returns-in-Opens
-returns-in-Opens c = c.locate_of.ensures
+pub returns : goal.returns
+returns c = c.locate_of.ensures
