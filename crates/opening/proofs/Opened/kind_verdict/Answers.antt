@@ -1,6 +1,6 @@
--- `opening::kind_verdict` meets its contract. Assumes nothing.
+-- `opening::Opened::kind_verdict` meets its contract. Assumes nothing.
 use Rattle.format.proofs.Chains.{stop-last, on-last, by}
-use Rattle.opening.proofs.kind_verdict.Goals as goal
+use Rattle.opening.proofs.Opened.kind_verdict.Goals as goal
 
 pub returns-then-is_second : goal.returns-then-is_second
 returns-then-is_second c = stop-last (by c.is_second.ensures c.if-is_second.true)

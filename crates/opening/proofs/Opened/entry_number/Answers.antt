@@ -1,4 +1,4 @@
--- `opening::entry_number` meets its contract. Assumes nothing.
+-- `opening::Opened::entry_number` meets its contract. Assumes nothing.
 use mathlib.Core.Path.{◌≡◌}
 use native.Mathlib.Omega.{arith}
 use lib.IntN.{nat_abs}
@@ -9,8 +9,8 @@ use mir.Facts.{to_z-of_z}
 use Rattle.fields.proofs.Signs.{sign-is}
 use Rattle.format.proofs.Numbers.{numbered-at, past-outside, displaced-up, displaced-down, displaced-below}
 use Rattle.opening.specs.Answers.{IsNumbered}
-use Rattle.opening.proofs.entry_number.Goals as goal
-use Rattle.opening.proofs.entry_number.Goals.{After-magnitude-n, After-struct_told-1}
+use Rattle.opening.proofs.Opened.entry_number.Goals as goal
+use Rattle.opening.proofs.Opened.entry_number.Goals.{After-magnitude-n, After-struct_told-1}
 
 address : (c : After-struct_told-1) → SFits w64 c.args.a.0
 address c = search rules

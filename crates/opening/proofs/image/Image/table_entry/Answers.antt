@@ -1,4 +1,4 @@
--- `opening::table_entry` meets its contract. Assumes nothing.
+-- `opening::Image::table_entry` meets its contract. Assumes nothing.
 use mathlib.Core.Path.{◌≡◌}
 use Prim.Native.Nat.{◌+◌, ◌*◌, ◌≤◌}
 use native.Mathlib.Omega.{arith}
@@ -7,23 +7,23 @@ use Rattle.format.specs.declared.TableKind.TheVariants.{First, Second}
 use Rattle.format.specs.Reading.{table_entry}
 use Rattle.opening.specs.Answers.{contents}
 use Rattle.opening.proofs.Accepted.{entry-inside}
-use Rattle.opening.proofs.table_entry.Goals as goal
-use Rattle.opening.proofs.table_entry.Goals.{In-First, In-Second}
+use Rattle.opening.proofs.image.Image.table_entry.Goals as goal
+use Rattle.opening.proofs.image.Image.table_entry.Goals.{In-First, In-Second}
 
 -- the kind, in each arm, and that its entry lies in the image
-first : (c : In-First) → (contents c.args.t).kind ≡ First
+first : (c : In-First) → (contents c.args.self.found).kind ≡ First
 first c = c.in-First.is
 
-second : (c : In-Second) → (contents c.args.t).kind ≡ Second
+second : (c : In-Second) → (contents c.args.self.found).kind ≡ Second
 second c = c.in-Second.is
 
 first-inside : (c : In-First)
-    → let a = c.args in a.t.table.0 + 49 + 8 * a.n.0 + 8 ≤ length a.s.now
-first-inside c = rw (first c) at (entry-inside _ _ c.requires.0 _ c.requires.1)
+    → let a = c.args in a.self.found.table.0 + 49 + 8 * a.n.0 + 8 ≤ length a.self.bytes.now
+first-inside c = rw (first c) at (entry-inside _ _ c.args.self.opens _ c.requires)
 
 second-inside : (c : In-Second)
-    → let a = c.args in a.t.table.0 + 82 + 4 * a.n.0 + 4 ≤ length a.s.now
-second-inside c = rw (second c) at (entry-inside _ _ c.requires.0 _ c.requires.1)
+    → let a = c.args in a.self.found.table.0 + 82 + 4 * a.n.0 + 4 ≤ length a.self.bytes.now
+second-inside c = rw (second c) at (entry-inside _ _ c.args.self.opens _ c.requires)
 
 pub overflow_add-table : goal.overflow_add-table
 overflow_add-table c = let k = first-inside (goal.at.overflow_add-table c).In-First in omega arith

@@ -1,23 +1,23 @@
--- `opening::entry_place` meets its contract. Assumes nothing.
+-- `opening::Opened::entry_place` meets its contract. Assumes nothing.
 use mathlib.Core.Path.{◌≡◌}
 use Prim.Native.Nat.{◌+◌, ◌*◌, ◌^◌, ◌<◌}
 use native.Mathlib.Omega.{arith}
 use Rattle.format.specs.declared.TableKind.TheVariants.{First, Second}
 use Rattle.opening.specs.Answers.{contents}
-use Rattle.opening.proofs.entry_place.Goals as goal
-use Rattle.opening.proofs.entry_place.Goals.{In-First, In-Second}
+use Rattle.opening.proofs.Opened.entry_place.Goals as goal
+use Rattle.opening.proofs.Opened.entry_place.Goals.{In-First, In-Second}
 
 -- the kind, in each arm, and its sum
-first : (c : In-First) → (contents c.args.t).kind ≡ First
+first : (c : In-First) → (contents c.args.self).kind ≡ First
 first c = c.in-First.is
 
-second : (c : In-Second) → (contents c.args.t).kind ≡ Second
+second : (c : In-Second) → (contents c.args.self).kind ≡ Second
 second c = c.in-Second.is
 
-first_fits : (c : In-First) → let a = c.args in a.t.table.0 + 49 + 8 * a.n.0 < 2 ^ 64
+first_fits : (c : In-First) → let a = c.args in a.self.table.0 + 49 + 8 * a.n.0 < 2 ^ 64
 first_fits c = rw (first c) at c.requires
 
-second_fits : (c : In-Second) → let a = c.args in a.t.table.0 + 82 + 4 * a.n.0 < 2 ^ 64
+second_fits : (c : In-Second) → let a = c.args in a.self.table.0 + 82 + 4 * a.n.0 < 2 ^ 64
 second_fits c = rw (second c) at c.requires
 
 pub overflow_add-result : goal.overflow_add-result

@@ -1,4 +1,4 @@
--- `opening::entry_decoded` meets its contract. Assumes nothing.
+-- `opening::Opened::decoded` meets its contract. Assumes nothing.
 use mathlib.Core.Path.{◌≡◌, refl, sym}
 use native.Mathlib.Omega.{arith}
 use Rattle.format.specs.declared.TableKind.TheVariants.{First, Second}
@@ -6,14 +6,14 @@ use Rattle.format.specs.Layouts.{entry_pointer}
 use Rattle.format.proofs.Checks.{first-second}
 use Rattle.opening.specs.Answers.{contents}
 use Rattle.opening.proofs.Wraps.{no_wrap}
-use Rattle.opening.proofs.entry_decoded.Goals as goal
-use Rattle.opening.proofs.entry_decoded.Goals.{In-First, In-Second}
+use Rattle.opening.proofs.Opened.decoded.Goals as goal
+use Rattle.opening.proofs.Opened.decoded.Goals.{In-First, In-Second}
 
 -- the kind, in each arm
-first : (c : In-First) → (contents c.args.t).kind ≡ First
+first : (c : In-First) → (contents c.args.self).kind ≡ First
 first c = c.in-First.is
 
-second : (c : In-Second) → (contents c.args.t).kind ≡ Second
+second : (c : In-Second) → (contents c.args.self).kind ≡ Second
 second c = c.in-Second.is
 
 pub decode-requires : goal.decode-requires

@@ -1,8 +1,8 @@
--- `opening::is_unknown` meets its contract. Assumes nothing.
+-- `opening::Opened::is_unknown` meets its contract. Assumes nothing.
 use Rattle.format.specs.Tests.{differs}
 use Rattle.format.specs.Layouts.{entry_status}
 use Rattle.format.specs.Reading.{unknown}
-use Rattle.opening.proofs.is_unknown.Goals as goal
+use Rattle.opening.proofs.Opened.is_unknown.Goals as goal
 
 pub returns-in-First : goal.returns-in-First
 unfolding unknown differs

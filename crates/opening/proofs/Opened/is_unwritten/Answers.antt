@@ -1,8 +1,8 @@
--- `opening::is_unwritten` meets its contract. Assumes nothing.
+-- `opening::Opened::is_unwritten` meets its contract. Assumes nothing.
 use Rattle.format.specs.Tests.{same}
 use Rattle.format.specs.Layouts.{entry_status}
 use Rattle.format.specs.Reading.{unwritten}
-use Rattle.opening.proofs.is_unwritten.Goals as goal
+use Rattle.opening.proofs.Opened.is_unwritten.Goals as goal
 
 pub returns-in-First : goal.returns-in-First
 unfolding unwritten same

@@ -1,0 +1,46 @@
+// The opened image, as it travels. Its last field says that opening answered so: none is made otherwise.
+ghost use Rattle.std.specs.Prelude.{◌≡◌, ◌<◌, Ok};
+ghost use Rattle.format.specs.Opening.{opening};
+ghost use Rattle.format.specs.Reading.{table_entry, pointer_at};
+ghost use Rattle.opening.specs.Answers.{contents};
+
+use super::Opened;
+use fields::get;
+use format::{
+    EntryNumber, Pointer, SECOND_ENTRY, SECOND_HEADER, TABLE_ENTRY, TABLE_HEADER, TableKind,
+};
+
+// The lent bytes, and what opening found in them.
+#[derive(Clone, Copy)]
+pub struct Image<'a> {
+    pub bytes: &'a [u8],
+    pub found: Opened,
+    ghost opens: { opening bytes.now ≡ Ok (contents found) },
+}
+
+impl<'a> Image<'a> {
+    // The number in table entry n.
+    pub fn table_entry(self, n: EntryNumber) -> u64
+        requires { n.0 < (contents self.found).count }
+        ensures { result ≡ table_entry self.entry.bytes.now (contents self.entry.found) n.0 }
+    {
+        let s = self.bytes;
+        let table = self.found.table;
+        match self.found.kind {
+            TableKind::First => get(s, table.0 + TABLE_HEADER + TABLE_ENTRY * n.0, TABLE_ENTRY),
+            TableKind::Second => get(
+                s,
+                table.0 + SECOND_HEADER + SECOND_ENTRY * n.0,
+                SECOND_ENTRY,
+            ),
+        }
+    }
+
+    // What table entry n encodes.
+    pub fn pointer(self, n: EntryNumber) -> Pointer
+        requires { n.0 < (contents self.found).count }
+        ensures { result ≡ pointer_at self.entry.bytes.now (contents self.entry.found) n.0 }
+    {
+        self.found.decoded(self.table_entry(n))
+    }
+}
