@@ -11,7 +11,7 @@ ghost use Rattle.format.specs.Opening.{is_user_data, offsets_of, open_verdict, o
 ghost use Rattle.format.specs.Reading.{has, pointer_at, block_malformed, block_verdict, item_verdict, pointer_verdict, sector_verdict, address_verdict, pointer_of, place_of, locate, read};
 ghost use Rattle.format.specs.Facts.{BlockOk, ItemOk};
 ghost use Rattle.format.specs.Answers.{bytes_read};
-ghost use Rattle.opening.specs.Answers.{contents, held};
+ghost use Rattle.opening.specs.Images.{held};
 ghost use Rattle.sectors.specs.Found.{Known, is_known};
 
 use fields::{get, part, room};
@@ -19,7 +19,7 @@ use format::{
     ByteOffset, Entry, EntryNumber, INDEX_OFFSET, Place, Pointer, Refusal, SectorAddress,
 };
 use index::{entry, is_user_data};
-use opening::{Image, Opened};
+use opening::Image;
 
 // An address to locate, and a block that is known to be intact, if there is one.
 #[derive(Clone, Copy)]
@@ -166,15 +166,16 @@ pub fn is_known(b: ByteOffset, known: Option<ByteOffset>) -> bool
 }
 
 // What p, whose table entry stands at `place`, points to: checks 22 to 27. Of the block that is known only the item's number is looked at.
-fn pointer_verdict(
-    s: &[u8],
+fn pointer_verdict<'a>(
+    image: Image<'a>,
     place: ByteOffset,
     p: Pointer,
     known: Option<ByteOffset>,
 ) -> Result<(), Refusal>
-    requires { (open_verdict s.now (index_offset s.now) ≡ Ok tt) × Known s.now known }
-    ensures { result ≡ pointer_verdict s.now (entries s.now (index_offset s.now)) place.0 p }
+    requires { Known image.bytes.now known }
+    ensures { result ≡ pointer_verdict image.entry.bytes.now (entries image.entry.bytes.now (index_offset image.entry.bytes.now)) place.0 p }
 {
+    let s = image.bytes;
     let b = p.block;
     if is_known(b, known) {
         return number_verdict(s, p);
@@ -185,38 +186,37 @@ fn pointer_verdict(
     Err(Refusal { number: 22, place })
 }
 
-// The sector of table entry n of the image that opened as t: checks 21 to 27, 73. Its table entry is read once; of the block that is known only the
+// The sector of table entry n: checks 21 to 27, 73. Its table entry is read once; of the block that is known only the
 // item's number is looked at.
-fn find(s: &[u8], t: Opened, n: EntryNumber, known: Option<ByteOffset>) -> Result<Pointer, Refusal>
-    requires { (opening s.now ≡ Ok (contents t)) × (n.0 < (contents t).count) × Known s.now known }
-    ensures { result ≡ answer (sector_verdict s.now (entries s.now (index_offset s.now)) (contents t) n.0) (pointer_at s.now (contents t) n.0) }
+fn find<'a>(image: Image<'a>, n: EntryNumber, known: Option<ByteOffset>) -> Result<Pointer, Refusal>
+    requires { (n.0 < (held image).count) × Known image.bytes.now known }
+    ensures { result ≡ answer (sector_verdict image.entry.bytes.now (entries image.entry.bytes.now (index_offset image.entry.bytes.now)) (held image.entry) n.0) (pointer_at image.entry.bytes.now (held image.entry) n.0) }
 {
     let place = ByteOffset(0);
-    let e = opening::table_entry(s, t, n);
-    if opening::is_unwritten(t, e) {
+    let t = image.found;
+    let e = image.table_entry(n);
+    if t.is_unwritten(e) {
         return Err(Refusal { number: 21, place });
     }
-    if opening::is_unknown(t, e) {
+    if t.is_unknown(e) {
         return Err(Refusal { number: 73, place });
     }
-    let p = opening::entry_decoded(t, e);
-    pointer_verdict(s, opening::entry_place(t, n), p, known)?;
+    let p = t.decoded(e);
+    pointer_verdict(image, t.entry_place(n), p, known)?;
     Ok(p)
 }
 
 // The sector at address a: check 20, and its table entry's.
-fn find_address(
-    s: &[u8],
-    t: Opened,
+fn find_address<'a>(
+    image: Image<'a>,
     a: SectorAddress,
     known: Option<ByteOffset>,
 ) -> Result<Pointer, Refusal>
-    requires { (opening s.now ≡ Ok (contents t)) × Known s.now known }
-    ensures { result ≡ answer (address_verdict s.now (entries s.now (index_offset s.now)) (contents t) a.0) (pointer_of s.now (contents t) a.0) }
+    requires { Known image.bytes.now known }
+    ensures { result ≡ answer (address_verdict image.entry.bytes.now (entries image.entry.bytes.now (index_offset image.entry.bytes.now)) (held image.entry) a.0) (pointer_of image.entry.bytes.now (held image.entry) a.0) }
 {
-    let numbered = opening::entry_number(t, a);
-    match numbered {
-        Some(n) => find(s, t, n, known),
+    match image.found.entry_number(a) {
+        Some(n) => find(image, n, known),
         None => Err(Refusal {
             number: 20,
             place: ByteOffset(0),
@@ -237,50 +237,31 @@ pub fn place(s: &[u8], p: Pointer) -> Place
     Place { start, size }
 }
 
-// Where the sector at an address of the image that opened as t lies. A caller that goes from address to address hands in the block
-// that the last answer left known, so that neighbours in one intact block cost one pass over the index and the block, not one each.
-fn locate_near_at(s: &[u8], t: Opened, v: Visit) -> Near
-    requires { (opening s.now ≡ Ok (contents t)) × Known s.now v.known }
-    ensures { (result.located ≡ locate s.now v.address.0) × Known s.now result.known }
+// Where the sector at an address lies. A caller that goes from address to address hands in the block that the last answer left known, so that
+// neighbours in one intact block cost one pass over the index and the block, not one each.
+pub fn locate_near<'a>(image: Image<'a>, v: Visit) -> Near
+    requires { Known image.bytes.now v.known }
+    ensures { (result.located ≡ locate image.entry.bytes.now v.address.0) × Known image.entry.bytes.now result.known }
 {
     let known = v.known;
-    let f = find_address(s, t, v.address, known);
-    match f {
+    match find_address(image, v.address, known) {
         Err(r) => Near {
             located: Err(r),
             known,
         },
         Ok(p) => Near {
-            located: Ok(place(s, p)),
+            located: Ok(place(image.bytes, p)),
             known: Some(p.block),
         },
     }
 }
 
-// Over an opened image, which it takes apart.
-pub fn locate_near<'a>(image: Image<'a>, v: Visit) -> Near
-    requires { (opening image.bytes.now ≡ Ok (held image)) × Known image.bytes.now v.known }
-    ensures { (result.located ≡ locate image.entry.bytes.now v.address.0) × Known image.entry.bytes.now result.known }
+// Where the sector at address a lies.
+pub fn locate<'a>(image: Image<'a>, a: SectorAddress) -> Result<Place, Refusal>
+    ensures { result ≡ locate image.entry.bytes.now a.0 }
 {
-    locate_near_at(opening::bytes(image), opening::numbers(image), v)
-}
-
-// Makes the opened image and hands it on.
-pub fn locate_near_of(s: &[u8], t: Opened, v: Visit) -> Near
-    requires { (opening s.now ≡ Ok (contents t)) × Known s.now v.known }
-    ensures { (result.located ≡ locate s.now v.address.0) × Known s.now result.known }
-{
-    locate_near(opening::view(s, t), v)
-}
-
-// Where the sector at address a of the image that opened as t lies.
-fn locate_at(s: &[u8], t: Opened, a: SectorAddress) -> Result<Place, Refusal>
-    requires { opening s.now ≡ Ok (contents t) }
-    ensures { result ≡ locate s.now a.0 }
-{
-    let near = locate_near_at(
-        s,
-        t,
+    let near = locate_near(
+        image,
         Visit {
             address: a,
             known: None,
@@ -289,57 +270,20 @@ fn locate_at(s: &[u8], t: Opened, a: SectorAddress) -> Result<Place, Refusal>
     near.located
 }
 
-// Over an opened image, which it takes apart.
-pub fn locate<'a>(image: Image<'a>, a: SectorAddress) -> Result<Place, Refusal>
-    requires { opening image.bytes.now ≡ Ok (held image) }
-    ensures { result ≡ locate image.entry.bytes.now a.0 }
-{
-    locate_at(opening::bytes(image), opening::numbers(image), a)
-}
-
-// Makes the opened image and hands it on.
-pub fn locate_of(s: &[u8], t: Opened, a: SectorAddress) -> Result<Place, Refusal>
-    requires { opening s.now ≡ Ok (contents t) }
-    ensures { result ≡ locate s.now a.0 }
-{
-    locate(opening::view(s, t), a)
-}
-
 // The same of an image that is not opened yet: opening's numbers come first.
 pub fn locate_in(image: &[u8], a: SectorAddress) -> Result<Place, Refusal>
     ensures { result ≡ locate image.now a.0 }
 {
-    let t = opening::open(image)?;
-    locate_of(image, t, a)
+    let opened = opening::open(image)?;
+    locate(opened, a)
 }
 
-// The sector at address a of the image that opened as t: the part that `locate_at` names, and the empty part exactly where it refuses.
-fn read_at<'a>(s: &'a [u8], t: Opened, a: SectorAddress) -> &'a [u8]
-    requires { opening s.now ≡ Ok (contents t) }
-    ensures { result.now ≡ bytes_read (read s.now a.0) }
-{
-    let l = locate_at(s, t, a);
-    match l {
-        Err(_) => part(s, 0, 0),
-        Ok(p) => {
-            let start = p.start;
-            part(s, start.0, p.size)
-        }
-    }
-}
-
-// Over an opened image, which it takes apart; the answer is a part of the lent bytes.
+// The sector at address a: the part of the lent bytes that `locate` names, and the empty part exactly where it refuses.
 pub fn read<'a>(image: Image<'a>, a: SectorAddress) -> &'a [u8]
-    requires { opening image.bytes.now ≡ Ok (held image) }
     ensures { result.now ≡ bytes_read (read image.entry.bytes.now a.0) }
 {
-    read_at(opening::bytes(image), opening::numbers(image), a)
-}
-
-// Makes the opened image and hands it on.
-pub fn read_of<'a>(s: &'a [u8], t: Opened, a: SectorAddress) -> &'a [u8]
-    requires { opening s.now ≡ Ok (contents t) }
-    ensures { result.now ≡ bytes_read (read s.now a.0) }
-{
-    read(opening::view(s, t), a)
+    match locate(image, a) {
+        Err(_) => part(image.bytes, 0, 0),
+        Ok(p) => part(image.bytes, p.start.0, p.size),
+    }
 }

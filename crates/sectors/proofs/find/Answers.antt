@@ -2,23 +2,22 @@
 use mathlib.Core.Path.{◌≡◌}
 use native.Mathlib.Omega.{arith}
 use Rattle.format.specs.Reading.{not_written, unknown_status, pointer_at, sector_verdict}
-use Rattle.format.proofs.Checks.{open-ok}
 use Rattle.format.proofs.Chains.{early, stop, on, refuses, accepts, by}
-use Rattle.opening.specs.Answers.{contents}
-use Rattle.opening.proofs.Accepted.{opens, entry-inside, decodes}
+use Rattle.opening.specs.Images.{held}
+use Rattle.opening.proofs.Accepted.{entry-inside, decodes}
 use Rattle.opening.proofs.Entries.{written_is, status-is, pointer_is}
 use Rattle.sectors.proofs.find.Goals as goal
-use Rattle.sectors.proofs.find.Goals.{After-entry_decoded-p, After-is_unknown, After-is_unwritten}
+use Rattle.sectors.proofs.find.Goals.{After-decoded-p, After-is_unknown, After-is_unwritten}
 
 -- what the entry says
-unwritten : (c : After-is_unwritten) → let a = c.args in c.is_unwritten.result ≡ not_written a.s.now (contents a.t) a.n.0
+unwritten : (c : After-is_unwritten) → let a = c.args in c.is_unwritten.result ≡ not_written a.image.bytes.now (held a.image) a.n.0
 unwritten c = written_is _ _ _ c.table_entry-e.ensures c.is_unwritten.ensures
 
-unknown : (c : After-is_unknown) → let a = c.args in c.is_unknown.result ≡ unknown_status a.s.now (contents a.t) a.n.0
+unknown : (c : After-is_unknown) → let a = c.args in c.is_unknown.result ≡ unknown_status a.image.bytes.now (held a.image) a.n.0
 unknown c = status-is _ _ _ c.table_entry-e.ensures c.is_unknown.ensures
 
-pointer : (c : After-entry_decoded-p) → let a = c.args in c.entry_decoded-p.result ≡ pointer_at a.s.now (contents a.t) a.n.0
-pointer c = pointer_is _ _ _ c.table_entry-e.ensures c.entry_decoded-p.ensures
+pointer : (c : After-decoded-p) → let a = c.args in c.decoded-p.result ≡ pointer_at a.image.bytes.now (held a.image) a.n.0
+pointer c = pointer_is _ _ _ c.table_entry-e.ensures c.decoded-p.ensures
 
 pub returns-then-is_unwritten : goal.returns-then-is_unwritten
 unfolding sector_verdict
@@ -28,14 +27,14 @@ pub returns-then-is_unknown : goal.returns-then-is_unknown
 unfolding sector_verdict
 returns-then-is_unknown c = refuses _ (on _ (by (unwritten (goal.at.returns-then-is_unknown c).After-is_unwritten) c.if-is_unwritten.false) (stop _ (by (unknown (goal.at.returns-then-is_unknown c).After-is_unknown) c.if-is_unknown.true)))
 
-pub entry_decoded-p-requires : goal.entry_decoded-p-requires
-entry_decoded-p-requires c = decodes _ _ c.requires.0
+pub decoded-p-requires : goal.decoded-p-requires
+decoded-p-requires c = decodes _ _ c.args.image.opens
 
 pub entry_place-requires : goal.entry_place-requires
-entry_place-requires c = let p = c.requires in let k = entry-inside _ _ p.0 _ p.1 in omega arith
+entry_place-requires c = let k = entry-inside _ _ c.args.image.opens _ c.requires.0 in omega arith
 
 pub pointer_verdict-requires : goal.pointer_verdict-requires
-pointer_verdict-requires c = let p = c.requires in ((open-ok _ _).1 (opens _ _ p.0), p.2)
+pointer_verdict-requires c = c.requires.1
 
 pub returns-in_err-pointer_verdict : goal.returns-in_err-pointer_verdict
 unfolding sector_verdict
@@ -43,7 +42,7 @@ returns-in_err-pointer_verdict c =
     early c.from_residual.ensures (refuses _
     (on _ (by (unwritten (goal.at.returns-in_err-pointer_verdict c).After-is_unwritten) c.if-is_unwritten.false)
     (on _ (by (unknown (goal.at.returns-in_err-pointer_verdict c).After-is_unknown) c.if-is_unknown.false)
-    (rw (pointer (goal.at.returns-in_err-pointer_verdict c).After-entry_decoded-p, c.entry_place.ensures) at c.in_err-pointer_verdict.ensures))))
+    (rw (pointer (goal.at.returns-in_err-pointer_verdict c).After-decoded-p, c.entry_place.ensures) at c.in_err-pointer_verdict.ensures))))
 
 pub returns : goal.returns
 unfolding sector_verdict
@@ -51,5 +50,5 @@ returns c =
     accepts
     (on _ (by (unwritten (goal.at.returns c).After-is_unwritten) c.if-is_unwritten.false)
     (on _ (by (unknown (goal.at.returns c).After-is_unknown) c.if-is_unknown.false)
-    (rw (pointer (goal.at.returns c).After-entry_decoded-p, c.entry_place.ensures) at c.in_ok-pointer_verdict.ensures)))
-    (pointer (goal.at.returns c).After-entry_decoded-p)
+    (rw (pointer (goal.at.returns c).After-decoded-p, c.entry_place.ensures) at c.in_ok-pointer_verdict.ensures)))
+    (pointer (goal.at.returns c).After-decoded-p)

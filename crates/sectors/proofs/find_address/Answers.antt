@@ -8,18 +8,17 @@ use Rattle.sectors.proofs.find_address.Goals as goal
 pub find-requires : goal.find-requires
 unfolding IsNumbered
 find-requires c =
-    let p = c.requires in
-    let q = subst (IsNumbered _ _) c.in-Some.is c.entry_number-numbered.ensures in
-    (p.0, q.2, p.1)
+    let q = subst (IsNumbered _ _) c.in-Some.is c.entry_number.ensures in
+    (q.2, c.requires)
 
 pub returns-in-Some : goal.returns-in-Some
 unfolding address_verdict pointer_of IsNumbered
 returns-in-Some c =
-    let q = subst (IsNumbered _ _) c.in-Some.is c.entry_number-numbered.ensures in
+    let q = subst (IsNumbered _ _) c.in-Some.is c.entry_number.ensures in
     answers _ _ (on-last _ q.0) (rw q.1 c.find.ensures)
 
 pub returns-in-None : goal.returns-in-None
 unfolding address_verdict IsNumbered
 returns-in-None c =
-    let q = subst (IsNumbered _ _) c.in-None.is c.entry_number-numbered.ensures in
+    let q = subst (IsNumbered _ _) c.in-None.is c.entry_number.ensures in
     refuses _ (stop _ q)

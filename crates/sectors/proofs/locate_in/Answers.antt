@@ -1,17 +1,12 @@
 -- `sectors::locate_in` meets its contract. Assumes nothing.
-use mathlib.Core.Path.{sym}
 use Rattle.format.proofs.Answers.{locate-unopened}
-use Rattle.opening.specs.Answers.{outcome}
 use Rattle.format.proofs.Chains.{early}
+use Rattle.opening.specs.Images.{outcome_of}
 use Rattle.sectors.proofs.locate_in.Goals as goal
 
-pub locate_of-requires : goal.locate_of-requires
-unfolding outcome
-locate_of-requires c = sym c.in_ok-t.ensures
-
-pub returns-in_err-t : goal.returns-in_err-t
-unfolding outcome
-returns-in_err-t c = early c.from_residual.ensures (locate-unopened _ _ _ (c.in_err-t.ensures))
+pub returns-in_err-opened : goal.returns-in_err-opened
+unfolding outcome_of
+returns-in_err-opened c = early c.from_residual.ensures (locate-unopened _ _ _ c.in_err-opened.ensures.opens)
 
 pub returns : goal.returns
-returns c = c.locate_of.ensures
+returns c = rw c.in_ok-opened.ensures.bytes at c.locate.ensures

@@ -4,19 +4,20 @@ use mathlib.Core.Bool.{not}
 use mathlib.Core.Path.{ap, ◌∙◌}
 use Rattle.format.specs.Layouts.{index_offset}
 use Rattle.format.specs.Reading.{pointer_verdict}
-use Rattle.format.proofs.Checks.{OpenOk, open-ok}
+use Rattle.format.proofs.Checks.{OpenOk}
 use Rattle.format.proofs.Tests.{not_iff}
 use Rattle.format.proofs.Chains.{stop, on, by}
+use Rattle.opening.proofs.Accepted.{opens as opened}
 use Rattle.sectors.specs.Found.{Intact}
 use Rattle.sectors.proofs.Known.{known-block, known-verdict}
 use Rattle.sectors.proofs.pointer_verdict.Goals as goal
 use Rattle.sectors.proofs.pointer_verdict.Goals.{Start, Then-is_known}
 
-opens : (c : Start) → OpenOk c.args.s.now (index_offset c.args.s.now)
-opens c = (open-ok _ _).0 c.requires.0
+opens : (c : Start) → OpenOk c.args.image.bytes.now (index_offset c.args.image.bytes.now)
+opens c = opened _ _ c.args.image.opens
 
-known : (c : Then-is_known) → Intact c.args.s.now c.args.p.block.0
-known c = known-block (Intact _) _ _ c.requires.1 (by c.is_known.ensures c.if-is_known.true)
+known : (c : Then-is_known) → Intact c.args.image.bytes.now c.args.p.block.0
+known c = known-block (Intact _) _ _ c.requires (by c.is_known.ensures c.if-is_known.true)
 
 pub number_verdict-requires : goal.number_verdict-requires
 number_verdict-requires c = (known (goal.at.number_verdict-requires c).Then-is_known).block

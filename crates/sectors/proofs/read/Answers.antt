@@ -1,14 +1,14 @@
--- `sectors::read_at` meets its contract. Assumes nothing.
+-- `sectors::read` meets its contract. Assumes nothing.
 use mathlib.Core.Path.{◌≡◌, sym, ap, ◌∙◌}
 use Rattle.std.specs.Prelude.{Ok}
 use Rattle.fields.specs.Bytes.{part}
 use Rattle.format.specs.Reading.{locate}
 use Rattle.format.specs.Demands.{part_at}
 use Rattle.format.proofs.Reading.{read-is-located, located-inside}
-use Rattle.sectors.proofs.read_at.Goals as goal
-use Rattle.sectors.proofs.read_at.Goals.{In-Ok}
+use Rattle.sectors.proofs.read.Goals as goal
+use Rattle.sectors.proofs.read.Goals.{In-Ok}
 
-given : (c : In-Ok) → Ok c.in-Ok.p ≡ locate c.args.s.now c.args.a.0
+given : (c : In-Ok) → Ok c.in-Ok.p ≡ locate c.args.image.bytes.now c.args.a.0
 given c = c.in-Ok.ensures
 
 pub part-requires-in-Ok : goal.part-requires-in-Ok
