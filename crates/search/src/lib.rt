@@ -6,35 +6,36 @@
 
 ghost use Rattle.std.specs.Prelude.{◌≡◌, ◌+◌, ◌*◌, ◌≤◌, ◌<◌, length, drop};
 ghost use Rattle.format.specs.Committing.{on_disc, among_stored, pieces};
-ghost use Rattle.opening.specs.Answers.{contents, held};
+ghost use Rattle.opening.specs.Images.{held};
 ghost use Rattle.search.specs.Found.{Checked, entry_found, item_found, slot_at};
 
 use format::{ByteOffset, EntryNumber, ItemNumber, Place};
-use opening::{Image, Opened};
+use opening::Image;
 
 // What table entry a has: a sector, or nothing. It is read once.
-pub fn slot_at(s: &[u8], t: Opened, a: EntryNumber) -> Option<Place>
-    requires { Checked s.now (contents t) × (a.0 < (contents t).count) }
-    ensures { result ≡ slot_at s.now (contents t) a.0 }
+pub fn slot_at<'a>(image: Image<'a>, a: EntryNumber) -> Option<Place>
+    requires { Checked image.bytes.now (held image) × (a.0 < (held image).count) }
+    ensures { result ≡ slot_at image.entry.bytes.now (held image.entry) a.0 }
 {
-    let e = opening::table_entry(s, t, a);
-    if opening::is_unwritten(t, e) {
+    let e = image.table_entry(a);
+    if image.found.is_unwritten(e) {
         return None;
     }
-    let p = opening::entry_decoded(t, e);
-    Some(sectors::place(s, p))
+    let p = image.found.decoded(e);
+    Some(sectors::place(image.bytes, p))
 }
 
-// The first table entry of the disc that opened as t whose sector holds these bytes, length included.
-pub fn on_disc_at(s: &[u8], t: Opened, sector: &[u8]) -> Option<EntryNumber>
-    requires { Checked s.now (contents t) }
-    ensures { entry_found result ≡ on_disc s.now (contents t) sector.now }
+// The first table entry of the disc whose sector holds these bytes, length included.
+pub fn on_disc<'a, 'b>(image: Image<'a>, sector: &'b [u8]) -> Option<EntryNumber>
+    requires { Checked image.bytes.now (held image) }
+    ensures { entry_found result ≡ on_disc image.entry.bytes.now (held image.entry) sector.now }
 {
+    let s = image.bytes;
     let size = sector.len();
     let mut found = None;
     // an iteration for each table entry, up to the one that is found; within it at most one for each byte, up to the first that differs
-    'search: for a in 0..opening::count(t) {
-        let Some(place) = slot_at(s, t, EntryNumber(a)) else {
+    'search: for a in 0..image.found.count() {
+        let Some(place) = slot_at(image, EntryNumber(a)) else {
             continue 'search;
         };
         if place.size != size as u64 {
@@ -55,22 +56,6 @@ pub fn on_disc_at(s: &[u8], t: Opened, sector: &[u8]) -> Option<EntryNumber>
         }
     }
     found
-}
-
-// Over an opened image, which it takes apart.
-pub fn on_disc<'a, 'b>(image: Image<'a>, sector: &'b [u8]) -> Option<EntryNumber>
-    requires { Checked image.bytes.now (held image) }
-    ensures { entry_found result ≡ on_disc image.entry.bytes.now (held image.entry) sector.now }
-{
-    on_disc_at(opening::bytes(image), opening::numbers(image), sector)
-}
-
-// Makes the opened image and hands it on.
-pub fn on_disc_of(s: &[u8], t: Opened, sector: &[u8]) -> Option<EntryNumber>
-    requires { Checked s.now (contents t) }
-    ensures { entry_found result ≡ on_disc s.now (contents t) sector.now }
-{
-    on_disc(opening::view(s, t), sector)
 }
 
 // The first of the n sectors that stand one after another from `at` on that holds these bytes; each has as many.

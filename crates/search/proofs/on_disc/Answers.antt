@@ -7,8 +7,8 @@ use Rattle.format.proofs.Chains.{by}
 use Rattle.search.specs.Found.{entry_found}
 use Rattle.search.proofs.First.{search-starts, search-goes, search-done, bytes-agree, bytes-differ, bytes-done}
 use Rattle.search.proofs.Disc.{empty-other, size-other, size_same}
-use Rattle.search.proofs.on_disc_at.Goals as goal
-use Rattle.search.proofs.on_disc_at.Goals.{Else-j-size}
+use Rattle.search.proofs.on_disc.Goals as goal
+use Rattle.search.proofs.on_disc.Goals.{Else-j-size}
 
 -- past the test, a byte is left
 short : (c : Else-j-size) → c.loop-j.j < length c.args.sector.now
