@@ -5,14 +5,14 @@
 // that is equal.
 #![tactic(auto)]
 
-ghost use Rattle.std.specs.Prelude.{false, ◌≡◌, ◌+◌, ◌*◌, ◌^◌, ◌≤◌, ◌<◌, max, length};
-ghost use Rattle.format.specs.Opening.{opening};
+ghost use Rattle.std.specs.Prelude.{false, ◌≡◌, ◌+◌, ◌*◌, ◌^◌, ◌≤◌, ◌<◌, length};
 ghost use Rattle.format.specs.Committing.{any_outside, entry_numbers, old_pointer, item_or_zero, shift_for};
 ghost use Rattle.opening.specs.Answers.{contents};
+ghost use Rattle.opening.specs.Images.{held};
 ghost use Rattle.planning.specs.Plans.{is_next, is_new, Commits, plan_for, Looks, looked, looked_at};
 
 use format::{ByteOffset, EntryNumber, ItemNumber};
-use opening::Opened;
+use opening::{Image, Opened};
 
 // What a commit will store: how many sectors, and the largest item number of its table.
 #[derive(Clone, Copy)]
@@ -46,20 +46,20 @@ pub fn is_next(t: Opened, addresses: &[i64], k: usize, n: EntryNumber) -> bool
     if addresses.len() <= k {
         return false;
     }
-    let a = opening::address(t, n);
+    let a = t.address(n);
     addresses[k] == a.0
 }
 
 // The item number that table entry n has, 0 where it is not written. It is read once.
-fn old_item(s: &[u8], t: Opened, n: EntryNumber) -> ItemNumber
-    requires { (opening s.now ≡ Ok (contents t)) × (n.0 < (contents t).count) }
-    ensures { result.0 ≡ item_or_zero (old_pointer s.now (contents t) n.0) }
+fn old_item<'a>(image: Image<'a>, n: EntryNumber) -> ItemNumber
+    requires { n.0 < (held image).count }
+    ensures { result.0 ≡ item_or_zero (old_pointer image.entry.bytes.now (held image.entry) n.0) }
 {
-    let e = opening::table_entry(s, t, n);
-    if opening::is_unwritten(t, e) {
+    let e = image.table_entry(n);
+    if image.found.is_unwritten(e) {
         return ItemNumber(0);
     }
-    let p = opening::entry_decoded(t, e);
+    let p = image.found.decoded(e);
     p.item
 }
 
@@ -73,14 +73,14 @@ pub fn is_new(sectors: &[u8], size: u64, k: u64) -> bool
 }
 
 // The handed-in sector k. One that equals an earlier one adds no item.
-fn look(s: &[u8], t: Opened, size: u64, sectors: &[u8], k: usize, stored: u64) -> Looked
-    requires { Looks s.now (contents t) size sectors.now k stored }
-    ensures { result ≡ looked s.now (contents t) size sectors.now k stored }
+fn look<'a, 'b>(image: Image<'a>, size: u64, sectors: &'b [u8], k: usize, stored: u64) -> Looked
+    requires { Looks image.bytes.now (held image) size sectors.now k stored }
+    ensures { result ≡ looked image.entry.bytes.now (held image.entry) size sectors.now k stored }
 {
     let handed = k as u64;
     let sector = fields::part(sectors, handed * size, size);
-    if let Some(a) = search::on_disc_of(s, t, sector) {
-        let p = opening::pointer_of(s, t, a);
+    if let Some(a) = search::on_disc(image, sector) {
+        let p = image.pointer(a);
         return Looked {
             item: p.item,
             stored,
@@ -102,57 +102,43 @@ fn look(s: &[u8], t: Opened, size: u64, sectors: &[u8], k: usize, stored: u64) -
 }
 
 // Entry a of the new table.
-fn look_at(
-    s: &[u8],
-    t: Opened,
-    addresses: &[i64],
+fn look_at<'a, 'b>(
+    image: Image<'a>,
+    addresses: &'b [i64],
     size: u64,
-    sectors: &[u8],
+    sectors: &'b [u8],
     k: usize,
     a: EntryNumber,
     stored: u64,
 ) -> Looked
-    requires { Commits s.now (contents t) (entry_numbers (contents t) addresses.now) size sectors.now × (any_outside (contents t) addresses.now ≡ false) × (a.0 < (contents t).count) × (stored ≤ k) }
-    ensures { result ≡ looked_at s.now (contents t) (entry_numbers (contents t) addresses.now) size sectors.now k a.0 stored }
+    requires { Commits image.bytes.now (held image) (entry_numbers (held image) addresses.now) size sectors.now × (any_outside (held image) addresses.now ≡ false) × (a.0 < (held image).count) × (stored ≤ k) }
+    ensures { result ≡ looked_at image.entry.bytes.now (held image.entry) (entry_numbers (held image.entry) addresses.now) size sectors.now k a.0 stored }
 {
-    if is_next(t, addresses, k, a) {
-        return look(s, t, size, sectors, k, stored);
+    if is_next(image.found, addresses, k, a) {
+        return look(image, size, sectors, k, stored);
     }
     Looked {
-        item: old_item(s, t, a),
+        item: old_item(image, a),
         stored,
         k,
     }
 }
 
-// The larger of two numbers.
-fn larger(x: u64, y: u64) -> u64
-    ensures { result ≡ max x y }
-{
-    if x < y {
-        return y;
-    }
-    x
-}
-
 // What a commit will store.
-pub fn plan(s: &[u8], t: Opened, addresses: &[i64], size: u64, sectors: &[u8]) -> Planned
-    requires { Commits s.now (contents t) (entry_numbers (contents t) addresses.now) size sectors.now × (any_outside (contents t) addresses.now ≡ false) }
-    ensures { result ≡ plan_for s.now (contents t) (entry_numbers (contents t) addresses.now) size sectors.now }
+pub fn plan<'a, 'b>(image: Image<'a>, addresses: &'b [i64], size: u64, sectors: &'b [u8]) -> Planned
+    requires { Commits image.bytes.now (held image) (entry_numbers (held image) addresses.now) size sectors.now × (any_outside (held image) addresses.now ≡ false) }
+    ensures { result ≡ plan_for image.entry.bytes.now (held image.entry) (entry_numbers (held image.entry) addresses.now) size sectors.now }
 {
-    let count = opening::count(t);
     let mut largest: u64 = 0;
     let mut stored: u64 = 0;
     let mut k: usize = 0;
-    let mut a: u64 = 0;
     // an iteration for each table entry of the disc
-    while a < count {
-        let l = look_at(s, t, addresses, size, sectors, k, EntryNumber(a), stored);
+    for a in 0..image.found.count() {
+        let l = look_at(image, addresses, size, sectors, k, EntryNumber(a), stored);
         let item = l.item;
-        largest = larger(largest, item.0);
+        largest = largest.max(item.0);
         stored = l.stored;
         k = l.k;
-        a += 1;
     }
     Planned {
         stored,

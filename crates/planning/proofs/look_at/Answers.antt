@@ -11,7 +11,7 @@ pub is_next-requires : goal.is_next-requires
 is_next-requires c = let p = c.requires in (p.1, entry-small p.0 p.2)
 
 pub old_item-requires : goal.old_item-requires
-old_item-requires c = let p = c.requires in (p.0.checked.0, p.2)
+old_item-requires c = c.requires.2
 
 pub look-requires : goal.look-requires
 look-requires c =

@@ -7,9 +7,9 @@ use Rattle.planning.proofs.old_item.Goals as goal
 pub returns-then-is_unwritten : goal.returns-then-is_unwritten
 returns-then-is_unwritten c = item-none _ _ _ (written_is _ _ _ c.table_entry-e.ensures c.is_unwritten.ensures) c.if-is_unwritten.true
 
-pub entry_decoded-p-requires : goal.entry_decoded-p-requires
-entry_decoded-p-requires c = decodes _ _ c.requires.0
+pub decoded-p-requires : goal.decoded-p-requires
+decoded-p-requires c = decodes _ _ c.args.image.opens
 
 pub returns : goal.returns
 returns c =
-    item-old _ _ _ (written_is _ _ _ c.table_entry-e.ensures c.is_unwritten.ensures) _ (pointer_is _ _ _ c.table_entry-e.ensures c.entry_decoded-p.ensures) c.if-is_unwritten.false
+    item-old _ _ _ (written_is _ _ _ c.table_entry-e.ensures c.is_unwritten.ensures) _ (pointer_is _ _ _ c.table_entry-e.ensures c.decoded-p.ensures) c.if-is_unwritten.false

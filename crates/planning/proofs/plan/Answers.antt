@@ -11,7 +11,7 @@ look_at-l-requires c =
 
 pub loop-a-preserved : goal.loop-a-preserved
 loop-a-preserved c =
-    plan-goes _ _ _ _ _ c.loop-a.invariant (omega arith) _ _ c.look_at-l.ensures c.larger-largest.ensures
+    plan-goes _ _ _ _ _ c.loop-a.invariant (omega arith) _ _ c.look_at-l.ensures c.max-largest.ensures
 
 pub returns : goal.returns
 returns c = plan-done _ _ _ _ _ c.loop-a.invariant c.requires.0 (omega arith)
