@@ -154,24 +154,26 @@ module _ (buf : List ℕ) (used : ℕ) (t : Opened) (sector : List ℕ) (n : ℕ
   img = take used buf
 
   -- the image is the front of the buffer
+  pub readable : {s : List ℕ} → s ≡ part buf 0 used → opening s ≡ Ok t
+  unfolding part
+  readable e = rw e k.0
+
   on-disc : {s : List ℕ} (r : Option EntryNumber) → s ≡ part buf 0 used → entry_found r ≡ on_disc s t sector → on_disc img t sector ≡ entry_found r
   unfolding part
   on-disc r p e = ap (λ (x : List ℕ). on_disc x t sector) (sym p) ∙ sym e
 
   -- found on the disc; there the pointer is read
-  module _ {s s' : List ℕ} {r : Option EntryNumber} {a : EntryNumber} (es : s ≡ part buf 0 used) (e : entry_found r ≡ on_disc s t sector) (q : r ≡ Some a)
-      (es' : s' ≡ part buf 0 used) where
+  module _ {s : List ℕ} {r : Option EntryNumber} {a : EntryNumber} (es : s ≡ part buf 0 used) (e : entry_found r ≡ on_disc s t sector) (q : r ≡ Some a) where
     at_address : on_disc img t sector ≡ some a.0
     unfolding entry_found
     at_address = on-disc r es e ∙ ap entry_found q
 
-    pub readable : (opening s' ≡ Ok t) × (a.0 < t.count)
-    unfolding part
-    readable = (rw es' k.0, (on_disc-found img t sector a.0 at_address).inside)
+    pub inside-disc : a.0 < t.count
+    inside-disc = (on_disc-found img t sector a.0 at_address).inside
 
-    pub found : {p : Pointer} → p ≡ pointer_at s' t a.0 → Stepped buf buf used (step_in buf used t sector n) (record { pointer = p; stored = n })
+    pub found : {p : Pointer} → p ≡ pointer_at s t a.0 → Stepped buf buf used (step_in buf used t sector n) (record { pointer = p; stored = n })
     unfolding part store_one step_for
-    found {p} ep = stands buf used sector n h p (rw (at_address, ep, es') refl)
+    found {p} ep = stands buf used sector n h p (rw (at_address, ep, es) refl)
 
   -- not found there: as of a sector that no disc holds
   module _ {s : List ℕ} {r : Option EntryNumber} (es : s ≡ part buf 0 used) (e : entry_found r ≡ on_disc s t sector) (q : r ≡ None) where

@@ -10,13 +10,14 @@ ghost use Rattle.format.specs.Layouts.{encode};
 ghost use Rattle.format.specs.Writing.{longest_buffer};
 ghost use Rattle.format.specs.Committing.{any_outside, entry_numbers, old_pointer};
 ghost use Rattle.opening.specs.Answers.{contents};
+ghost use Rattle.opening.specs.Images.{held};
 ghost use Rattle.search.specs.Found.{Checked};
 ghost use Rattle.storing.specs.Stores.{Stores, stored};
 ghost use Rattle.storing.specs.Turns.{entry_of, add_in, step_in, Steps, Stepped, Turns, Turned};
 
 use fields::part;
 use format::{ByteOffset, EntryNumber, ItemNumber, Pointer};
-use opening::Opened;
+use opening::{Image, Opened};
 
 // Where a sector is, and how many are stored with it.
 #[derive(Clone, Copy)]
@@ -70,9 +71,13 @@ fn store(buf: &mut [u8], used: u64, t: Opened, sector: &[u8], stored: u64) -> Ha
     requires { Checked (take used buf.old) (contents t) × Steps buf.old used sector.now (step_in buf.old used (contents t) sector.now stored) }
     ensures { Stepped buf.old buf.new used (step_in buf.old used (contents t) sector.now stored) result }
 {
-    if let Some(a) = search::on_disc_at(part(buf, 0, used), t, sector) {
+    let image = Image {
+        bytes: part(buf, 0, used),
+        found: t,
+    };
+    if let Some(a) = search::on_disc(image, sector) {
         return Handed {
-            pointer: opening::pointer_at(part(buf, 0, used), t, a),
+            pointer: image.pointer(a),
             stored,
         };
     }
@@ -80,15 +85,15 @@ fn store(buf: &mut [u8], used: u64, t: Opened, sector: &[u8], stored: u64) -> Ha
 }
 
 // The entry of an address that is not in the list, number a: what it was, encoded anew. It is read once.
-fn old_entry(s: &[u8], t: Opened, a: EntryNumber, shift: u64) -> u64
-    requires { Checked s.now (contents t) × (length s.now ≤ longest_buffer) × (a.0 < (contents t).count) × (shift ≤ 32) }
-    ensures { result ≡ entry_of shift (old_pointer s.now (contents t) a.0) }
+fn old_entry<'a>(image: Image<'a>, a: EntryNumber, shift: u64) -> u64
+    requires { Checked image.bytes.now (held image) × (length image.bytes.now ≤ longest_buffer) × (a.0 < (held image).count) × (shift ≤ 32) }
+    ensures { result ≡ entry_of shift (old_pointer image.entry.bytes.now (held image.entry) a.0) }
 {
-    let e = opening::table_entry(s, t, a);
-    if opening::is_unwritten(t, e) {
+    let e = image.table_entry(a);
+    if image.found.is_unwritten(e) {
         return 0;
     }
-    encode(shift, opening::entry_decoded(t, e))
+    encode(shift, image.found.decoded(e))
 }
 
 // Entry a of the new table; a sector that is handed in for its address is stored if it has to be.
@@ -116,8 +121,12 @@ fn next_entry(
             k: k + 1,
         };
     }
+    let image = Image {
+        bytes: part(buf, 0, used),
+        found: t,
+    };
     Next {
-        entry: old_entry(part(buf, 0, used), t, a, shift),
+        entry: old_entry(image, a, shift),
         stored,
         k,
     }
@@ -137,12 +146,10 @@ pub fn put_entries(
     requires { Stores buf.old used (contents t) (entry_numbers (contents t) addresses.now) size sectors.now at.0 shift × (any_outside (contents t) addresses.now ≡ false) }
     ensures { buf.new ≡ stored buf.old used (contents t) (entry_numbers (contents t) addresses.now) size sectors.now at.0 shift }
 {
-    let count = opening::count(t);
     let mut stored: u64 = 0;
     let mut k: usize = 0;
-    let mut a: u64 = 0;
     // an iteration for each table entry of the disc
-    while a < count {
+    for a in 0..t.count() {
         let n = next_entry(
             buf,
             used,
@@ -158,6 +165,5 @@ pub fn put_entries(
         fields::put(buf, at.0 + 8 * a, 8, n.entry);
         stored = n.stored;
         k = n.k;
-        a += 1;
     }
 }

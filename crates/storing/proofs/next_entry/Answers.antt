@@ -38,6 +38,9 @@ returns-then-is_next c =
     handed-in c.requires.0 (is-next (goal.at.returns-then-is_next c).After-store-arg-1) c.part.ensures c.store-step.ensures
     c.encode.ensures
 
+pub invariant_of-image : goal.invariant_of-image
+invariant_of-image c = record { opens = (old-readable c.requires.0 (by c.is_next.ensures c.if-is_next.false) c.part-2.ensures).0.0 }
+
 pub old_entry-requires : goal.old_entry-requires
 old_entry-requires c =
     old-readable c.requires.0 (by c.is_next.ensures c.if-is_next.false) c.part-2.ensures

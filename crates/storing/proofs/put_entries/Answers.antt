@@ -7,25 +7,25 @@ loop-a-init c = starts _ _ _ _ _ _ _ _ c.requires.0
 
 pub next_entry-n-requires : goal.next_entry-n-requires
 next_entry-n-requires c =
-    (turns _ _ _ _ _ _ _ _ c.requires.0 c.loop-a.invariant (omega (arith, c.loop-a-test.true, c.count-count.ensures)), c.requires.1)
+    (turns _ _ _ _ _ _ _ _ c.requires.0 c.loop-a.invariant (omega arith), c.requires.1)
 
 pub overflow_mul-a : goal.overflow_mul-a
 overflow_mul-a c =
     let h = c.requires.0 in
-    omega (arith, h.entries, h.short, c.loop-a-test.true, c.count-count.ensures)
+    omega (arith, h.entries, h.short)
 
 pub overflow_add-at : goal.overflow_add-at
 overflow_add-at c =
     let h = c.requires.0 in
-    omega (arith, h.entries, h.short, c.loop-a-test.true, c.count-count.ensures)
+    omega (arith, h.entries, h.short)
 
 pub put-requires : goal.put-requires
 put-requires c =
-    omega (arith, c.requires.0.entries, c.loop-a.invariant.long, c.next_entry-n.auto.buf, c.loop-a-test.true, c.count-count.ensures)
+    omega (arith, c.requires.0.entries, c.loop-a.invariant.long, c.next_entry-n.auto.buf)
 
 pub loop-a-preserved : goal.loop-a-preserved
 loop-a-preserved c =
-    goes _ _ _ _ _ _ _ _ c.requires.0 c.loop-a.invariant (omega (arith, c.loop-a-test.true, c.count-count.ensures))
+    goes _ _ _ _ _ _ _ _ c.requires.0 c.loop-a.invariant (omega arith)
     c.next_entry-n.ensures c.put.ensures
 
 pub shape_of-buf : goal.shape_of-buf
@@ -33,4 +33,4 @@ shape_of-buf c = c.loop-a.invariant.long
 
 pub returns : goal.returns
 returns c =
-    ends _ _ _ _ _ _ _ _ c.requires.0 c.loop-a.invariant (omega (arith, c.loop-a-test.false, c.count-count.ensures))
+    ends _ _ _ _ _ _ _ _ c.requires.0 c.loop-a.invariant (omega arith)

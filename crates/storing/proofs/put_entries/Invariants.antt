@@ -10,4 +10,4 @@ invariant-loop-a l =
     Going l.initial.buf l.used (contents l.t) (entry_numbers (contents l.t) l.addresses) l.size l.sectors l.at.0 l.shift l.buf l.stored l.k l.a
 
 abbrev pub decreases-loop-a : goal.decreases-loop-a
-decreases-loop-a l = l.count - l.a
+decreases-loop-a l = l.t.count - l.a
