@@ -69,11 +69,7 @@ pub fn is_new(sectors: &[u8], size: u64, k: u64) -> bool
     ensures { result ≡ is_new size sectors.now k }
 {
     let sector = fields::part(sectors, k * size, size);
-    let earlier = search::among(sectors, ByteOffset(0), k, sector);
-    if let Some(_) = earlier {
-        return false;
-    }
-    true
+    search::among(sectors, ByteOffset(0), k, sector).is_none()
 }
 
 // The handed-in sector k. One that equals an earlier one adds no item.
@@ -83,12 +79,10 @@ fn look(s: &[u8], t: Opened, size: u64, sectors: &[u8], k: usize, stored: u64) -
 {
     let handed = k as u64;
     let sector = fields::part(sectors, handed * size, size);
-    let old = search::on_disc_of(s, t, sector);
-    if let Some(a) = old {
+    if let Some(a) = search::on_disc_of(s, t, sector) {
         let p = opening::pointer_of(s, t, a);
-        let item = p.item;
         return Looked {
-            item,
+            item: p.item,
             stored,
             k: k + 1,
         };

@@ -7,6 +7,7 @@ use mathlib.Core.Path.{◌≡◌, refl, sym, ap, ◌∙◌}
 use Prim.Native.Nat.{ℕ, ◌+◌, ◌≤◌, ◌<◌}
 use native.Mathlib.Omega.{arith}
 use lib.ListN.{length}
+use Rattle.std.specs.Prelude.{Some, None}
 use Rattle.fields.specs.Bytes.{part, equal}
 use Rattle.fields.proofs.Overwrite.{length_part}
 use Rattle.fields.proofs.Equal.{equal-true}
@@ -22,7 +23,6 @@ use Rattle.format.proofs.Tests.{on-or-off, off_rest, choose-true, choose-false}
 use Rattle.format.proofs.Refusals.{first_refusal-iff}
 use Rattle.format.proofs.Checks.{PointerOk, SectorOk, address-ok, item-inside}
 use Rattle.search.specs.Found.{Checked, slot_at}
-use Rattle.search.specs.declared.Slot.TheVariants as slot
 use Rattle.search.proofs.First.{Searching, Comparing}
 
 -- a written address has a good sector
@@ -35,7 +35,7 @@ sector-good img t a k h w =
 
 -- ---- what an address has, by whether it is written
 module _ (img : List ℕ) (t : Opened) (a : ℕ) {b : Bool} (w : b ≡ not_written img t a) where
-  pub slot-empty : b ≡ true → slot.Empty ≡ slot_at img t a
+  pub slot-empty : b ≡ true → None ≡ slot_at img t a
   unfolding slot_at
   slot-empty y = sym (choose-true _ _ _ (sym w ∙ y))
 
@@ -43,26 +43,26 @@ module _ (img : List ℕ) (t : Opened) (a : ℕ) {b : Bool} (w : b ≡ not_writt
     pub slot-item : Checked img t → a < t.count → PointerOk img p
     slot-item k h = rw e (sector-good img t a k h (sym w ∙ n)).item
 
-    pub slot-sector : (q : Place) → q ≡ place_of img p → slot.Sector q ≡ slot_at img t a
+    pub slot-sector : (q : Place) → q ≡ place_of img p → Some q ≡ slot_at img t a
     unfolding slot_at
-    slot-sector q f = ap slot.Sector f ∙ rw e (sym (choose-false _ _ _ (sym w ∙ n)))
+    slot-sector q f = ap Some f ∙ rw e (sym (choose-false _ _ _ (sym w ∙ n)))
 
-is-empty : (b : Bool) (q : Place) → slot.Empty ≡ choose b slot.Empty (slot.Sector q) → b ≡ true
+is-empty : (b : Bool) (q : Place) → None ≡ choose b None (Some q) → b ≡ true
 unfolding choose
 is-empty true q e = refl
 is-empty false q e = let z : ◌≡◌ {A = ℕ} 0 1 = cc in absurd (omega arith)
 
-is-sector : (b : Bool) (p q : Place) → slot.Sector p ≡ choose b slot.Empty (slot.Sector q) → (b ≡ false) × (q ≡ p)
+is-sector : (b : Bool) (p q : Place) → Some p ≡ choose b None (Some q) → (b ≡ false) × (q ≡ p)
 unfolding choose
 is-sector true p q e = let z : ◌≡◌ {A = ℕ} 0 1 = cc in absurd (omega arith)
 is-sector false p q e = (refl, cc)
 
 module _ (img : List ℕ) (t : Opened) (a : ℕ) where
-  pub slot-gap : slot.Empty ≡ slot_at img t a → not_written img t a ≡ true
+  pub slot-gap : None ≡ slot_at img t a → not_written img t a ≡ true
   unfolding slot_at
   slot-gap e = is-empty _ _ e
 
-  module _ (p : Place) (e : slot.Sector p ≡ slot_at img t a) where
+  module _ (p : Place) (e : Some p ≡ slot_at img t a) where
     pub slot-written : not_written img t a ≡ false
     unfolding slot_at
     slot-written = (is-sector _ _ _ e).0
@@ -78,11 +78,11 @@ module _ (img : List ℕ) (t : Opened) (a : ℕ) where
         rw (← slot-place) (omega (arith, item-inside img _ _ good, good.block.fits))
 
 module _ (img : List ℕ) (t : Opened) (sector : List ℕ) (a : ℕ) where
-  pub empty-other : slot.Empty ≡ slot_at img t a → holds_sector img t sector a ≡ false
+  pub empty-other : None ≡ slot_at img t a → holds_sector img t sector a ≡ false
   unfolding holds_sector ◌and◌
   empty-other e = rw (slot-gap img t a e)
 
-  module _ (p : Place) (k : Checked img t) (h : a < t.count) (e : slot.Sector p ≡ slot_at img t a) where
+  module _ (p : Place) (k : Checked img t) (h : a < t.count) (e : Some p ≡ slot_at img t a) where
     inside : p.start.0 + p.size ≤ length img
     inside = slot-inside img t a p e k h
 

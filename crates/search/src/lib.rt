@@ -12,28 +12,7 @@ ghost use Rattle.search.specs.Found.{Checked, entry_found, item_found, slot_at};
 use format::{ByteOffset, EntryNumber, ItemNumber, Place};
 use opening::{Image, Opened};
 
-// The table entry at which a search ends.
-#[derive(Clone, Copy)]
-pub enum TableEntry {
-    Is(EntryNumber),
-    Missing,
-}
-
-// The item at which a search ends.
-#[derive(Clone, Copy)]
-pub enum Item {
-    Is(ItemNumber),
-    Missing,
-}
-
-// What a table entry of a disc has: nothing, or a sector.
-#[derive(Clone, Copy)]
-pub enum Slot {
-    Empty,
-    Sector(Place),
-}
-
-// What table entry a has. It is read once.
+// What table entry a has: a sector, or nothing. It is read once.
 pub fn slot_at(s: &[u8], t: Opened, a: EntryNumber) -> Option<Place>
     requires { Checked s.now (contents t) × (a.0 < (contents t).count) }
     ensures { result ≡ slot_at s.now (contents t) a.0 }
@@ -55,8 +34,7 @@ pub fn on_disc_at(s: &[u8], t: Opened, sector: &[u8]) -> Option<EntryNumber>
     let mut found = None;
     // an iteration for each table entry, up to the one that is found; within it at most one for each byte, up to the first that differs
     'search: for a in 0..opening::count(t) {
-        let slot = slot_at(s, t, EntryNumber(a));
-        let Some(place) = slot else {
+        let Some(place) = slot_at(s, t, EntryNumber(a)) else {
             continue 'search;
         };
         if place.size != size as u64 {

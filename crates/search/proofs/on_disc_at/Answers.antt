@@ -18,25 +18,25 @@ pub search-init : goal.search-init
 unfolding on_disc
 search-init c = (refl, search-starts _ _ _ refl)
 
-pub slot_at-slot-requires : goal.slot_at-slot-requires
-slot_at-slot-requires c = (c.requires, omega arith)
+pub slot_at-requires : goal.slot_at-requires
+slot_at-requires c = (c.requires, omega arith)
 
 pub search-preserved-in_default : goal.search-preserved-in_default
 search-preserved-in_default c =
-    (c.search.invariant.0, search-goes _ _ _ c.search.invariant.1 (omega arith) (empty-other _ _ _ _ (by c.in_default.is c.slot_at-slot.ensures)))
+    (c.search.invariant.0, search-goes _ _ _ c.search.invariant.1 (omega arith) (empty-other _ _ _ _ (by c.in_default.is c.slot_at.ensures)))
 
 pub search-preserved-then-place-size : goal.search-preserved-then-place-size
 search-preserved-then-place-size c =
-    let p = c.in-Sector.place in (
+    let p = c.in-Some.place in (
       c.search.invariant.0,
       search-goes _ _ _ c.search.invariant.1 (omega arith)
-          (size-other _ _ _ _ p c.requires (omega arith) (by c.in-Sector.is c.slot_at-slot.ensures) c.if-place-size.true),
+          (size-other _ _ _ _ p c.requires (omega arith) (by c.in-Some.is c.slot_at.ensures) c.if-place-size.true),
     )
 
 pub loop-j-init : goal.loop-j-init
 loop-j-init c =
-    let p = c.in-Sector.place in
-    (refl, c.search.invariant.0, size_same _ _ _ _ p c.requires (omega arith) (by c.in-Sector.is c.slot_at-slot.ensures) c.search.invariant.1 c.if-place-size.false)
+    let p = c.in-Some.place in
+    (refl, c.search.invariant.0, size_same _ _ _ _ p c.requires (omega arith) (by c.in-Some.is c.slot_at.ensures) c.search.invariant.1 c.if-place-size.false)
 
 pub search-preserved : goal.search-preserved
 search-preserved c =

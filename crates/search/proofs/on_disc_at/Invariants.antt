@@ -2,22 +2,22 @@
 use mathlib.Core.Path.{◌≡◌}
 use Prim.Native.Nat.{◌-◌}
 use lib.ListN.{length}
+use Rattle.std.specs.Prelude.{None}
 use Rattle.format.specs.Committing.{holds_sector, on_disc}
 use Rattle.opening.specs.Answers.{contents}
-use Rattle.search.specs.declared.TableEntry.TheVariants.{Missing}
 use Rattle.search.proofs.First.{Searching, Comparing}
 use Rattle.search.proofs.on_disc_at.Given as goal
 
 abbrev pub invariant-loop-j : goal.invariant-loop-j
 invariant-loop-j l =
-    (l.a ≡ l.initial.a) × (l.found ≡ Missing) × Comparing (holds_sector l.s (contents l.t) l.sector) l.t.count (on_disc l.s (contents l.t) l.sector) l.s l.sector l.a l.start l.j
+    (l.a ≡ l.initial.a) × (l.found ≡ None) × Comparing (holds_sector l.s (contents l.t) l.sector) l.t.count (on_disc l.s (contents l.t) l.sector) l.s l.sector l.a l.start l.j
 
 abbrev pub decreases-loop-j : goal.decreases-loop-j
 decreases-loop-j l = length l.sector - l.j
 
 abbrev pub invariant-search : goal.invariant-search
 invariant-search l =
-    (l.found ≡ Missing) × Searching (holds_sector l.s (contents l.t) l.sector) l.t.count (on_disc l.s (contents l.t) l.sector) l.a
+    (l.found ≡ None) × Searching (holds_sector l.s (contents l.t) l.sector) l.t.count (on_disc l.s (contents l.t) l.sector) l.a
 
 abbrev pub decreases-search : goal.decreases-search
 decreases-search l = l.t.count - l.a
