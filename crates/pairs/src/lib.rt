@@ -69,8 +69,7 @@ fn parent_sector<'a>(parent: &'a [u8], p: Result<Opened, Refusal>, a: SectorAddr
     let Ok(t) = p else {
         return part(parent, 0, 0);
     };
-    let numbered = opening::entry_number(t, a);
-    match numbered {
+    match opening::entry_number(t, a) {
         None => part(parent, 0, 0),
         Some(n) => entry_sector(parent, t, n),
     }
@@ -113,7 +112,12 @@ pub fn size_of<'a>(child: &'a [u8], t: Opened, parent: &'a [u8], p: Result<Opene
 }
 
 // How many sectors the pair has.
-pub fn count_written<'a>(child: &'a [u8], t: Opened, parent: &'a [u8], p: Result<Opened, Refusal>) -> u64
+pub fn count_written<'a>(
+    child: &'a [u8],
+    t: Opened,
+    parent: &'a [u8],
+    p: Result<Opened, Refusal>,
+) -> u64
     requires { Pair child.now parent.now (contents t) (outcome p) }
     ensures { result ≡ length (written_of child.now parent.now) }
 {
@@ -132,7 +136,13 @@ pub fn count_written<'a>(child: &'a [u8], t: Opened, parent: &'a [u8], p: Result
 }
 
 // Whether a sector of the pair has another size than this.
-fn any_other<'a>(child: &'a [u8], t: Opened, parent: &'a [u8], p: Result<Opened, Refusal>, size: u64) -> bool
+fn any_other<'a>(
+    child: &'a [u8],
+    t: Opened,
+    parent: &'a [u8],
+    p: Result<Opened, Refusal>,
+    size: u64,
+) -> bool
     requires { Pair child.now parent.now (contents t) (outcome p) }
     ensures { result ≡ any_other size (written_of child.now parent.now) }
 {
@@ -200,7 +210,13 @@ fn is_same(x: &[u8], y: &[u8]) -> bool
 }
 
 // Whether no address below n has the same sector. Each comparison ends at the first difference in size or bytes.
-pub fn is_new<'a>(child: &'a [u8], t: Opened, parent: &'a [u8], p: Result<Opened, Refusal>, n: EntryNumber) -> bool
+pub fn is_new<'a>(
+    child: &'a [u8],
+    t: Opened,
+    parent: &'a [u8],
+    p: Result<Opened, Refusal>,
+    n: EntryNumber,
+) -> bool
     requires { Pair child.now parent.now (contents t) (outcome p) × (n.0 < (contents t).count) }
     ensures { result ≡ not (held_below (sector_at child.now parent.now) (sector_at child.now parent.now n.0) n.0) }
 {
