@@ -6,7 +6,7 @@ use Prim.Native.Nat.{ℕ, zero, suc, ◌+◌, ◌≤◌}
 use native.Mathlib.Omega.{arith}
 use lib.ListN.{length}
 use lib.IntN.{ℤ}
-use Rattle.std.specs.Prelude.{Ok, Err}
+use Rattle.std.specs.Prelude.{Ok, Err, IsErrAnd, MatchResult}
 use Rattle.fields.specs.Bytes.{part}
 use Rattle.format.specs.declared.Place.{Place}
 use Rattle.format.specs.declared.Refusal.{Refusal}
@@ -25,13 +25,13 @@ pub small : (img : List ℕ) (a : ℤ) (r : Refusal) → Err r ≡ locate img a 
 small img a r e =
     ⊎_elim (⊎_elim (λ f. omega (arith, f)) (λ f. omega (arith, f))) (⊎_elim (λ f. omega (arith, f)) (λ f. omega (arith, f))) (demand-1-refusals.locating img a r (sym e)).0
 
-pub parent-at : (img : List ℕ) (a : ℤ) (p : Place) → Ok p ≡ locate img a → Ok (record { image = 1; place = p }) ≡ from_parent (in_image 1 (locate img a))
+-- its answer, with the refusal that the pair gives for its own
+pub handed_on : (x y : Answer Place) → MatchResult x (λ (p : Place). y ≡ Ok p) (λ (r : Refusal). IsErrAnd y (λ (q : Refusal). q ≡ parent_refusal r))
+    → in_image 1 y ≡ from_parent (in_image 1 x)
 unfolding from_parent in_image
-parent-at img a p e = ap (λ (x : Answer Place). from_parent (in_image 1 x)) e
-
-pub parent-refused : (img : List ℕ) (a : ℤ) (r q : Refusal) → Err r ≡ locate img a → q ≡ parent_refusal r → Err q ≡ from_parent (in_image 1 (locate img a))
-unfolding from_parent in_image
-parent-refused img a r q e f = ap Err f ∙ ap (λ (x : Answer Place). from_parent (in_image 1 x)) e
+handed_on (Ok p) y e = ap (in_image 1) e
+handed_on (Err r) (Ok p) e = absurd e
+handed_on (Err r) (Err q) e = ap Err e
 
 -- ---- the pair
 module _ (child parent : List ℕ) (a : ℤ) where

@@ -11,26 +11,21 @@ ghost use Rattle.format.specs.Overlaying.{from_parent, in_image, read_over, loca
 ghost use Rattle.format.specs.Answers.{bytes_read};
 
 use fields::part;
-use format::Result<Place, Refusal>;
 pub use format::{Refusal, SectorAddress, Sourced};
 
 // Where the parent's sector at address a lies, or the refusal that the pair gives for its own.
 fn locate_parent(parent: &[u8], a: SectorAddress) -> Result<Sourced, Refusal>
     ensures { result ≡ from_parent (in_image 1 (locate parent.now a.0)) }
 {
-    let l = sectors::locate_in(parent, a);
-    match l {
-        Err(r) => Err(pairs::parent_refusal(r)),
-        Ok(place) => Ok(Sourced { image: 1, place }),
-    }
+    let place = sectors::locate_in(parent, a).map_err(pairs::parent_refusal)?;
+    Ok(Sourced { image: 1, place })
 }
 
 // Where the sector at address a lies: in which image, 0 for the child and 1 for the parent, and where there. Or why it can't be read.
 pub fn locate_over(child: &[u8], parent: &[u8], a: SectorAddress) -> Result<Sourced, Refusal>
     ensures { result ≡ locate_over child.now parent.now a.0 }
 {
-    let l = sectors::locate_in(child, a);
-    match l {
+    match sectors::locate_in(child, a) {
         Ok(place) => Ok(Sourced { image: 0, place }),
         Err(r) => {
             if r.number == 21 {
@@ -53,8 +48,7 @@ pub fn source_over(child: &[u8], parent: &[u8], a: SectorAddress) -> Result<u64,
 pub fn read_over<'a>(child: &'a [u8], parent: &'a [u8], a: SectorAddress) -> &'a [u8]
     ensures { result.now ≡ bytes_read (read_over child.now parent.now a.0) }
 {
-    let l = locate_over(child, parent, a);
-    match l {
+    match locate_over(child, parent, a) {
         Err(_) => part(child, 0, 0),
         Ok(s) => {
             let image = s.image;
