@@ -143,7 +143,12 @@ fn file_refused(size: u64, length: u64) -> bool
 }
 
 // An import's arguments: 31, 30, 42, 33.
-pub fn import_verdict(buffer: &[u8], file: &[u8], size: u64, application: &[u8]) -> Result<(), Refusal>
+pub fn import_verdict(
+    buffer: &[u8],
+    file: &[u8],
+    size: u64,
+    application: &[u8],
+) -> Result<(), Refusal>
     ensures { result ≡ import_verdict buffer.now file.now size application.now }
 {
     let place = ByteOffset(0);

@@ -2,7 +2,8 @@
 use mathlib.Core.Bool.{true, false}
 use mathlib.Core.List.{List, [], ◌∷◌, ◌++◌, flatten}
 use mathlib.Core.Logic.{◌≢◌}
-use mathlib.Core.Option.{Option, none, some}
+use mathlib.Core.Option.{none, some}
+use mathlib.Core.Option as definition
 use mathlib.Core.Path.{◌≡◌, refl, sym, ap, ◌∙◌, subst}
 use Prim.Native.Nat.{ℕ, ◌+◌, ◌*◌, ◌^◌, ◌≤◌, ◌<◌}
 use native.Mathlib.Nat.{suc-mul, mul-le-mul_right}
@@ -10,7 +11,7 @@ use native.Mathlib.Numerals.{add-one}
 use native.Mathlib.Omega.{arith}
 use lib.ListN.{length, take, drop, length-append}
 use lib.Seq.{length-take-le}
-use Rattle.std.specs.Prelude.{Ok}
+use Rattle.std.specs.Prelude.{Option, Some, None, Ok}
 use Rattle.fields.specs.Bytes.{part, overwrite}
 use Rattle.format.specs.declared.ItemNumber.{ItemNumber}
 use Rattle.format.specs.declared.Pointer.{Pointer}
@@ -24,10 +25,6 @@ use Rattle.format.proofs.Lists.{Sized}
 use Rattle.format.proofs.Tests.{choose-true, choose-false}
 use Rattle.format.proofs.Storing.{OnDisc, on_disc-found, length-pieces, Source, old, new, step_ok}
 use Rattle.format.proofs.Appended.{pointer-small}
-use Rattle.search.specs.declared.TableEntry.{TableEntry}
-use Rattle.search.specs.declared.TableEntry.TheVariants as entry
-use Rattle.search.specs.declared.Item.{Item}
-use Rattle.search.specs.declared.Item.TheVariants as item
 use Rattle.search.specs.Found.{Checked, entry_found, item_found}
 use Rattle.search.proofs.Disc.{sector-good}
 use Rattle.storing.specs.declared.Handed.{Handed}
@@ -82,7 +79,7 @@ module _ (block : ℕ) (items : List (List ℕ)) (sector : List ℕ) where
   unfolding store_one step_for
   add-lost img t e = rw (e, nowhere sector) (go (among_stored items sector))
     where
-      go : (v : Option ℕ) → step_for img t block items sector none v ≡ step_for [] no_disc block items sector none v
+      go : (v : definition.Option ℕ) → step_for img t block items sector none v ≡ step_for [] no_disc block items sector none v
       go none = refl
       go (some j) = refl
 
@@ -123,13 +120,13 @@ module _ (buf : List ℕ) (block : ℕ) (sector : List ℕ) (n : ℕ) where
     few = omega (arith, most-items n (length sector) h.pos, inside)
 
     -- found among them
-    pub again : {i : Item} {j : ItemNumber} → item_found i ≡ among_stored items sector → i ≡ item.Is j
+    pub again : {i : Option ItemNumber} {j : ItemNumber} → item_found i ≡ among_stored items sector → i ≡ Some j
         → Stepped buf buf block (add_in buf block sector n) (record { pointer = item_of block j.0; stored = n })
     unfolding item_found
     again {i} {j} f g = stands h (item_of block j.0) (add-again block items sector (sym f ∙ ap item_found g))
 
     -- stored as the next
-    module _ {i : Item} (f : item_found i ≡ among_stored items sector) (g : i ≡ item.Missing) where
+    module _ {i : Option ItemNumber} (f : item_found i ≡ among_stored items sector) (g : i ≡ None) where
       is-new : add_in buf block sector n ≡ record { stored = items ++ (sector ∷ []); pointer = item_of block (length items) }
       unfolding item_found
       is-new = add-new block items sector (sym f ∙ ap item_found g)
@@ -157,12 +154,12 @@ module _ (buf : List ℕ) (used : ℕ) (t : Opened) (sector : List ℕ) (n : ℕ
   img = take used buf
 
   -- the image is the front of the buffer
-  on-disc : {s : List ℕ} (r : TableEntry) → s ≡ part buf 0 used → entry_found r ≡ on_disc s t sector → on_disc img t sector ≡ entry_found r
+  on-disc : {s : List ℕ} (r : Option EntryNumber) → s ≡ part buf 0 used → entry_found r ≡ on_disc s t sector → on_disc img t sector ≡ entry_found r
   unfolding part
   on-disc r p e = ap (λ (x : List ℕ). on_disc x t sector) (sym p) ∙ sym e
 
   -- found on the disc; there the pointer is read
-  module _ {s s' : List ℕ} {r : TableEntry} {a : EntryNumber} (es : s ≡ part buf 0 used) (e : entry_found r ≡ on_disc s t sector) (q : r ≡ entry.Is a)
+  module _ {s s' : List ℕ} {r : Option EntryNumber} {a : EntryNumber} (es : s ≡ part buf 0 used) (e : entry_found r ≡ on_disc s t sector) (q : r ≡ Some a)
       (es' : s' ≡ part buf 0 used) where
     at_address : on_disc img t sector ≡ some a.0
     unfolding entry_found
@@ -177,7 +174,7 @@ module _ (buf : List ℕ) (used : ℕ) (t : Opened) (sector : List ℕ) (n : ℕ
     found {p} ep = stands buf used sector n h p (rw (at_address, ep, es') refl)
 
   -- not found there: as of a sector that no disc holds
-  module _ {s : List ℕ} {r : TableEntry} (es : s ≡ part buf 0 used) (e : entry_found r ≡ on_disc s t sector) (q : r ≡ entry.Missing) where
+  module _ {s : List ℕ} {r : Option EntryNumber} (es : s ≡ part buf 0 used) (e : entry_found r ≡ on_disc s t sector) (q : r ≡ None) where
     lost : step_in buf used t sector n ≡ add_in buf used sector n
     unfolding entry_found
     lost =

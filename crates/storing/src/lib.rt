@@ -50,8 +50,7 @@ pub fn store_among(buf: &mut [u8], block: ByteOffset, sector: &[u8], stored: u64
     ensures { Stepped buf.old buf.new block.0 (add_in buf.old block.0 sector.now stored) result }
 {
     let start = block.0 + 36;
-    let found = search::among(buf, ByteOffset(start), stored, sector);
-    if let Some(item) = found {
+    if let Some(item) = search::among(buf, ByteOffset(start), stored, sector) {
         return Handed {
             pointer: Pointer { block, item },
             stored,
@@ -71,8 +70,7 @@ fn store(buf: &mut [u8], used: u64, t: Opened, sector: &[u8], stored: u64) -> Ha
     requires { Checked (take used buf.old) (contents t) × Steps buf.old used sector.now (step_in buf.old used (contents t) sector.now stored) }
     ensures { Stepped buf.old buf.new used (step_in buf.old used (contents t) sector.now stored) result }
 {
-    let old = search::on_disc_at(part(buf, 0, used), t, sector);
-    if let Some(a) = old {
+    if let Some(a) = search::on_disc_at(part(buf, 0, used), t, sector) {
         return Handed {
             pointer: opening::pointer_at(part(buf, 0, used), t, a),
             stored,

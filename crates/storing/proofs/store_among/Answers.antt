@@ -6,19 +6,19 @@ use Rattle.storing.proofs.Steps.{inside, few, again, room, fresh}
 use Rattle.storing.proofs.store_among.Goals as goal
 use Rattle.storing.proofs.store_among.Goals.{After-copy-arg-1}
 
-pub among-found-requires : goal.among-found-requires
-among-found-requires c = omega (arith, inside _ _ _ _ c.requires)
+pub among-requires : goal.among-requires
+among-requires c = omega (arith, inside _ _ _ _ c.requires)
 
-pub returns-in-Is : goal.returns-in-Is
-returns-in-Is c =
-    again _ _ _ _ c.requires c.among-found.ensures c.in-Is.is
+pub returns-in-Some : goal.returns-in-Some
+returns-in-Some c =
+    again _ _ _ _ c.requires c.among.ensures c.in-Some.is
 
 -- the sector has room behind those that are stored
 fits : (c : After-copy-arg-1)
     → (let s = c.args in
     s.block.0 + 36 + s.stored * length s.sector.now + length s.sector.now ≤ length s.buf.now)
 fits c =
-    room _ _ _ _ c.requires c.among-found.ensures c.in_default.is
+    room _ _ _ _ c.requires c.among.ensures c.in_default.is
 
 pub overflow_mul-stored : goal.overflow_mul-stored
 overflow_mul-stored c = omega (arith, fits (goal.at.overflow_mul-stored c).After-copy-arg-1)
@@ -36,4 +36,4 @@ overflow_add-result c =
 
 pub returns : goal.returns
 returns c =
-    fresh _ _ _ _ c.requires c.among-found.ensures c.in_default.is c.copy.ensures
+    fresh _ _ _ _ c.requires c.among.ensures c.in_default.is c.copy.ensures
