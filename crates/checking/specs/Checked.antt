@@ -1,7 +1,8 @@
 -- The check of all sectors with each block summed once: what is checked at each point, and the first address that it refuses.
 use Prim.{Unit}
-use Rattle.std.specs.Prelude.{Bool, true, false, not, List, ◌≢◌, ◌⊎◌, ◌≡◌, ℕ, ◌/◌, ◌≤◌, ◌<◌, ℤ, pos, neg_ℤ, ◌+ℤ◌, Ok, Err}
+use Rattle.std.specs.Prelude.{Bool, true, false, not, List, ◌≢◌, ◌≡◌, ℕ, ◌/◌, ◌≤◌, ◌<◌, ℤ, pos, neg_ℤ, ◌+ℤ◌, Option, IfSome, Ok, Err}
 use Rattle.crc64.specs.Crc.{crc_of}
+use Rattle.format.specs.declared.ByteOffset.{ByteOffset}
 use Rattle.format.specs.declared.Pointer.{Pointer}
 use Rattle.format.specs.Tests.{below, at_least, ◌and◌, choose}
 use Rattle.format.specs.Refusals.{refusal, row, ◌then◌, Verdict}
@@ -56,10 +57,9 @@ form_verdict img at p =
 unfoldable pub entry_form : List ℕ → Opened → ℕ → Verdict
 entry_form img t n = row (unknown_status img t n) (refusal 73 0) then form_verdict img (table_entry_at t n) (pointer_at img t n)
 
--- what a caller knows of a block: nothing, by 0, or that the index names it and that it passes all checks of a block before that of its
--- checksums
-abbrev pub Formed : List ℕ → ℕ → Type 0
-Formed img b = (b ≡ 0) ⊎ ((has b (indexed img) ≡ true) × BlockOk img b)
+-- what a caller knows of a block, if of one: that the index names it and that it passes all checks of a block before that of its checksums
+abbrev pub Formed : List ℕ → Option ByteOffset → Type 0
+Formed img known = IfSome known (λ (b : ByteOffset). (has b.0 (indexed img) ≡ true) × BlockOk img b.0)
 
 -- a checksum of the block at b is wrong
 abbrev pub wrong_sum : List ℕ → ℕ → Bool

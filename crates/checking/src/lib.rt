@@ -64,8 +64,7 @@ fn is_left(child: &[u8], c: Child, t: Opened, n: EntryNumber) -> bool
     ensures { result ≡ leaves child.now (contents c.opened) c.limit.0 (contents t) n.0 }
 {
     let u = c.opened;
-    let numbered = opening::entry_number(u, opening::address(t, n));
-    match numbered {
+    match opening::entry_number(u, opening::address(t, n)) {
         None => false,
         Some(m) => {
             let limit = c.limit;
@@ -101,8 +100,14 @@ fn is_looked_at(child: &[u8], scope: Scope, t: Opened, n: EntryNumber, e: u64) -
 
 // What p, whose table entry stands at `place`, points to, but for the block's checksums: checks 22 to 26. Of the block that is known only
 // the item's number is looked at.
-fn form_verdict(s: &[u8], t: Opened, place: ByteOffset, p: Pointer, known: ByteOffset) -> Result<(), Refusal>
-    requires { (opening s.now ≡ Ok (contents t)) × Formed s.now known.0 }
+fn form_verdict(
+    s: &[u8],
+    t: Opened,
+    place: ByteOffset,
+    p: Pointer,
+    known: Option<ByteOffset>,
+) -> Result<(), Refusal>
+    requires { (opening s.now ≡ Ok (contents t)) × Formed s.now known }
     ensures { result ≡ form_verdict s.now place.0 p }
 {
     let b = p.block;
@@ -117,8 +122,15 @@ fn form_verdict(s: &[u8], t: Opened, place: ByteOffset, p: Pointer, known: ByteO
 }
 
 // Table entry n, whose number is e, which is written and encodes p, but for its block's checksums: 73, then checks 22 to 26.
-fn entry_form(s: &[u8], t: Opened, n: EntryNumber, e: u64, p: Pointer, known: ByteOffset) -> Result<(), Refusal>
-    requires { (opening s.now ≡ Ok (contents t)) × (n.0 < (contents t).count) × (e ≡ table_entry s.now (contents t) n.0) × (p ≡ pointer_at s.now (contents t) n.0) × Formed s.now known.0 }
+fn entry_form(
+    s: &[u8],
+    t: Opened,
+    n: EntryNumber,
+    e: u64,
+    p: Pointer,
+    known: Option<ByteOffset>,
+) -> Result<(), Refusal>
+    requires { (opening s.now ≡ Ok (contents t)) × (n.0 < (contents t).count) × (e ≡ table_entry s.now (contents t) n.0) × (p ≡ pointer_at s.now (contents t) n.0) × Formed s.now known }
     ensures { result ≡ entry_form s.now (contents t) n.0 }
 {
     if opening::is_unknown(t, e) {
@@ -134,7 +146,7 @@ fn first_form(s: &[u8], t: Opened, child: &[u8], scope: Scope) -> First
     ensures { FirstLeft s.now (contents t) (looked_at s.now (contents t) child.now scope) (indexed s.now) result }
 {
     let count = opening::count(t);
-    let mut known = ByteOffset(0);
+    let mut known: Option<ByteOffset> = None;
     let mut a: u64 = 0;
     // an iteration for each table entry, up to the first that is refused
     while a < count {
@@ -143,14 +155,13 @@ fn first_form(s: &[u8], t: Opened, child: &[u8], scope: Scope) -> First
         let e = opening::table_entry(s, t, here);
         if is_looked_at(child, scope, t, here, e) {
             let p = opening::entry_decoded(t, e);
-            let v = entry_form(s, t, here, e, p, known);
-            if let Err(r) = v {
+            if let Err(r) = entry_form(s, t, here, e, p, known) {
                 return First {
                     number: here,
                     verdict: Err(r),
                 };
             }
-            known = p.block;
+            known = Some(p.block);
         }
     }
     First {
@@ -163,8 +174,7 @@ fn first_form(s: &[u8], t: Opened, child: &[u8], scope: Scope) -> First
 fn is_damaged(s: &[u8], b: ByteOffset) -> bool
     ensures { result ≡ damaged s.now b.0 }
 {
-    let v = sectors::block_verdict(s, b);
-    if let Err(_) = v {
+    if sectors::block_verdict(s, b).is_err() {
         return false;
     }
     let block = b.0;

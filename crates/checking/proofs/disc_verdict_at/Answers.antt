@@ -1,15 +1,15 @@
 -- `checking::disc_verdict_at` meets its contract. Assumes nothing.
 use mathlib.Core.Path.{sym, ◌∙◌}
-use Rattle.format.proofs.Chains.{stop, on, stops, goes, by}
+use Rattle.format.proofs.Chains.{early, stop, on, stops, goes, by}
 use Rattle.checking.proofs.Disc.{disc-opened}
 use Rattle.checking.proofs.disc_verdict_at.Goals as goal
 
-pub returns-in-Refuses : goal.returns-in-Refuses
-returns-in-Refuses c = stops _ (by c.in-Refuses.is c.kind_verdict-v.ensures) ∙ sym (disc-opened _ _ _ c.requires)
+pub returns-in_err-kind_verdict : goal.returns-in_err-kind_verdict
+returns-in_err-kind_verdict c = early c.from_residual.ensures (stops _ c.in_err-kind_verdict.ensures ∙ sym (disc-opened _ _ _ c.requires))
 
 pub returns-then-any_outside : goal.returns-then-any_outside
 returns-then-any_outside c =
-    goes (by c.in_default.is c.kind_verdict-v.ensures) (stop _ (by c.any_outside.ensures c.if-any_outside.true))
+    goes c.in_ok-kind_verdict.ensures (stop _ (by c.any_outside.ensures c.if-any_outside.true))
     ∙ sym (disc-opened _ _ _ c.requires)
 
 pub sectors_verdict-requires : goal.sectors_verdict-requires
@@ -17,6 +17,6 @@ sectors_verdict-requires c = c.requires
 
 pub returns : goal.returns
 returns c =
-    goes (by c.in_default.is c.kind_verdict-v.ensures)
+    goes c.in_ok-kind_verdict.ensures
     (on _ (by c.any_outside.ensures c.if-any_outside.false) c.sectors_verdict.ensures)
     ∙ sym (disc-opened _ _ _ c.requires)

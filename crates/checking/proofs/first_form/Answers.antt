@@ -1,7 +1,7 @@
 use native.Mathlib.Omega.{arith}
 use borrow.Author.Count.{below_more}
-use mathlib.Core.Logic.{inl, inr}
-use mathlib.Core.Path.{◌≡◌, refl, sym, ◌∙◌}
+use Prim.{tt}
+use mathlib.Core.Path.{◌≡◌, sym, ◌∙◌}
 use Rattle.format.proofs.Chains.{by}
 use Rattle.opening.specs.Answers.{contents}
 use Rattle.opening.proofs.Accepted.{few, decodes}
@@ -11,10 +11,10 @@ use Rattle.checking.proofs.Firsts.{first-at, first-none}
 use Rattle.checking.proofs.Forms.{entry-form-ok, passed_over, form-only}
 use Rattle.checking.proofs.Scopes.{looked-is}
 use Rattle.checking.proofs.first_form.Goals as goal
-use Rattle.checking.proofs.first_form.Goals.{After-entry_form-v, After-is_looked_at}
+use Rattle.checking.proofs.first_form.Goals.{After-entry_form, After-is_looked_at}
 
 pub loop-a-init : goal.loop-a-init
-loop-a-init c = (omega arith, (λ i l. absurd (omega arith)), inl refl)
+loop-a-init c = (omega arith, (λ i l. absurd (omega arith)), tt)
 
 pub table_entry-e-requires : goal.table_entry-e-requires
 table_entry-e-requires c = (c.requires.0, omega arith)
@@ -27,8 +27,8 @@ is_looked_at-requires c =
 pub entry_decoded-p-requires : goal.entry_decoded-p-requires
 entry_decoded-p-requires c = decodes _ _ c.requires.0
 
-pub entry_form-v-requires : goal.entry_form-v-requires
-entry_form-v-requires c =
+pub entry_form-requires : goal.entry_form-requires
+entry_form-requires c =
     let e = c.table_entry-e.ensures in
     (c.requires.0, omega arith, e, pointer_is _ _ _ e c.entry_decoded-p.ensures, c.loop-a.invariant.2)
 
@@ -39,23 +39,23 @@ looks : (c : After-is_looked_at)
 looks c = looked-is _ _ _ _ _ c.table_entry-e.ensures c.is_looked_at.ensures
 
 -- an address that is looked at, by its form
-form-is : (c : After-entry_form-v)
+form-is : (c : After-entry_form)
     → let r = c.args in
-    looked_verdict r.s.now (contents r.t) (looked_at r.s.now (contents r.t) r.child.now r.scope) (indexed r.s.now) c.loop-a.a ≡ c.entry_form-v.result
+    looked_verdict r.s.now (contents r.t) (looked_at r.s.now (contents r.t) r.child.now r.scope) (indexed r.s.now) c.loop-a.a ≡ c.entry_form.result
 form-is c =
     let l = looked-is _ _ _ _ _ c.table_entry-e.ensures c.is_looked_at.ensures in
-    form-only _ _ _ _ (by l c.if-is_looked_at.true) ∙ sym c.entry_form-v.ensures
+    form-only _ _ _ _ (by l c.if-is_looked_at.true) ∙ sym c.entry_form.ensures
 
-pub returns-in-Refuses : goal.returns-in-Refuses
-returns-in-Refuses c =
-    first-at _ _ _ _ (omega arith) c.loop-a.invariant.1 (form-is (goal.at.returns-in-Refuses c).After-entry_form-v ∙ c.in-Refuses.is)
+pub returns-in-Err : goal.returns-in-Err
+returns-in-Err c =
+    first-at _ _ _ _ (omega arith) c.loop-a.invariant.1 (form-is (goal.at.returns-in-Err c).After-entry_form ∙ c.in-Err.is)
 
 pub loop-a-preserved-then-is_looked_at : goal.loop-a-preserved-then-is_looked_at
 loop-a-preserved-then-is_looked_at c =
-    let ok = entry-form-ok _ _ _ (sym (by c.in_default.is c.entry_form-v.ensures)) in (
+    let ok = entry-form-ok _ _ _ (sym (by c.in_default.is c.entry_form.ensures)) in (
       omega arith,
-      below_more _ _ c.loop-a.invariant.1 (form-is (goal.at.loop-a-preserved-then-is_looked_at c).After-entry_form-v ∙ c.in_default.is),
-      inr (rw (pointer_is _ _ _ c.table_entry-e.ensures c.entry_decoded-p.ensures) ok),
+      below_more _ _ c.loop-a.invariant.1 (form-is (goal.at.loop-a-preserved-then-is_looked_at c).After-entry_form ∙ c.in_default.is),
+      rw (pointer_is _ _ _ c.table_entry-e.ensures c.entry_decoded-p.ensures) ok,
     )
 
 pub loop-a-preserved : goal.loop-a-preserved

@@ -8,7 +8,7 @@ use Rattle.checking.proofs.first_form.Given as goal
 
 abbrev pub invariant-loop-a : goal.invariant-loop-a
 invariant-loop-a l =
-    (l.a ≤ (contents l.t).count) × ((i : ℕ) → i < l.a → looked_verdict l.s (contents l.t) (looked_at l.s (contents l.t) l.child l.scope) (indexed l.s) i ≡ Ok tt) × Formed l.s l.known.0
+    (l.a ≤ (contents l.t).count) × ((i : ℕ) → i < l.a → looked_verdict l.s (contents l.t) (looked_at l.s (contents l.t) l.child l.scope) (indexed l.s) i ≡ Ok tt) × Formed l.s l.known
 
 abbrev pub decreases-loop-a : goal.decreases-loop-a
 decreases-loop-a l = (contents l.t).count - l.a

@@ -7,7 +7,7 @@ use Rattle.format.specs.Reading.{has}
 use Rattle.format.specs.Facts.{BlockOk}
 use Rattle.format.proofs.Checks.{OpenOk, block-ok}
 use Rattle.format.proofs.Tests.{not_iff}
-use Rattle.format.proofs.Chains.{stop, on, stops, goes, by}
+use Rattle.format.proofs.Chains.{early, stop, on, stops, goes, by}
 use Rattle.opening.proofs.Accepted.{opens}
 use Rattle.sectors.proofs.Known.{known-block}
 use Rattle.checking.specs.Checked.{indexed, form_verdict}
@@ -40,20 +40,20 @@ pub is_indexed-requires : goal.is_indexed-requires
 unfolding index_offset
 is_indexed-requires c = rw c.get.ensures (ok (goal.at.is_indexed-requires c).Start).index.fits
 
-pub returns-in-Refuses : goal.returns-in-Refuses
+pub returns-in_err-block_verdict : goal.returns-in_err-block_verdict
 unfolding form_verdict index_offset
-returns-in-Refuses c =
-    on _ (not_iff.1 (rw c.get.ensures at (by c.is_indexed.ensures c.if-is_indexed.true)))
-    (stops _ (by c.in-Refuses.is c.block_verdict-v.ensures))
+returns-in_err-block_verdict c =
+    early c.from_residual.ensures (on _ (not_iff.1 (rw c.get.ensures at (by c.is_indexed.ensures c.if-is_indexed.true)))
+    (stops _ c.in_err-block_verdict.ensures))
 
 pub number_verdict-requires-then-is_indexed : goal.number_verdict-requires-then-is_indexed
-number_verdict-requires-then-is_indexed c = (block-ok _ _).0 (sym (by c.in_default.is c.block_verdict-v.ensures))
+number_verdict-requires-then-is_indexed c = (block-ok _ _).0 (sym c.in_ok-block_verdict.ensures)
 
 pub returns-then-is_indexed : goal.returns-then-is_indexed
 unfolding form_verdict index_offset
 returns-then-is_indexed c =
     on _ (not_iff.1 (rw c.get.ensures at (by c.is_indexed.ensures c.if-is_indexed.true)))
-    (goes (by c.in_default.is c.block_verdict-v.ensures) c.number_verdict-then-is_indexed.ensures)
+    (goes c.in_ok-block_verdict.ensures c.number_verdict-then-is_indexed.ensures)
 
 pub returns : goal.returns
 unfolding form_verdict index_offset

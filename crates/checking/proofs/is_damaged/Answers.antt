@@ -2,44 +2,42 @@
 use native.Mathlib.Omega.{arith}
 use mathlib.Core.Path.{sym}
 use Rattle.format.specs.Facts.{BlockOk}
-use Rattle.format.proofs.Checks.{block-ok}
-use Rattle.format.proofs.Chains.{by}
-use Rattle.checking.proofs.Forms.{damaged-refused, damaged-passed}
+use Rattle.checking.proofs.Forms.{well_formed, damaged-refused, damaged-passed}
 use Rattle.checking.proofs.is_damaged.Goals as goal
-use Rattle.checking.proofs.is_damaged.Goals.{In_default}
+use Rattle.checking.proofs.is_damaged.Goals.{Else-is_err}
 
-ok : (c : In_default) → BlockOk c.args.s.now c.args.b.0
-ok c = (block-ok _ _).0 (sym (by c.in_default.is c.block_verdict-v.ensures))
+ok : (c : Else-is_err) → BlockOk c.args.s.now c.args.b.0
+ok c = well_formed _ _ (rw c.block_verdict.ensures at (sym c.if-is_err.ensures.value))
 
-pub returns-in-Refuses : goal.returns-in-Refuses
-returns-in-Refuses c = damaged-refused _ _ _ (by c.in-Refuses.is c.block_verdict-v.ensures)
+pub returns-then-is_err : goal.returns-then-is_err
+returns-then-is_err c = damaged-refused _ _ (rw c.block_verdict.ensures at (sym c.if-is_err.ensures.value))
 
 pub overflow_add-block : goal.overflow_add-block
-overflow_add-block c = let k = ok (goal.at.overflow_add-block c).In_default in omega arith
+overflow_add-block c = let k = ok (goal.at.overflow_add-block c).Else-is_err in omega arith
 
 pub overflow_add-block-2 : goal.overflow_add-block-2
-overflow_add-block-2 c = let k = ok (goal.at.overflow_add-block-2 c).In_default in omega arith
+overflow_add-block-2 c = let k = ok (goal.at.overflow_add-block-2 c).Else-is_err in omega arith
 
 pub get-requires : goal.get-requires
-get-requires c = let k = ok (goal.at.get-requires c).In_default in omega arith
+get-requires c = let k = ok (goal.at.get-requires c).Else-is_err in omega arith
 
 pub part-requires : goal.part-requires
-part-requires c = let k = ok (goal.at.part-requires c).In_default in omega arith
+part-requires c = let k = ok (goal.at.part-requires c).Else-is_err in omega arith
 
 pub overflow_add-block-3 : goal.overflow_add-block-3
-overflow_add-block-3 c = let k = ok (goal.at.overflow_add-block-3 c).In_default in omega arith
+overflow_add-block-3 c = let k = ok (goal.at.overflow_add-block-3 c).Else-is_err in omega arith
 
 pub get-requires-2 : goal.get-requires-2
-get-requires-2 c = let k = ok (goal.at.get-requires-2 c).In_default in omega arith
+get-requires-2 c = let k = ok (goal.at.get-requires-2 c).Else-is_err in omega arith
 
 pub overflow_add-block-4 : goal.overflow_add-block-4
-overflow_add-block-4 c = let k = ok (goal.at.overflow_add-block-4 c).In_default in omega arith
+overflow_add-block-4 c = let k = ok (goal.at.overflow_add-block-4 c).Else-is_err in omega arith
 
 pub get-requires-3 : goal.get-requires-3
-get-requires-3 c = let k = ok (goal.at.get-requires-3 c).In_default in omega arith
+get-requires-3 c = let k = ok (goal.at.get-requires-3 c).Else-is_err in omega arith
 
 pub returns : goal.returns
 returns c =
-    damaged-passed _ _ (ok (goal.at.returns c).In_default)
+    damaged-passed _ _ (ok (goal.at.returns c).Else-is_err)
     (rw (c.part.ensures, c.get-2.ensures, c.get-3.ensures, c.get.ensures)
     at c.sums_differ.ensures)

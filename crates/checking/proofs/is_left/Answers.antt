@@ -1,34 +1,34 @@
 -- `checking::is_left` meets its contract. Assumes nothing.
 use mathlib.Core.Bool.{false}
-use mathlib.Core.Path.{◌≡◌, subst}
+use mathlib.Core.Path.{◌≡◌}
 use Prim.Native.Nat.{◌<◌}
 use Rattle.format.specs.Reading.{outside, entry_number}
 use Rattle.opening.specs.Answers.{contents, IsNumbered}
 use Rattle.checking.proofs.Scopes.{not_there, past-limit, left_is}
 use Rattle.checking.proofs.is_left.Goals as goal
-use Rattle.checking.proofs.is_left.Goals.{In-At}
+use Rattle.checking.proofs.is_left.Goals.{In-Some}
 
 -- the child's table entry of the address
-there : (c : In-At)
+there : (c : In-Some)
     → let u = contents c.args.c.opened in
     let a = c.address.result.0 in
-    let m = c.in-At.m in
+    let m = c.in-Some.m in
     (outside u a ≡ false) × (entry_number u a ≡ m.0) × (m.0 < u.count)
 unfolding IsNumbered
-there c = subst (IsNumbered _ _) c.in-At.is c.entry_number-numbered.ensures
+there c = c.in-Some.ensures
 
 pub table_entry-requires : goal.table_entry-requires
 table_entry-requires c =
-    (c.requires.0, (there (goal.at.table_entry-requires c).In-At).2)
+    (c.requires.0, (there (goal.at.table_entry-requires c).In-Some).2)
 
 pub returns-then-m-limit : goal.returns-then-m-limit
 returns-then-m-limit c =
-    left_is _ _ _ _ _ c.address.ensures (there (goal.at.returns-then-m-limit c).In-At) c.if-m-limit.true c.table_entry.ensures c.is_unwritten.ensures
+    left_is _ _ _ _ _ c.address.ensures (there (goal.at.returns-then-m-limit c).In-Some) c.if-m-limit.true c.table_entry.ensures c.is_unwritten.ensures
 
-pub returns-in-Outside : goal.returns-in-Outside
+pub returns-in-None : goal.returns-in-None
 unfolding IsNumbered
-returns-in-Outside c = not_there _ _ _ _ _ c.address.ensures (subst (IsNumbered _ _) c.in-Outside.is c.entry_number-numbered.ensures)
+returns-in-None c = not_there _ _ _ _ _ c.address.ensures c.in-None.ensures
 
 pub returns-else-m-limit : goal.returns-else-m-limit
 returns-else-m-limit c =
-    past-limit _ _ _ _ _ c.address.ensures (there (goal.at.returns-else-m-limit c).In-At) c.if-m-limit.false
+    past-limit _ _ _ _ _ c.address.ensures (there (goal.at.returns-else-m-limit c).In-Some) c.if-m-limit.false
