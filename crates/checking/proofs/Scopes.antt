@@ -12,10 +12,10 @@ use Rattle.opening.proofs.Entries.{written_is}
 use Rattle.checking.specs.declared.Scope.{Scope}
 use Rattle.checking.specs.Checked.{address_of, leaves, in_scope, looked_at}
 
-pub looked-is : (img : List ℕ) (t : Opened) (child : List ℕ) (scope : Scope) (n : ℕ) {e : ℕ} {r : Bool} → e ≡ table_entry img t n
-    → r ≡ (not (unwritten t.kind e) and in_scope child scope t n) → r ≡ looked_at img t child scope n
+pub looked-is : (img : List ℕ) (t : Opened) (scope : Scope) (n : ℕ) {e : ℕ} {r : Bool} → e ≡ table_entry img t n
+    → r ≡ (not (unwritten t.kind e) and in_scope scope t n) → r ≡ looked_at img t scope n
 unfolding looked_at
-looked-is img t child scope n is h = h ∙ ap (λ (w : Bool). not w and in_scope child scope t n) (written_is img t n is refl)
+looked-is img t scope n is h = h ∙ ap (λ (w : Bool). not w and in_scope scope t n) (written_is img t n is refl)
 
 -- ---- what a child leaves to its parent, by the address of the parent's table entry
 module _ (child : List ℕ) (u : Opened) (limit : ℕ) (t : Opened) (n : ℕ) {a : ℤ} (is : a ≡ address_of t n) where

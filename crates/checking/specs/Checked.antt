@@ -1,5 +1,4 @@
 -- The check of all sectors with each block summed once: what is checked at each point, and the first address that it refuses.
-use Prim.{Unit}
 use Rattle.std.specs.Prelude.{Bool, true, false, not, List, ◌≢◌, ◌≡◌, ℕ, ◌/◌, ◌≤◌, ◌<◌, ℤ, pos, neg_ℤ, ◌+ℤ◌, Option, IfSome, Ok, Err}
 use Rattle.crc64.specs.Crc.{crc_of}
 use Rattle.format.specs.declared.ByteOffset.{ByteOffset}
@@ -7,11 +6,11 @@ use Rattle.format.specs.declared.Pointer.{Pointer}
 use Rattle.format.specs.Tests.{below, at_least, ◌and◌, choose}
 use Rattle.format.specs.Refusals.{refusal, row, ◌then◌, Verdict}
 use Rattle.format.specs.Layouts.{DBLK, index_offset, entries, entries_from, sector_size, block_length, block_cmp_crc64, block_crc64, block_payload}
-use Rattle.format.specs.Opening.{sums_differ, offsets_of, Opened, opening}
+use Rattle.format.specs.Opening.{sums_differ, offsets_of, Opened}
 use Rattle.format.specs.Reading.{outside, entry_number, table_entry_at, not_written, unknown_status, pointer_at, has, block_verdict, sector_verdict}
 use Rattle.format.specs.Committing.{other_than_21}
 use Rattle.format.specs.Facts.{BlockOk}
-use Rattle.opening.specs.Answers.{contents}
+use Rattle.opening.specs.Images.{held}
 use Rattle.checking.specs.declared.First.{First}
 use Rattle.checking.specs.declared.Scope.{Scope}
 use Rattle.checking.specs.declared.Scope.TheVariants as scope
@@ -27,18 +26,13 @@ leaves child u limit t n =
     let a = address_of t n in not (outside u a) and below (entry_number u a) limit and not_written child u (entry_number u a)
 
 -- table entry n is in the scope
-unfoldable pub in_scope : List ℕ → Scope → Opened → ℕ → Bool
-in_scope child scope.All t n = true
-in_scope child (scope.Gaps c) t n = leaves child (contents c.opened) c.limit.0 t n
-
--- the child is the one that opened so
-unfoldable pub Lent : List ℕ → Scope → Type 0
-Lent child scope.All = Unit {0}
-Lent child (scope.Gaps c) = opening child ≡ Ok (contents c.opened)
+unfoldable pub in_scope : Scope → Opened → ℕ → Bool
+in_scope scope.All t n = true
+in_scope (scope.Gaps c) t n = leaves c.image.bytes.now (held c.image) c.limit.0 t n
 
 -- it is written and in the scope
-unfoldable pub looked_at : List ℕ → Opened → List ℕ → Scope → ℕ → Bool
-looked_at img t child scope n = not (not_written img t n) and in_scope child scope t n
+unfoldable pub looked_at : List ℕ → Opened → Scope → ℕ → Bool
+looked_at img t scope n = not (not_written img t n) and in_scope scope t n
 
 -- ---- what is checked of one
 -- the blocks that the index names

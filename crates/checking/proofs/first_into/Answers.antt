@@ -5,54 +5,53 @@ use Rattle.format.specs.declared.Pointer.{Pointer}
 use Rattle.format.specs.Reading.{pointer_at}
 use Rattle.format.proofs.Tests.{never}
 use Rattle.format.proofs.Chains.{by}
-use Rattle.opening.specs.Answers.{contents}
+use Rattle.opening.specs.Images.{held}
 use Rattle.opening.proofs.Accepted.{few, decodes}
 use Rattle.opening.proofs.Entries.{pointer_is}
 use Rattle.checking.specs.Checked.{looked_at}
 use Rattle.checking.proofs.Looked.{found, stays}
 use Rattle.checking.proofs.Scopes.{looked-is}
 use Rattle.checking.proofs.first_into.Goals as goal
-use Rattle.checking.proofs.first_into.Goals.{After-entry_decoded-p, After-is_looked_at}
+use Rattle.checking.proofs.first_into.Goals.{After-decoded-p, After-is_looked_at}
 
 pub loop-a-init : goal.loop-a-init
 loop-a-init c = (omega arith, λ i l. absurd (omega arith))
 
 pub table_entry-e-requires : goal.table_entry-e-requires
-table_entry-e-requires c = let k = c.requires in (k.0, omega (arith, k.2))
+table_entry-e-requires c = omega (arith, c.requires.0)
 
 pub is_looked_at-requires : goal.is_looked_at-requires
 is_looked_at-requires c =
-    let k = c.requires in
-    let f = few _ _ k.0 in (k.1, omega (arith, f, k.2))
+    let f = few _ _ c.args.image.opens in omega (arith, f, c.requires.0)
 
-pub entry_decoded-p-requires : goal.entry_decoded-p-requires
-entry_decoded-p-requires c = decodes _ _ c.requires.0
+pub decoded-p-requires : goal.decoded-p-requires
+decoded-p-requires c = decodes _ _ c.args.image.opens
 
 -- whether it is looked at, and where it points
 looks : (c : After-is_looked_at)
     → let r = c.args in
-    c.is_looked_at.result ≡ looked_at r.s.now (contents r.t) r.child.now r.scope c.loop-a.a
-looks c = looked-is _ _ _ _ _ c.table_entry-e.ensures c.is_looked_at.ensures
+    c.is_looked_at.result ≡ looked_at r.image.bytes.now (held r.image) r.scope c.loop-a.a
+looks c = looked-is _ _ _ _ c.table_entry-e.ensures c.is_looked_at.ensures
 
-block-is : (c : After-entry_decoded-p)
+block-is : (c : After-decoded-p)
     → let r = c.args in
-    c.entry_decoded-p.result.block.0 ≡ (pointer_at r.s.now (contents r.t) c.loop-a.a).block.0
-block-is c = ap (λ (q : Pointer). q.block.0) (pointer_is _ _ _ c.table_entry-e.ensures c.entry_decoded-p.ensures)
+    c.decoded-p.result.block.0 ≡ (pointer_at r.image.bytes.now (held r.image) c.loop-a.a).block.0
+block-is c = ap (λ (q : Pointer). q.block.0) (pointer_is _ _ _ c.table_entry-e.ensures c.decoded-p.ensures)
 
 pub returns-then-block-b : goal.returns-then-block-b
 returns-then-block-b c left h f =
-    found _ _ _ _ _ c.requires.3 h f _ (omega arith)
-    (by (looks (goal.at.returns-then-block-b c).After-is_looked_at) c.if-is_looked_at.true, by (block-is (goal.at.returns-then-block-b c).After-entry_decoded-p) c.if-block-b.true)
+    found _ _ _ _ _ c.requires.1 h f _ (omega arith)
+    (by (looks (goal.at.returns-then-block-b c).After-is_looked_at) c.if-not-is_looked_at.false, by (block-is (goal.at.returns-then-block-b c).After-decoded-p) c.if-block-b.true)
     c.loop-a.invariant.1
 
-pub loop-a-preserved-else-block-b : goal.loop-a-preserved-else-block-b
-loop-a-preserved-else-block-b c =
-    (omega arith, below_more _ _ c.loop-a.invariant.1 (λ i. c.if-block-b.false (block-is (goal.at.loop-a-preserved-else-block-b c).After-entry_decoded-p ∙ i.1)))
-
 pub loop-a-preserved : goal.loop-a-preserved
-loop-a-preserved c = (
+loop-a-preserved c =
+    (omega arith, below_more _ _ c.loop-a.invariant.1 (λ i. c.if-block-b.false (block-is (goal.at.loop-a-preserved c).After-decoded-p ∙ i.1)))
+
+pub loop-a-preserved-then-not-is_looked_at : goal.loop-a-preserved-then-not-is_looked_at
+loop-a-preserved-then-not-is_looked_at c = (
   omega arith,
-  below_more _ _ c.loop-a.invariant.1 (λ i. never i.0 (by (looks (goal.at.loop-a-preserved c).After-is_looked_at) c.if-is_looked_at.false)),
+  below_more _ _ c.loop-a.invariant.1 (λ i. never i.0 (by (looks (goal.at.loop-a-preserved-then-not-is_looked_at c).After-is_looked_at) c.if-not-is_looked_at.true)),
 )
 
 pub returns : goal.returns

@@ -8,8 +8,8 @@ use Rattle.checking.proofs.Whole.{all-looked-at}
 use Rattle.checking.proofs.first_within.Goals as goal
 use Rattle.checking.proofs.first_within.Goals.{Start}
 
-ok : (c : Start) → OpenOk c.args.s.now (index_offset c.args.s.now)
-ok c = opens _ _ c.requires.0
+ok : (c : Start) → OpenOk c.args.image.bytes.now (index_offset c.args.image.bytes.now)
+ok c = opens _ _ c.args.image.opens
 
 pub get-index-requires : goal.get-index-requires
 get-index-requires c = let k = (ok (goal.at.get-index-requires c).Start).header in omega arith
@@ -35,7 +35,7 @@ loop-left-init c = (
 
 pub with_block-first-requires : goal.with_block-first-requires
 with_block-first-requires c =
-    let k = c.requires in (k.0, k.1, c.loop-left-test.true, c.loop-left.invariant.0, c.loop-left.invariant.1)
+    (c.loop-left-test.true, c.loop-left.invariant.0, c.loop-left.invariant.1)
 
 pub loop-left-preserved : goal.loop-left-preserved
 loop-left-preserved c = (omega arith, c.with_block-first.ensures)

@@ -14,15 +14,15 @@ use Rattle.checking.specs.Checked.{indexed, form_verdict}
 use Rattle.checking.proofs.form_verdict.Goals as goal
 use Rattle.checking.proofs.form_verdict.Goals.{Start, Then-is_known}
 
-ok : (c : Start) → OpenOk c.args.s.now (index_offset c.args.s.now)
-ok c = opens _ _ c.requires.0
+ok : (c : Start) → OpenOk c.args.image.bytes.now (index_offset c.args.image.bytes.now)
+ok c = opens _ _ c.args.image.opens
 
 -- the block that is known
 known : (c : Then-is_known) → let a = c.args in
-    (has a.p.block.0 (indexed a.s.now) ≡ true) × BlockOk a.s.now a.p.block.0
+    (has a.p.block.0 (indexed a.image.bytes.now) ≡ true) × BlockOk a.image.bytes.now a.p.block.0
 known c =
-    let s = c.args.s.now in
-    known-block (λ b. (has b (indexed s) ≡ true) × BlockOk s b) _ _ c.requires.1 (by c.is_known.ensures c.if-is_known.true)
+    let s = c.args.image.bytes.now in
+    known-block (λ b. (has b (indexed s) ≡ true) × BlockOk s b) _ _ c.requires (by c.is_known.ensures c.if-is_known.true)
 
 pub number_verdict-requires : goal.number_verdict-requires
 number_verdict-requires c = (known (goal.at.number_verdict-requires c).Then-is_known).1

@@ -3,14 +3,15 @@ use mathlib.Core.Bool.{false}
 use mathlib.Core.Path.{◌≡◌}
 use Prim.Native.Nat.{◌<◌}
 use Rattle.format.specs.Reading.{outside, entry_number}
-use Rattle.opening.specs.Answers.{contents, IsNumbered}
+use Rattle.opening.specs.Answers.{IsNumbered}
+use Rattle.opening.specs.Images.{held}
 use Rattle.checking.proofs.Scopes.{not_there, past-limit, left_is}
 use Rattle.checking.proofs.is_left.Goals as goal
 use Rattle.checking.proofs.is_left.Goals.{In-Some}
 
 -- the child's table entry of the address
 there : (c : In-Some)
-    → let u = contents c.args.c.opened in
+    → let u = held c.args.c.image in
     let a = c.address.result.0 in
     let m = c.in-Some.m in
     (outside u a ≡ false) × (entry_number u a ≡ m.0) × (m.0 < u.count)
@@ -19,7 +20,7 @@ there c = c.in-Some.ensures
 
 pub table_entry-requires : goal.table_entry-requires
 table_entry-requires c =
-    (c.requires.0, (there (goal.at.table_entry-requires c).In-Some).2)
+    (there (goal.at.table_entry-requires c).In-Some).2
 
 pub returns-then-m-limit : goal.returns-then-m-limit
 returns-then-m-limit c =

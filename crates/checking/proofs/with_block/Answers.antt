@@ -9,7 +9,7 @@ use Rattle.format.specs.Layouts.{DBLK, entry_length, entry_at, entries_from}
 use Rattle.format.specs.Opening.{is_user_data, offsets_of}
 use Rattle.format.proofs.Tests.{not_iff, and-iff}
 use Rattle.format.proofs.Chains.{by}
-use Rattle.opening.specs.Answers.{contents}
+use Rattle.opening.specs.Images.{held}
 use Rattle.checking.specs.Checked.{looked_at, FirstLeft}
 use Rattle.checking.proofs.Looked.{not-marked, other-entry, block-entry}
 use Rattle.checking.proofs.with_block.Goals as goal
@@ -17,19 +17,19 @@ use Rattle.checking.proofs.with_block.Goals.{After-is_user_data}
 
 -- what the entry is for
 kind : (c : After-is_user_data)
-    → c.is_user_data.result ≡ is_user_data DBLK (entry_at c.args.s.now c.args.p.0)
+    → c.is_user_data.result ≡ is_user_data DBLK (entry_at c.args.image.bytes.now c.args.p.0)
 kind c = rw c.entry-e.ensures at c.is_user_data.ensures
 
 -- its block is the next to be looked at
 next : (c : After-is_user_data) → c.is_user_data.result ≡ true
     → let a = c.args in
-    FirstLeft a.s.now (contents a.t) (looked_at a.s.now (contents a.t) a.child.now a.scope) (c.entry-e.result.offset.0 ∷ offsets_of DBLK (entries_from a.s.now (a.left - 1) (a.p.0 + entry_length))) a.first
+    FirstLeft a.image.bytes.now (held a.image) (looked_at a.image.bytes.now (held a.image) a.scope) (c.entry-e.result.offset.0 ∷ offsets_of DBLK (entries_from a.image.bytes.now (a.left - 1) (a.p.0 + entry_length))) a.first
 next c e =
     let k = c.requires in
-    rw c.entry-e.ensures (block-entry _ _ _ _ _ k.2 k.4 (by (kind c) e))
+    rw c.entry-e.ensures (block-entry _ _ _ _ _ k.0 k.2 (by (kind c) e))
 
 pub returns-then-not-is_user_data : goal.returns-then-not-is_user_data
-returns-then-not-is_user_data c = let k = c.requires in other-entry _ _ _ _ _ k.2 k.4 (by (kind (goal.at.returns-then-not-is_user_data c).After-is_user_data) c.if-not-is_user_data.true)
+returns-then-not-is_user_data c = let k = c.requires in other-entry _ _ _ _ _ k.0 k.2 (by (kind (goal.at.returns-then-not-is_user_data c).After-is_user_data) c.if-not-is_user_data.true)
 
 pub returns-then-names : goal.returns-then-names
 returns-then-names c =
@@ -38,7 +38,7 @@ returns-then-names c =
 pub first_into-requires : goal.first_into-requires
 first_into-requires c =
     let k = c.requires in
-    (k.0, k.1, k.4.within, by c.is_damaged.ensures c.if-is_damaged.true)
+    (k.2.within, by c.is_damaged.ensures c.if-is_damaged.true)
 
 pub returns-then-is_damaged : goal.returns-then-is_damaged
 returns-then-is_damaged c =
