@@ -4,7 +4,7 @@
 
 ghost use Rattle.std.specs.Prelude.{◌≤◌, length, IfOk};
 
-use format::{AddressRange, Refusal, SectorAddress};
+use format::{AddressRange, Place, Refusal, SectorAddress};
 use std::io;
 
 pub mod input;
