@@ -7,7 +7,7 @@ use Prim.Native.Nat.{ℕ, ◌+◌, ◌≤◌, ◌<◌}
 use native.Mathlib.Nat.{eq-or-lt_of_le}
 use native.Mathlib.Omega.{arith}
 use lib.IntN.{pos}
-use Rattle.std.specs.Prelude.{Ok, Err}
+use Rattle.std.specs.Prelude.{Ok, Err, IsErrAnd, MatchResult}
 use Rattle.format.specs.declared.Entry.{Entry}
 use Rattle.format.specs.declared.Refusal.{Refusal}
 use Rattle.format.specs.declared.TableKind.TheVariants.{First as first_kind}
@@ -65,6 +65,18 @@ parent-passed (Err r) h =
 outside-passed : other_than_21 (parent_verdict (Err (refusal 20 0))) ≡ Ok tt
 unfolding parent_verdict
 outside-passed = ap (λ (q : Refusal). other_than_21 (Err q)) (parent-20 (refusal 20 0) refl) ∙ as_passed (refusal 21 0) refl
+
+-- ---- a verdict of the parent's, with its refusal as the pair gives it
+abbrev HandedOn : Verdict → Verdict → Type 0
+HandedOn v w = MatchResult v (λ x. w ≡ Ok x) (λ (r : Refusal). IsErrAnd w (λ (q : Refusal). q ≡ parent_refusal r))
+
+handed-refusal : (v : Verdict) (q : Refusal) → HandedOn v (Err q) → (r : Refusal) × (v ≡ Err r) × (q ≡ parent_refusal r)
+handed-refusal (Ok tt) q h = absurd (not-passes h)
+handed-refusal (Err r) q h = (r, refl, h)
+
+handed-pass : (v : Verdict) → HandedOn v (Ok tt) → v ≡ Ok tt
+handed-pass (Ok tt) h = refl
+handed-pass (Err r) h = absurd h
 
 -- ---- the child is opened as t, whose addresses are its table entries' numbers
 module _ (child parent : List ℕ) (t : Opened) (e : opening child ≡ Ok t) (kind : t.kind ≡ first_kind) where
@@ -175,13 +187,17 @@ module _ (child parent : List ℕ) (t : Opened) (e : opening child ≡ Ok t) (ki
         pub found-added : Added r
         found-added = sector-added parent parent_es u m r found.2 found.3
 
-        pub left-refused : Err (parent_refusal r) ≡ pair_verdict child parent
+        left-refused : Err (parent_refusal r) ≡ pair_verdict child parent
         left-refused =
             let (l, w, s, d) = found in
             let n = entry_number t (address_of u m) in
             let (up, b, g) = left-on t flat child own.number.0 u m w in
             parent-first n r b g (read-entry parent u q (pos n) m (numbered-up u n m up l) ∙ s) found-added (λ i k. passed-below i (omega arith) (λ z. omega arith))
 
-      pub none-refused : other.verdict ≡ Ok tt → own.verdict ≡ pair_verdict child parent
-      none-refused v =
+      pub left-handed : (q : Refusal) → HandedOn other.verdict (Err q) → Err q ≡ pair_verdict child parent
+      left-handed q h = let (r, v, k) = handed-refusal other.verdict q h in ap Err k ∙ left-refused r v
+
+      pub none-refused : HandedOn other.verdict (Ok tt) → own.verdict ≡ pair_verdict child parent
+      none-refused h =
+          let v = handed-pass other.verdict h in
           own_first (λ n l. passed-below n l (λ k. ⊎_elim (λ z. omega arith) (λ z. absurd ((f.here z).1 v)) (eq-or-lt_of_le f.within)))

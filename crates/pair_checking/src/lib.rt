@@ -10,12 +10,17 @@ ghost use Rattle.format.specs.Opening.{opening};
 ghost use Rattle.format.specs.Flattening.{pair_verdict};
 ghost use Rattle.opening.specs.Answers.{contents, outcome};
 
-use format::Result<(), Refusal>;
+use format::Refusal;
 use opening::Opened;
 
 // All sectors of the pair: the first refusal other than 21. It is the child's first one, unless the parent refuses a sector at a lower address that the
 // child has not written. As both tables rise with the addresses, the parent's first one is that of the lowest such address.
-pub fn pair_verdict(child: &[u8], t: Opened, parent: &[u8], p: Result<Opened, Refusal>) -> Result<(), Refusal>
+pub fn pair_verdict(
+    child: &[u8],
+    t: Opened,
+    parent: &[u8],
+    p: Result<Opened, Refusal>,
+) -> Result<(), Refusal>
     requires { (opening child.now ≡ Ok (contents t)) × ((contents t).kind ≡ First) × (opening parent.now ≡ outcome p) }
     ensures { result ≡ pair_verdict child.now parent.now }
 {
@@ -26,18 +31,13 @@ pub fn pair_verdict(child: &[u8], t: Opened, parent: &[u8], p: Result<Opened, Re
             let gap = checking::first_unwritten(child, t, own);
             let here = gap.number;
             if here.0 < limit.0 {
-                let unopened = pairs::parent_refusal(r);
-                return Err(unopened);
+                return Err(pairs::parent_refusal(r));
             }
             own.verdict
         }
         Ok(u) => {
             let other = checking::first_left(parent, u, child, t, limit);
-            let v = other.verdict;
-            if let Err(r) = v {
-                let lower = pairs::parent_refusal(r);
-                return Err(lower);
-            }
+            other.verdict.map_err(pairs::parent_refusal)?;
             own.verdict
         }
     }
