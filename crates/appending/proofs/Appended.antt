@@ -10,20 +10,19 @@ use native.Mathlib.Omega.{arith}
 use lib.ListN.{length, take, length-append}
 use lib.IntN.{ℤ}
 use lib.Seq.{length-take-le}
-use Rattle.std.specs.Prelude.{Ok}
+use Rattle.std.specs.Prelude.{Ok, Err}
 use Rattle.fields.specs.Bytes.{part, overwrite}
 use Rattle.fields.proofs.Overwrite.{length-overwrite, take-overwrite}
 use Rattle.format.specs.declared.Placed.{Placed}
 use Rattle.format.specs.declared.Pointer.{Pointer}
 use Rattle.format.specs.declared.TableKind.TheVariants.{First}
 use Rattle.format.specs.Lists.{All, done, more}
-use Rattle.format.specs.declared.Updated.TheVariants as update
 use Rattle.format.specs.Layouts.{header_length, index_offset, entry_count, entries, index_bytes, entry_length, block_header_length, table_header_length, table_header, table_bytes, table_entry_length}
 use Rattle.format.specs.Refusals.{refusal}
 use Rattle.format.specs.Opening.{Opened, opened}
 use Rattle.format.specs.Writing.{most_addresses, longest_buffer, placed, set_header}
 use Rattle.format.specs.Committing.{any_outside, entry_numbers, sectors_verdict, pieces, Stored, stored_for, pointers_for, largest_item, shift_for, new_block, new_block_entry, new_table, kept_entries, Appended, table_start, index_start, used_after, appended_for, appended, appended_bytes, append, commit_verdict, commit}
-use Rattle.format.specs.Answers.{updated, answered}
+use Rattle.format.specs.Answers.{answered}
 use Rattle.format.proofs.Tests.{below_true, below-iff, or-iff}
 use Rattle.format.proofs.Chains.{stop-last, on-last, goes}
 use Rattle.format.proofs.Answers.{outcome-stops, outcome-done}
@@ -282,8 +281,8 @@ module _ (buf : List ℕ) (used : ℕ) (t : Opened) (addresses : List ℤ) (size
       (e₃ ∙ ap (λ n. set_header b₂ n time) (sym index-start))
 
   -- ---- what the commit answers
-  no_room : (time : ℕ) → length buf < at.end → answered (updated (update.Refused (refusal 35 0))) buf ≡ commit buf used addresses size sectors time
-  unfolding commit append commit_verdict updated
+  no_room : (time : ℕ) → length buf < at.end → answered (Err (refusal 35 0)) buf ≡ commit buf used addresses size sectors time
+  unfolding commit append commit_verdict
   no_room time h =
       rw opened-as
       (outcome-stops buf _ _
@@ -291,8 +290,8 @@ module _ (buf : List ℕ) (used : ℕ) (t : Opened) (addresses : List ℤ) (size
 
   accepted-commit : (time : ℕ) {p : Placed} {after : List ℕ} → at.end ≤ length buf → p ≡ placed at.end at.index.0
       → after ≡ set_header (overwrite buf used (appended_bytes added)) (index_start used added) time
-      → answered (updated (update.To p)) after ≡ commit buf used addresses size sectors time
-  unfolding commit append commit_verdict updated
+      → answered (Ok p) after ≡ commit buf used addresses size sectors time
+  unfolding commit append commit_verdict
   accepted-commit time h e f =
       rw opened-as
       (outcome-done buf (goes (sym passed.arguments) (goes (sym passed.disc) (on-last _ (below-iff.1 (omega (arith, used-after))))))
@@ -309,7 +308,7 @@ module _ {buf : List ℕ} {used : ℕ} {t : Opened} {addresses : List ℤ} {size
   planned-few = rw stored-planned (items-few buf used t addresses size sectors passed)
 
   pub refused-35 : {place : Layout} (time : ℕ) → place ≡ layout_for (take used buf) t size plan.stored → length buf < place.end
-      → answered (updated (update.Refused (refusal 35 0))) buf ≡ commit buf used addresses size sectors time
+      → answered (Err (refusal 35 0)) buf ≡ commit buf used addresses size sectors time
   refused-35 time e h =
       no_room buf used t addresses size sectors passed time (rw (ap (λ (l : Layout). l.end) (e ∙ ap (layout_for (take used buf) t size) stored-planned)) at h)
 
@@ -360,6 +359,6 @@ module _ {buf : List ℕ} {used : ℕ} {t : Opened} {addresses : List ℤ} {size
   pub fits-answers : (time : ℕ) {after : List ℕ}
       → after ≡ set_header (overwrite buf used (appended_bytes (appended (take used buf) (index_offset (take used buf)) (entry_numbers t addresses) size sectors)))
       (index_start used (appended (take used buf) (index_offset (take used buf)) (entry_numbers t addresses) size sectors)) time
-      → answered (updated (update.To (placed place.end place.index.0))) after ≡ commit buf used addresses size sectors time
+      → answered (Ok (placed place.end place.index.0)) after ≡ commit buf used addresses size sectors time
   fits-answers time e =
       accepted-commit buf used t addresses size sectors f.passed time room (ap (λ (l : Layout). placed l.end l.index.0) place_is) e
