@@ -10,9 +10,8 @@ ghost use Rattle.format.specs.Committing.{commit};
 ghost use Rattle.format.specs.RollingBack.{rollback};
 ghost use Rattle.format.specs.Answers.{bytes_read, answered};
 
-pub use format::{AddressRange, ByteOffset, Place, Placed, Refusal, SectorAddress};
 use format::CREATED_ENTRIES;
-use opening::Result<Opened, Refusal>;
+pub use format::{AddressRange, ByteOffset, Place, Placed, Refusal, SectorAddress};
 
 // How many sectors the image has and which address is the lowest, or why it does not open: 1 to 14, 70 to 72.
 pub fn sector_count(image: &[u8]) -> Result<AddressRange, Refusal>
@@ -34,8 +33,7 @@ pub fn locate(image: &[u8], a: SectorAddress) -> Result<Place, Refusal>
 pub fn read<'a>(image: &'a [u8], a: SectorAddress) -> &'a [u8]
     ensures { result.now ≡ bytes_read (read image.now a.0) }
 {
-    let opened = opening::open(image);
-    match opened {
+    match opening::open(image) {
         Err(_) => fields::part(image, 0, 0),
         Ok(t) => sectors::read_of(image, t, a),
     }
@@ -99,7 +97,12 @@ pub fn commit(
 // Makes the index at `offset` the disc's: where a creation or a commit answered that offset, the disc reads as right after that call. Or
 // says why it can't: 31, 32, 1 to 3, then opening's other numbers with this offset in place of the header's, 74. It sets the header's
 // indexOffset and lastWrittenTime alone. The answer is `used` and the offset. Linear in the index's and the table's bytes.
-pub fn rollback(buffer: &mut [u8], used: u64, offset: ByteOffset, time: u64) -> Result<Placed, Refusal>
+pub fn rollback(
+    buffer: &mut [u8],
+    used: u64,
+    offset: ByteOffset,
+    time: u64,
+) -> Result<Placed, Refusal>
     ensures { answered result buffer.new ≡ rollback buffer.old used offset.0 time }
 {
     arguments::buffer_verdict(buffer, used)?;

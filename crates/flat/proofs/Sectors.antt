@@ -8,7 +8,7 @@ use native.Mathlib.Nat.{sub-zero, zero-mul, mul-zero, suc-mul, mul-le-mul_right,
 use native.Mathlib.Numerals.{add-one}
 use native.Mathlib.Omega.{arith}
 use lib.ListN.{length, replicate}
-use Rattle.std.specs.Prelude.{Ok, Err}
+use Rattle.std.specs.Prelude.{Some, None, Ok, Err}
 use Rattle.fields.specs.Bytes.{part, overwrite}
 use Rattle.fields.proofs.Steps.{sub-step, sub-done}
 use Rattle.fields.proofs.Overwrite.{length-overwrite, overwrite-then, overwrite-nil}
@@ -26,7 +26,6 @@ use Rattle.format.proofs.Refusals.{row-refuses, row-passes, first_refusal-iff}
 use Rattle.format.proofs.Checks.{AddressOk, address-ok}
 use Rattle.format.proofs.Exporting.{SizeOk, size_ok, piece-length, file-length}
 use Rattle.opening.proofs.Accepted.{opened-is}
-use Rattle.search.specs.declared.Slot.TheVariants as slot
 use Rattle.search.specs.Found.{slot_at}
 use Rattle.search.proofs.Disc.{slot-gap, slot-written, slot-place, slot-inside}
 use Rattle.flat.specs.Exports.{Uniform}
@@ -44,10 +43,10 @@ module _ (img : List ℕ) (t : Opened) where
         ap (λ k. choose (not_written img t n) (size_from img t (t.count - (n + 1)) k) (size_at img t n)) (add-one n)
         ∙ sym (ap (λ k. size_from img t k n) (sub-step n t.count h)) ∙ g
 
-    pub sizing-goes : n < t.count → slot.Empty ≡ slot_at img t n → size_from img t (t.count - (n + 1)) (n + 1) ≡ flat_size img t
+    pub sizing-goes : n < t.count → None ≡ slot_at img t n → size_from img t (t.count - (n + 1)) (n + 1) ≡ flat_size img t
     sizing-goes h e = sym (choose-true _ _ _ (slot-gap img t n e)) ∙ next h
 
-    pub sizing-found : n < t.count → {p : Place} → slot.Sector p ≡ slot_at img t n → p.size ≡ flat_size img t
+    pub sizing-found : n < t.count → {p : Place} → Some p ≡ slot_at img t n → p.size ≡ flat_size img t
     unfolding size_at
     sizing-found h {p} e = ap (λ (q : Place). q.size) (sym (slot-place img t n p e)) ∙ sym (choose-false _ _ _ (slot-written img t n p e)) ∙ next h
 
@@ -57,10 +56,10 @@ module _ (img : List ℕ) (t : Opened) where
 
 -- ---- 40: all written ones have it
 module _ (img : List ℕ) (t : Opened) (n : ℕ) where
-  pub size-gap : slot.Empty ≡ slot_at img t n → size_verdict img t n ≡ Ok tt
+  pub size-gap : None ≡ slot_at img t n → size_verdict img t n ≡ Ok tt
   size-gap e = (size_ok img t n).1 (inl (slot-gap img t n e))
 
-  module _ {p : Place} (e : slot.Sector p ≡ slot_at img t n) {size : ℕ} (s : size ≡ flat_size img t) where
+  module _ {p : Place} (e : Some p ≡ slot_at img t n) {size : ℕ} (s : size ≡ flat_size img t) where
     here : size_at img t n ≡ p.size
     unfolding size_at
     here = ap (λ (q : Place). q.size) (slot-place img t n p e)
@@ -120,11 +119,11 @@ module _ (count gaps : ℕ) where
 
 -- ---- what stands for table entry n, as the code finds it
 module _ (img : List ℕ) (t : Opened) (n : ℕ) where
-  pub piece-gap : slot.Empty ≡ slot_at img t n → {size : ℕ} → size ≡ flat_size img t → replicate size 0 ≡ piece_at img t n
+  pub piece-gap : None ≡ slot_at img t n → {size : ℕ} → size ≡ flat_size img t → replicate size 0 ≡ piece_at img t n
   unfolding piece_at
   piece-gap e s = ap (λ k. replicate k 0) s ∙ sym (choose-true _ _ _ (slot-gap img t n e))
 
-  pub piece-sector : {p : Place} → slot.Sector p ≡ slot_at img t n → part img p.start.0 p.size ≡ piece_at img t n
+  pub piece-sector : {p : Place} → Some p ≡ slot_at img t n → part img p.start.0 p.size ≡ piece_at img t n
   unfolding piece_at item_bytes
   piece-sector {p} e =
       ap (λ (q : Place). part img q.start.0 q.size) (sym (slot-place img t n p e)) ∙ sym (choose-false _ _ _ (slot-written img t n p e))
@@ -159,7 +158,7 @@ module _ (img : List ℕ) (t : Opened) (size : ℕ) (u : Uniform img t size) whe
       subst (λ (v : Opened). length (flat_file img v) ≡ v.count * flat_size img v) is (file-length img o fine sized) ∙ ap (λ k. t.count * k) (sym u.size_is)
 
   -- a sector that stands for an entry lies in the image, and has room where a piece has
-  module _ {n : ℕ} (h : n < t.count) {p : Place} (e : slot.Sector p ≡ slot_at img t n) where
+  module _ {n : ℕ} (h : n < t.count) {p : Place} (e : Some p ≡ slot_at img t n) where
     pub sector-inside : p.start.0 + p.size ≤ length img
     sector-inside = slot-inside img t n p e u.checked h
 

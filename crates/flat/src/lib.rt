@@ -23,7 +23,6 @@ pub use format::{Flat, Refusal};
 // an import, with its contract
 pub use importing::import;
 use opening::Opened;
-use search::Option<Place>;
 
 // The size of the lowest written sector; 0 where none is written.
 fn flat_size(s: &[u8], t: Opened) -> u64
@@ -172,11 +171,8 @@ fn export_at(s: &[u8], t: Opened, out: &mut [u8]) -> Result<Flat, Refusal>
         let place = ByteOffset(0);
         return Err(Refusal { number: 21, place });
     }
-    let answer = export_file(s, t, out);
-    match answer {
-        Err(r) => Err(r),
-        Ok(length) => Ok(Flat { length, filled }),
-    }
+    let length = export_file(s, t, out)?;
+    Ok(Flat { length, filled })
 }
 
 // Fills the front of `out` with all sectors of the disc by rising address, and answers how many bytes that is; or says why it can't: opening's numbers, the

@@ -10,39 +10,25 @@ use lib.ListN.{length}
 use lib.IntN.{ℤ, pos, ◌+ℤ◌, +ℤ_assoc, +ℤ_idr}
 use Rattle.std.specs.Prelude.{Ok, Err}
 use Rattle.format.specs.declared.AddressRange.{AddressRange}
-use Rattle.format.specs.declared.Counted.{Counted}
-use Rattle.format.specs.declared.Counted.TheVariants as count
-use Rattle.format.specs.declared.Located.{Located}
-use Rattle.format.specs.declared.Located.TheVariants as place
 use Rattle.format.specs.declared.Place.{Place}
 use Rattle.format.specs.declared.Refusal.{Refusal}
-use Rattle.format.specs.Answers.{counted, located}
+use Rattle.format.specs.Refusals.{Answer}
 use Rattle.format.specs.Opening.{sector_count}
 use Rattle.format.specs.Reading.{locate}
-use Rattle.text.specs.Text.{TOO-LONG, NEWLINE, decimal, signed, refused_line, longest_input}
+use Rattle.text.specs.Text.{TOO-LONG, NEWLINE, decimal, signed, longest_input}
 use Rattle.text.specs.Buffer.{Writes}
 use Rattle.text.proofs.Writes.{writes_then, unless-long, unless-short}
-use Rattle.listing.specs.Listing.{SECTORS, SPACE, DASH, head, line, lines_from, lines, image_text, listing}
-
--- ---- the first line
-module _ {s t : List ℕ} {at p : ℕ} {c : Counted} where
-  pub head-sectors : {r : AddressRange} → c ≡ count.Sectors r → Writes s at (SECTORS ++ decimal r.count ++ NEWLINE) t p → Writes s at (head (counted c)) t p
-  unfolding head counted
-  head-sectors e w = rw e w
-
-  pub head-refused : {r : Refusal} → c ≡ count.Refused r → Writes s at (refused_line r.number) t p → Writes s at (head (counted c)) t p
-  unfolding head counted
-  head-refused e w = rw e w
+use Rattle.listing.specs.Listing.{SPACE, DASH, head, line, lines_from, lines, image_text, listing}
 
 -- ---- the line of an address
-module _ {s t u : List ℕ} {at p q : ℕ} {l : Located} (a : ℤ) (w : Writes s at (signed a) t p) where
-  pub line_refused : {r : Refusal} → l ≡ place.Refused r → Writes t p (DASH ++ decimal r.number ++ NEWLINE) u q → Writes s at (line a (located l)) u q
-  unfolding line located
+module _ {s t u : List ℕ} {at p q : ℕ} {l : Answer Place} (a : ℤ) (w : Writes s at (signed a) t p) where
+  pub line_refused : {r : Refusal} → l ≡ Err r → Writes t p (DASH ++ decimal r.number ++ NEWLINE) u q → Writes s at (line a l) u q
+  unfolding line
   line_refused e v = rw e (simp append_assoc (writes_then w v))
 
-  pub line_at : {x : Place} {v : List ℕ} {r : ℕ} → l ≡ place.At x → Writes t p (SPACE ++ decimal x.start.0) u q
-      → Writes u q (SPACE ++ decimal x.size ++ NEWLINE) v r → Writes s at (line a (located l)) v r
-  unfolding line located
+  pub line_at : {x : Place} {v : List ℕ} {r : ℕ} → l ≡ Ok x → Writes t p (SPACE ++ decimal x.start.0) u q
+      → Writes u q (SPACE ++ decimal x.size ++ NEWLINE) v r → Writes s at (line a l) v r
+  unfolding line
   line_at e y z = rw e (simp append_assoc (writes_then w (writes_then y z)))
 
 -- ---- the lines of an image

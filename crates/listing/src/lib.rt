@@ -10,7 +10,7 @@ ghost use Rattle.text.specs.Text.{longest_input};
 ghost use Rattle.text.specs.Buffer.{Writes, Prints};
 ghost use Rattle.listing.specs.Listing.{lines_from, image_text, listing};
 
-use format::{ByteOffset, EntryNumber};
+use format::EntryNumber;
 use opening::Opened;
 use sectors::Visit;
 
@@ -21,7 +21,7 @@ fn address_lines(image: &[u8], t: Opened, out: &mut [u8], at: usize) -> usize
 {
     let count = opening::count(t);
     let mut next = at;
-    let mut known = ByteOffset(0);
+    let mut known = None;
     let mut n: u64 = 0;
     // an iteration for each address
     while n < count {

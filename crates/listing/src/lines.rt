@@ -3,12 +3,12 @@ ghost use Rattle.std.specs.Prelude.{◌≤◌, length};
 ghost use Rattle.text.specs.Buffer.{Writes};
 ghost use Rattle.listing.specs.Listing.{head, line};
 
-use format::SectorAddress;
+use format::{AddressRange, Place, Refusal, SectorAddress};
 
 // The first line: how many sectors there are, or why the image does not open.
 pub fn head(out: &mut [u8], at: usize, c: Result<AddressRange, Refusal>) -> usize
     requires { at ≤ length out.old }
-    ensures { Writes out.old at (head (counted c)) out.new result }
+    ensures { Writes out.old at (head c) out.new result }
 {
     match c {
         Ok(s) => text::write_end(out, at, b"sectors ", s.count),
@@ -19,7 +19,7 @@ pub fn head(out: &mut [u8], at: usize, c: Result<AddressRange, Refusal>) -> usiz
 // The line of an address: where its sector lies, or why it is not read.
 pub fn line(out: &mut [u8], at: usize, a: SectorAddress, l: Result<Place, Refusal>) -> usize
     requires { at ≤ length out.old }
-    ensures { Writes out.old at (line a.0 (located l)) out.new result }
+    ensures { Writes out.old at (line a.0 l) out.new result }
 {
     let next = text::write_signed(out, at, a.0);
     match l {

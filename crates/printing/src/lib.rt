@@ -5,7 +5,7 @@
 ghost use Rattle.std.specs.Prelude.{◌≤◌, length, IfOk};
 
 use fields::magnitude;
-use format::{AddressRange, Refusal, SectorAddress};
+use format::{AddressRange, Place, Refusal, SectorAddress};
 use std::io;
 
 pub mod input;

@@ -9,14 +9,14 @@ use Rattle.aaru.proofs.read.Goals as goal
 
 pub read_of-requires : goal.read_of-requires
 unfolding outcome
-read_of-requires c = sym c.open-opened.ensures ∙ ap outcome c.in-Opens.is
+read_of-requires c = sym c.open.ensures ∙ ap outcome c.in-Ok.is
 
 -- where the image does not open, the empty part is what is read
-pub returns-in-Refused : goal.returns-in-Refused
+pub returns-in-Err : goal.returns-in-Err
 unfolding part part_at outcome
-returns-in-Refused c =
-    let l = locate-unopened _ _ _ (ap outcome (sym c.in-Refused.is) ∙ c.open-opened.ensures) in
+returns-in-Err c =
+    let l = locate-unopened _ _ _ (ap outcome (sym c.in-Err.is) ∙ c.open.ensures) in
     c.part.ensures ∙ ap (part_at _) l ∙ sym (read-is-located _ _).0
 
-pub returns-in-Opens : goal.returns-in-Opens
-returns-in-Opens c = c.read_of.ensures
+pub returns-in-Ok : goal.returns-in-Ok
+returns-in-Ok c = c.read_of.ensures

@@ -1,14 +1,17 @@
 -- `flat::export` meets its contract. Assumes nothing.
-use mathlib.Core.Path.{sym, ap, ◌∙◌}
-use Rattle.format.specs.Answers.{exported}
+use mathlib.Core.Path.{sym}
+use Rattle.format.specs.Answers.{answered}
 use Rattle.opening.specs.Answers.{outcome}
 use Rattle.flat.proofs.Whole.{export-unopened}
+use Rattle.format.proofs.Chains.{early-as}
 use Rattle.flat.proofs.export.Goals as goal
 
 pub export_at-requires : goal.export_at-requires
 unfolding outcome
-export_at-requires c = sym (ap outcome (sym c.in-Opens.is) ∙ c.open-opened.ensures)
+export_at-requires c = sym c.in_ok-t.ensures
 
-pub returns-in-Refused : goal.returns-in-Refused
-unfolding outcome exported
-returns-in-Refused c = export-unopened _ _ (ap outcome (sym c.in-Refused.is) ∙ c.open-opened.ensures) _
+pub returns-in_err-t : goal.returns-in_err-t
+unfolding outcome
+returns-in_err-t c =
+    early-as (λ x. answered x c.args.out.now) c.from_residual.ensures
+    (export-unopened _ _ c.in_err-t.ensures _)

@@ -9,9 +9,9 @@ loop-n-init c = (omega arith, sizing-starts _ _)
 pub slot_at-slot-requires : goal.slot_at-slot-requires
 slot_at-slot-requires c = (c.requires, omega arith)
 
-pub returns-in-Sector : goal.returns-in-Sector
-returns-in-Sector c =
-    sizing-found _ _ c.loop-n.invariant.1 (omega arith) (by c.in-Sector.is c.slot_at-slot.ensures)
+pub returns-in-Some : goal.returns-in-Some
+returns-in-Some c =
+    sizing-found _ _ c.loop-n.invariant.1 (omega arith) (by c.in-Some.is c.slot_at-slot.ensures)
 
 pub loop-n-preserved : goal.loop-n-preserved
 loop-n-preserved c =

@@ -15,13 +15,13 @@ slot_at-slot-requires c = (c.requires.0, omega arith)
 pub returns-then-p-size : goal.returns-then-p-size
 returns-then-p-size c =
     sym (refused-at _ _ _ _ (omega arith) c.loop-n.invariant.1
-    (size-other _ _ _ (by c.in-Sector.is c.slot_at-slot.ensures) c.requires.1 c.if-p-size.true))
+    (size-other _ _ _ (by c.in-Some.is c.slot_at-slot.ensures) c.requires.1 c.if-p-size.true))
 
 pub loop-n-preserved-else-p-size : goal.loop-n-preserved-else-p-size
 loop-n-preserved-else-p-size c = (
   omega arith,
   below_more _ _ c.loop-n.invariant.1
-      (size_same _ _ _ (by c.in-Sector.is c.slot_at-slot.ensures) c.requires.1 c.if-p-size.false),
+      (size_same _ _ _ (by c.in-Some.is c.slot_at-slot.ensures) c.requires.1 c.if-p-size.false),
 )
 
 pub loop-n-preserved : goal.loop-n-preserved

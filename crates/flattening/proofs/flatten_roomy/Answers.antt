@@ -6,7 +6,6 @@ use Prim.Native.Nat.{◌+◌, ◌≤◌}
 use lib.ListN.{length}
 use Rattle.fields.specs.Bytes.{overwrite}
 use Rattle.format.specs.Layouts.{block_header_length}
-use Rattle.format.specs.Answers.{updated}
 use Rattle.format.specs.Flattening.{written_of}
 use Rattle.format.proofs.Flattening.{flattenable}
 use Rattle.opening.specs.Answers.{contents}
@@ -90,7 +89,6 @@ finish-requires c =
     (record { before = _; f = _; fits = fits (goal.at.finish-requires c).After-lay_out-at; is = c.put_entries.ensures ∙ stored-filled (fits-lays (fits (goal.at.finish-requires c).After-lay_out-at)) (block (goal.at.finish-requires c).After-lay_out-at) })
 
 pub returns : goal.returns
-unfolding updated
 returns c =
     let n = c.count-count.ensures in
     flat-done (ready (goal.at.returns c).Start) _ _ _ _ _ (planned (goal.at.returns c).After-lay_out-at) (room (goal.at.returns c).After-lay_out-at) (rw n at c.put_image.ensures)

@@ -1,6 +1,5 @@
 -- `flattening::flatten_tight` meets its contract. Assumes nothing.
 use native.Mathlib.Omega.{arith}
-use Rattle.format.specs.Answers.{updated}
 use Rattle.format.proofs.Flattening.{flattenable}
 use Rattle.opening.specs.Answers.{contents}
 use Rattle.pairs.specs.Pairs.{sector_at}
@@ -25,7 +24,6 @@ planned c =
     flat-plan q (c.count_stored-stored.ensures _) (rw c.count-count.ensures at c.lay_out-at.ensures)
 
 pub returns-then-length-end : goal.returns-then-length-end
-unfolding updated
 returns-then-length-end c =
     flat-full (ready (goal.at.returns-then-length-end c).Start) _ _ _ _ _ (planned (goal.at.returns-then-length-end c).After-lay_out-at) (omega arith)
 
@@ -51,7 +49,6 @@ finish-requires c =
     rw c.count-count.ensures (record { before = _; f = _; fits = fits (goal.at.finish-requires c).After-put_image; is = c.put_entries.ensures })
 
 pub returns : goal.returns
-unfolding updated
 returns c =
     let n = c.count-count.ensures in
     flat-done (ready (goal.at.returns c).Start) _ _ _ _ _ (planned (goal.at.returns c).After-lay_out-at) (omega arith) (rw n at c.put_image.ensures)

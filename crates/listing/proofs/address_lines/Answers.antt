@@ -1,4 +1,3 @@
-use mathlib.Core.Logic.{inl}
 use mathlib.Core.Path.{◌≡◌, refl}
 use native.Mathlib.Omega.{arith}
 use Rattle.opening.specs.Answers.{contents}
@@ -10,7 +9,7 @@ use Rattle.listing.proofs.address_lines.Goals as goal
 
 pub loop-n-init : goal.loop-n-init
 unfolding lines_from
-loop-n-init c = (omega arith, refl, writes-none _ _ (omega arith), inl refl)
+loop-n-init c = (omega arith, refl, writes-none _ _ (omega arith), tt)
 
 pub address-address-requires : goal.address-address-requires
 address-address-requires c = let f = few _ _ c.requires.0 in omega arith

@@ -11,7 +11,7 @@ use Rattle.listing.proofs.address_lines.Given as goal
 
 abbrev pub invariant-loop-n : goal.invariant-loop-n
 invariant-loop-n l =
-    (l.n ≤ l.count) × (length l.out ≡ length l.initial.out) × Writes l.initial.out l.at (lines_from l.image l.n (neg_ℤ (pos (contents l.t).negative))) l.out l.next × Known l.image l.known.0
+    (l.n ≤ l.count) × (length l.out ≡ length l.initial.out) × Writes l.initial.out l.at (lines_from l.image l.n (neg_ℤ (pos (contents l.t).negative))) l.out l.next × Known l.image l.known
 
 abbrev pub decreases-loop-n : goal.decreases-loop-n
 decreases-loop-n l = l.count - l.n

@@ -1,9 +1,11 @@
 -- `lines::head` meets its contract. Assumes nothing.
-use Rattle.listing.proofs.Pieces.{head-sectors, head-refused}
+use Rattle.listing.specs.Listing.{head}
 use Rattle.listing.proofs.lines.head.Goals as goal
 
-pub returns-in-Sectors : goal.returns-in-Sectors
-returns-in-Sectors c = head-sectors c.in-Sectors.is c.write_end.ensures
+pub returns-in-Ok : goal.returns-in-Ok
+unfolding head
+returns-in-Ok c = rw c.in-Ok.is c.write_end.ensures
 
-pub returns-in-Refused : goal.returns-in-Refused
-returns-in-Refused c = head-refused c.in-Refused.is c.refused.ensures
+pub returns-in-Err : goal.returns-in-Err
+unfolding head
+returns-in-Err c = rw c.in-Err.is c.refused.ensures

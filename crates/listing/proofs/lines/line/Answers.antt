@@ -14,10 +14,10 @@ written : (c : After-write_signed-next)
     → Writes c.args.out.now c.args.at (signed c.args.a.0) c.write_signed-next.new.out c.write_signed-next.result
 written c = let f : SFits w64 c.args.a.0 = search rules in rw (to_z-of_z f) at c.write_signed-next.ensures
 
-pub returns-in-At : goal.returns-in-At
-returns-in-At c =
-    line_at _ (written (goal.at.returns-in-At c).After-write_signed-next) c.in-At.is c.write_both-last.ensures c.write_end.ensures
+pub returns-in-Ok : goal.returns-in-Ok
+returns-in-Ok c =
+    line_at _ (written (goal.at.returns-in-Ok c).After-write_signed-next) c.in-Ok.is c.write_both-last.ensures c.write_end.ensures
 
-pub returns-in-Refused : goal.returns-in-Refused
-returns-in-Refused c =
-    line_refused _ (written (goal.at.returns-in-Refused c).After-write_signed-next) c.in-Refused.is c.write_end-in-Refused.ensures
+pub returns-in-Err : goal.returns-in-Err
+returns-in-Err c =
+    line_refused _ (written (goal.at.returns-in-Err c).After-write_signed-next) c.in-Err.is c.write_end-in-Err.ensures
