@@ -14,13 +14,14 @@ ghost use Rattle.format.specs.Writing.{largest_size, most_addresses, longest_buf
 ghost use Rattle.format.specs.Committing.{arguments_verdict, any_outside, entry_numbers, new_block, new_table, index_start, appended, appended_bytes, commit};
 ghost use Rattle.format.specs.Answers.{answered};
 ghost use Rattle.opening.specs.Answers.{contents};
+ghost use Rattle.opening.specs.Images.{held};
 ghost use Rattle.planning.specs.Plans.{stored_by, pointers_by};
 ghost use Rattle.format.specs.Facts.{block_length_for, block_entry};
 ghost use Rattle.appending.specs.Appends.{Passed, layout_for, Data, Fits};
 
 use fields::{get, part};
 use format::{ByteOffset, INDEX_OFFSET, Placed, Refusal};
-use opening::Opened;
+use opening::{Image, Opened};
 use planning::Planned;
 
 // Where the new table and the new index stand, and where the new image ends; how many of the old index entries are kept.
@@ -54,13 +55,14 @@ fn block_entries(stored: u64) -> u64
 }
 
 // Where what is appended to the image will stand, if so many sectors are stored.
-fn lay_out(s: &[u8], t: Opened, size: u64, stored: u64) -> Layout
-    requires { (opening s.now ≡ Ok (contents t)) × (length s.now ≤ longest_buffer) × (stored ≤ most_addresses) × (size ≤ largest_size) × ((contents t).kind ≡ First) }
-    ensures { result ≡ layout_for s.now (contents t) size stored }
+fn lay_out<'a>(image: Image<'a>, size: u64, stored: u64) -> Layout
+    requires { (length image.bytes.now ≤ longest_buffer) × (stored ≤ most_addresses) × (size ≤ largest_size) × ((held image).kind ≡ First) }
+    ensures { result ≡ layout_for image.entry.bytes.now (held image.entry) size stored }
 {
+    let s = image.bytes;
     let kept = indexing::count_kept(s, ByteOffset(get(s, INDEX_OFFSET, 8)));
     let table = s.len() as u64 + block_length(stored, size);
-    let index = table + (49 + 8 * opening::count(t));
+    let index = table + (49 + 8 * image.found.count());
     let end = index + (20 + 16 * (kept + block_entries(stored)));
     Layout {
         table: ByteOffset(table),
@@ -97,7 +99,7 @@ fn put_data(
         shift,
     );
     records::seal_block(buf, ByteOffset(used), size, stored);
-    records::seal_table(buf, table, shift, opening::count(t));
+    records::seal_table(buf, table, shift, t.count());
 }
 
 // Writes all that is appended, and then the header's two fields.
@@ -139,9 +141,12 @@ fn append(
     requires { Passed buf.old used (contents t) addresses.now size sectors.now }
     ensures { answered result buf.new ≡ commit buf.old used addresses.now size sectors.now time }
 {
-    let plan = planning::plan(part(buf, 0, used), t, addresses, size, sectors);
-    let stored = plan.stored;
-    let at = lay_out(part(buf, 0, used), t, size, stored);
+    let image = Image {
+        bytes: part(buf, 0, used),
+        found: t,
+    };
+    let plan = planning::plan(image, addresses, size, sectors);
+    let at = lay_out(image, size, plan.stored);
     let end = at.end;
     let index = at.index;
     let length = buf.len() as u64;
@@ -166,6 +171,10 @@ pub fn commit(
     requires { (arguments_verdict buf.old used addresses.now size sectors.now ≡ Ok tt) × (opening (take used buf.old) ≡ Ok (contents t)) }
     ensures { answered result buf.new ≡ commit buf.old used addresses.now size sectors.now time }
 {
-    checking::disc_verdict_of(part(buf, 0, used), t, addresses)?;
+    let image = Image {
+        bytes: part(buf, 0, used),
+        found: t,
+    };
+    checking::disc_verdict(image, addresses)?;
     append(buf, used, t, addresses, size, sectors, time)
 }

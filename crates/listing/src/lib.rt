@@ -3,49 +3,43 @@
 
 mod lines; // its lines, written into a lent buffer
 
-ghost use Rattle.std.specs.Prelude.{◌≡◌, ◌≤◌, length, pos, neg_ℤ};
-ghost use Rattle.format.specs.Opening.{opening};
-ghost use Rattle.opening.specs.Answers.{contents};
+ghost use Rattle.std.specs.Prelude.{◌≤◌, length, pos, neg_ℤ};
+ghost use Rattle.opening.specs.Images.{held};
 ghost use Rattle.text.specs.Text.{longest_input};
 ghost use Rattle.text.specs.Buffer.{Writes, Prints};
 ghost use Rattle.listing.specs.Listing.{lines_from, image_text, listing};
 
 use format::EntryNumber;
-use opening::Opened;
+use opening::Image;
 use sectors::Visit;
 
 // The lines of all addresses of an opened image. Neighbours in one intact block cost one pass over the index and the block.
-fn address_lines(image: &[u8], t: Opened, out: &mut [u8], at: usize) -> usize
-    requires { (opening image.now ≡ Ok (contents t)) × (at ≤ length out.old) }
-    ensures { Writes out.old at (lines_from image.now (contents t).count (neg_ℤ (pos (contents t).negative))) out.new result }
+fn address_lines<'a, 'b>(image: Image<'a>, out: &'b mut [u8], at: usize) -> usize
+    requires { at ≤ length out.old }
+    ensures { Writes out.old at (lines_from image.entry.bytes.now (held image.entry).count (neg_ℤ (pos (held image.entry).negative))) out.new result }
 {
-    let count = opening::count(t);
     let mut next = at;
     let mut known = None;
-    let mut n: u64 = 0;
     // an iteration for each address
-    while n < count {
-        let address = opening::address(t, EntryNumber(n));
-        let near = sectors::locate_near_of(image, t, Visit { address, known });
-        let located = near.located;
-        next = lines::line(out, next, address, located);
+    for n in 0..image.found.count() {
+        let address = image.found.address(EntryNumber(n));
+        let near = sectors::locate_near(image, Visit { address, known });
+        next = lines::line(out, next, address, near.located);
         known = near.known;
-        n += 1;
     }
     next
 }
 
 // The text of an image, which is no longer than the longest text. It is opened once.
-fn image_text(image: &[u8], out: &mut [u8]) -> usize
-    requires { length image.now ≤ longest_input }
-    ensures { Writes out.old 0 (image_text image.now) out.new result × (length (image_text image.now) ≤ 311296) }
+fn image_text(s: &[u8], out: &mut [u8]) -> usize
+    requires { length s.now ≤ longest_input }
+    ensures { Writes out.old 0 (image_text s.now) out.new result × (length (image_text s.now) ≤ 311296) }
 {
-    let opened = opening::open(image);
-    match opened {
+    match opening::open(s) {
         Err(r) => lines::head(out, 0, Err(r)),
-        Ok(t) => {
-            let next = lines::head(out, 0, Ok(opening::range(t)));
-            address_lines(image, t, out, next)
+        Ok(image) => {
+            let next = lines::head(out, 0, Ok(image.found.range()));
+            address_lines(image, out, next)
         }
     }
 }

@@ -12,15 +12,15 @@ use Rattle.appending.proofs.commit.Goals as goal
 pub part-requires : goal.part-requires
 part-requires c = omega (arith, ((arguments-ok _ _ _ _ _).0 c.requires.0).buffer_ok.inside)
 
-pub disc_verdict_of-requires : goal.disc_verdict_of-requires
+pub invariant_of-image : goal.invariant_of-image
 unfolding part
-disc_verdict_of-requires c = rw c.part.ensures c.requires.1
+invariant_of-image c = record { opens = rw c.part.ensures c.requires.1 }
 
-pub returns-in_err-disc_verdict_of : goal.returns-in_err-disc_verdict_of
+pub returns-in_err-disc_verdict : goal.returns-in_err-disc_verdict
 unfolding commit append commit_verdict part
-returns-in_err-disc_verdict_of c =
+returns-in_err-disc_verdict c =
     early-as (λ x. answered x c.args.buf.now) c.from_residual.ensures
-    (outcome-stops _ _ _ (goes (sym c.requires.0) (stops _ (rw c.part.ensures at c.in_err-disc_verdict_of.ensures))))
+    (outcome-stops _ _ _ (goes (sym c.requires.0) (stops _ (rw c.part.ensures at c.in_err-disc_verdict.ensures))))
 
 pub append-requires : goal.append-requires
 unfolding part
@@ -29,7 +29,7 @@ append-requires c =
     record {
       arguments = p.0;
       opens = p.1;
-      disc = sym (rw c.part.ensures at c.in_ok-disc_verdict_of.ensures);
+      disc = sym (rw c.part.ensures at c.in_ok-disc_verdict.ensures);
     }
 
 pub returns : goal.returns

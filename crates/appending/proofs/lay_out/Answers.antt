@@ -3,21 +3,21 @@ use native.Mathlib.Omega.{arith}
 use Prim.Native.Nat.{◌+◌, ◌*◌, ◌≤◌}
 use lib.ListN.{length}
 use Rattle.format.specs.Layouts.{index_offset, entry_length}
-use Rattle.opening.specs.Answers.{contents}
+use Rattle.opening.specs.Images.{held}
 use Rattle.opening.proofs.Accepted.{opens, table-inside}
 use Rattle.appending.proofs.Appended.{kept-few, layout_is}
 use Rattle.appending.proofs.lay_out.Goals as goal
 use Rattle.appending.proofs.lay_out.Goals.{After-count_kept-kept, Start}
 
 pub get-requires : goal.get-requires
-get-requires c = omega (arith, (opens _ _ c.requires.0).header.long)
+get-requires c = omega (arith, (opens _ _ c.args.image.opens).header.long)
 
 pub count_kept-kept-requires : goal.count_kept-kept-requires
 unfolding index_offset
-count_kept-kept-requires c = rw c.get.ensures (opens _ _ c.requires.0).index.fits
+count_kept-kept-requires c = rw c.get.ensures (opens _ _ c.args.image.opens).index.fits
 
-inside : (c : Start) → (contents c.args.t).table + 49 + 8 * (contents c.args.t).count ≤ length c.args.s.now
-inside c = rw c.requires.4 at (table-inside _ _ c.requires.0)
+inside : (c : Start) → (held c.args.image).table + 49 + 8 * (held c.args.image).count ≤ length c.args.image.bytes.now
+inside c = rw c.requires.3 at (table-inside _ _ c.args.image.opens)
 
 pub overflow_mul-index : goal.overflow_mul-index
 overflow_mul-index c = omega (arith, inside (goal.at.overflow_mul-index c).Start)
@@ -29,9 +29,9 @@ pub overflow_add-index-2 : goal.overflow_add-index-2
 overflow_add-index-2 c = omega (arith, inside (goal.at.overflow_add-index-2 c).Start)
 
 -- the entries that are kept are no longer than the image
-kept-short : (c : After-count_kept-kept) → entry_length * c.count_kept-kept.result ≤ length c.args.s.now
+kept-short : (c : After-count_kept-kept) → entry_length * c.count_kept-kept.result ≤ length c.args.image.bytes.now
 unfolding index_offset
-kept-short c = kept-few _ c.get.ensures c.count_kept-kept.ensures.1 (opens _ _ c.requires.0)
+kept-short c = kept-few _ c.get.ensures c.count_kept-kept.ensures.1 (opens _ _ c.args.image.opens)
 
 pub overflow_add-end : goal.overflow_add-end
 overflow_add-end c = omega (arith, kept-short (goal.at.overflow_add-end c).After-count_kept-kept)

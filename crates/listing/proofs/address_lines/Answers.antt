@@ -1,6 +1,5 @@
 use mathlib.Core.Path.{◌≡◌, refl}
 use native.Mathlib.Omega.{arith}
-use Rattle.opening.specs.Answers.{contents}
 use Rattle.opening.proofs.Accepted.{few}
 use Rattle.text.proofs.Writes.{writes-none}
 use Rattle.listing.specs.Listing.{lines_from}
@@ -9,29 +8,28 @@ use Rattle.listing.proofs.address_lines.Goals as goal
 
 pub loop-n-init : goal.loop-n-init
 unfolding lines_from
-loop-n-init c = (omega arith, refl, writes-none _ _ (omega arith), tt)
+loop-n-init c = (refl, writes-none _ _ (omega arith), tt)
 
 pub address-address-requires : goal.address-address-requires
-address-address-requires c = let f = few _ _ c.requires.0 in omega arith
+address-address-requires c = let f = few _ _ c.args.image.opens in omega arith
 
-pub locate_near_of-near-requires : goal.locate_near_of-near-requires
-locate_near_of-near-requires c = (c.requires.0, c.loop-n.invariant.3)
+pub locate_near-near-requires : goal.locate_near-near-requires
+locate_near-near-requires c = c.loop-n.invariant.2
 
 pub line-next-requires : goal.line-next-requires
-line-next-requires c = let w = c.loop-n.invariant.2.place in omega arith
+line-next-requires c = let w = c.loop-n.invariant.1.place in omega arith
 
 pub loop-n-preserved : goal.loop-n-preserved
 loop-n-preserved c =
     let l = c.loop-n.invariant in
     let e = c.address-address.ensures in
-    let n = c.locate_near_of-near.ensures in (
+    let n = c.locate_near-near.ensures in (
       omega arith,
-      omega arith,
-      lines_next _ _ _ l.2 (rw (n.0, e) at c.line-next.ensures),
+      lines_next _ _ _ l.1 (rw (n.0, e) at c.line-next.ensures),
       n.1,
     )
 
 pub returns : goal.returns
 returns c =
-    let e : c.loop-n.n ≡ (contents c.args.t).count = omega arith in
-    rw (← e) c.loop-n.invariant.2
+    let e : c.loop-n.n ≡ c.args.image.found.count = omega arith in
+    rw (← e) c.loop-n.invariant.1
