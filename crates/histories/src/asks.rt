@@ -1,5 +1,4 @@
 // What rows ask of a buffer, and the lines that answer.
-use aaru::Result<AddressRange, Refusal>;
 use fields::get;
 use printing::{bytes, located, number, range, refused, text};
 use std::io;
