@@ -31,8 +31,7 @@ fn sectors(rt: &impl Print, image: &[u8], count: u64) -> io::Result<()> {
 }
 
 fn disc(rt: &impl Print, image: &[u8]) -> io::Result<()> {
-    let answer = aaru::sector_count(image);
-    match answer {
+    match aaru::sector_count(image) {
         Err(r) => refused(rt, r),
         Ok(s) => {
             range(rt, s)?;

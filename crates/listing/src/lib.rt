@@ -40,8 +40,7 @@ fn image_text(image: &[u8], out: &mut [u8]) -> usize
     requires { length image.now ≤ longest_input }
     ensures { Writes out.old 0 (image_text image.now) out.new result × (length (image_text image.now) ≤ 311296) }
 {
-    let opened = opening::open(image);
-    match opened {
+    match opening::open(image) {
         Err(r) => lines::head(out, 0, Err(r)),
         Ok(t) => {
             let next = lines::head(out, 0, Ok(opening::range(t)));
