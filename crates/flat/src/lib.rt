@@ -83,8 +83,7 @@ fn put_piece(s: &[u8], t: Opened, n: EntryNumber, out: &mut [u8], at: u64, size:
     requires { Uniform s.now (contents t) size × (n.0 < (contents t).count) × (at + size ≤ length out.old) }
     ensures { out.new ≡ overwrite out.old at (piece_at s.now (contents t) n.0) }
 {
-    let slot = search::slot_at(s, t, n);
-    match slot {
+    match search::slot_at(s, t, n) {
         None => clear(out, at, size),
         Some(p) => {
             let start = p.start;
