@@ -32,7 +32,10 @@ use Rattle.format.proofs.Numbers.{address-displaced, numbered-at}
 use Rattle.format.proofs.Overlaying.{parent-other, over-child, over-other, over-parent}
 use Rattle.format.proofs.Overlaid.{over-some}
 use Rattle.opening.proofs.Accepted.{opens, opened-is}
-use Rattle.pairs.specs.Pairs.{entry_answer, EntryChecked, ParentChecked, Pair, sector_at}
+use Rattle.opening.specs.Images.{held}
+use Rattle.pairs.specs.declared.pair.Pair.{Pair}
+use Rattle.pairs.specs.Pairs.{entry_answer, EntryChecked, sector_at}
+use Rattle.pairs.specs.Sectors.{sector_of}
 
 -- ---- the sector of a table entry that was checked, as the code finds it
 module _ (img : List ℕ) (t : Opened) (n : ℕ) (k : EntryChecked img t n) {b : Bool} (w : b ≡ not_written img t n) where
@@ -105,30 +108,32 @@ unfolding bytes_read from_parent
 from_bytes (Ok d) = refl
 from_bytes (Err r) = refl
 
-module _ (parent : List ℕ) (p : Answer Opened) (a : ℤ) (k : ParentChecked parent p a) where
-  pub parent-unopened : (r : Refusal) → p ≡ Err r → [] ≡ bytes_read (from_parent (read parent a))
+module _ (parent : List ℕ) (a : ℤ) where
+  pub parent-unopened : (r : Refusal) → opening parent ≡ Err r → [] ≡ bytes_read (from_parent (read parent a))
   unfolding bytes_read
-  parent-unopened r e = sym (from_bytes (read parent a) ∙ ap bytes_read (read-unopened parent r (k.opens ∙ e) a))
+  parent-unopened r e = sym (from_bytes (read parent a) ∙ ap bytes_read (read-unopened parent r e a))
 
-  module _ (t : Opened) (e : p ≡ Ok t) where
+  module _ (t : Opened) (e : opening parent ≡ Ok t) where
     pub parent-outside : outside t a ≡ true → [] ≡ bytes_read (from_parent (read parent a))
     unfolding bytes_read
-    parent-outside h = sym (from_bytes (read parent a) ∙ ap bytes_read (read-outside parent t (k.opens ∙ e) a h))
+    parent-outside h = sym (from_bytes (read parent a) ∙ ap bytes_read (read-outside parent t e a h))
 
     module _ (n : ℕ) (m : (outside t a ≡ false) × (entry_number t a ≡ n) × (n < t.count)) where
       is : read parent a ≡ entry_answer parent t n
-      is = read-entry parent t (k.opens ∙ e) a n m.0 m.1
+      is = read-entry parent t e a n m.0 m.1
 
-      pub parent-entry : EntryChecked parent t n
-      unfolding entry_answer
-      parent-entry = record {
-        opens = k.opens ∙ e;
-        inside = m.2;
-        passes = parent-passes _ _ (sector-not-20 parent t n) (subst (λ (x : Answer (List ℕ)). Passing (from_parent x)) is k.passes);
-      }
+      -- the bytes that opened are the parent's
+      module _ {img : List ℕ} (l : img ≡ parent) where
+        pub parent-entry : Passing (from_parent (read parent a)) → EntryChecked img t n
+        unfolding entry_answer
+        parent-entry k =
+            subst (λ (s : List ℕ). EntryChecked s t n) (sym l) record {
+              inside = m.2;
+              passes = parent-passes _ _ (sector-not-20 parent t n) (subst (λ (x : Answer (List ℕ)). Passing (from_parent x)) is k);
+            }
 
-      pub parent-bytes : bytes_read (entry_answer parent t n) ≡ bytes_read (from_parent (read parent a))
-      parent-bytes = sym (from_bytes (read parent a) ∙ ap bytes_read is)
+        pub parent-bytes : bytes_read (entry_answer img t n) ≡ bytes_read (from_parent (read parent a))
+        parent-bytes = ap (λ (s : List ℕ). bytes_read (entry_answer s t n)) l ∙ sym (from_bytes (read parent a) ∙ ap bytes_read is)
 
 -- ---- by length
 not-nil : (x : List ℕ) → 0 < length x → x ≢ []
@@ -158,26 +163,34 @@ module _ (child parent : List ℕ) (n : ℕ) (d : List ℕ) where
   sector-is e = (ap bytes_read e, over-some child parent (pos n) d e)
 
 -- ---- the pair at address n of the child
-module _ (child parent : List ℕ) (t : Opened) (p : Answer Opened) (k : Pair child parent t p) (n : ℕ) (h : n < t.count) where
+module _ (pair : Pair) (n : ℕ) (h : n < (held pair.child).count) where
+  abbrev child : List ℕ
+  child = pair.child.bytes.now
+
+  abbrev parent : List ℕ
+  parent = pair.parent.now
+
+  abbrev t : Opened
+  t = held pair.child
+
   passed : Passing (pair_at child parent n)
   unfolding pair_verdict
   passed =
-      let c = count-is child t k.opens in
-      (first_refusal-iff {P = λ m. Passing (pair_at child parent m)} (count_of child) (count_of child) 0 (omega arith) (λ m l. ((λ x. x), (λ x. x)))).0 k.passes n
+      let c = count-is child t pair.child.opens in
+      (first_refusal-iff {P = λ m. Passing (pair_at child parent m)} (count_of child) (count_of child) 0 (omega arith) (λ m l. ((λ x. x), (λ x. x)))).0 pair.passes n
       (omega arith) (omega arith)
 
   first-address : neg_ℤ (pos t.negative) +ℤ pos n ≡ pos n
-  first-address = rw (first-lowest child t k.opens k.first) (ap pos (zero-add n))
+  first-address = rw (first-lowest child t pair.child.opens pair.first) (ap pos (zero-add n))
 
   child-read : read child (pos n) ≡ entry_answer child t n
   child-read =
       let m = numbered-at t (pos n) n (address-displaced t (pos n) (pos n) (sym first-address)) h in
-      read-entry child t k.opens (pos n) n m.0 m.1
+      read-entry child t pair.child.opens (pos n) n m.0 m.1
 
   pub child-entry : EntryChecked child t n
   unfolding pair_at read_over disc_over entry_answer
   child-entry = record {
-    opens = k.opens;
     inside = h;
     passes =
         ap other_than_21 (sym (ap verdict_of child-read ∙ verdict-of (sector_verdict child (entries child (index_offset child)) t n) _))
@@ -188,7 +201,7 @@ module _ (child parent : List ℕ) (t : Opened) (p : Answer Opened) (k : Pair ch
   beneath x = over x (read parent (pos n))
 
   -- where the child has one
-  own-by : (x : Answer (List ℕ)) (d : List ℕ) → read child (pos n) ≡ x → d ≡ bytes_read x → 0 < length d → d ≡ sector_at child parent n
+  own-by : (x : Answer (List ℕ)) (d : List ℕ) → read child (pos n) ≡ x → d ≡ bytes_read x → 0 < length d → d ≡ sector_of pair n
   unfolding pair_at read_over disc_over bytes_read
   own-by (Ok c) d e f l = f ∙ sym (ap bytes_read (ap beneath e ∙ over-child c _))
   own-by (Err r) d e f l = absurd (not-nil d l f)
@@ -202,15 +215,15 @@ module _ (child parent : List ℕ) (t : Opened) (p : Answer Opened) (k : Pair ch
       ap beneath e ∙ over-parent r _ (only-21 r (child-passes (Err r) (read parent (pos n)) (subst Passing (ap beneath e) passed)))
 
   module _ {d : List ℕ} (f : d ≡ bytes_read (entry_answer child t n)) where
-    pub sector-own : 0 < length d → d ≡ sector_at child parent n
+    pub sector-own : 0 < length d → d ≡ sector_of pair n
     sector-own l = own-by (read child (pos n)) d refl (f ∙ sym (ap bytes_read child-read)) l
 
     module _ (l : length d ≤ 0) {a : ℤ} (is : a ≡ neg_ℤ (pos t.negative) +ℤ pos n) where
       gap : pair_at child parent n ≡ from_parent (read parent a)
       gap = rw (is ∙ first-address) (gap_by (read child (pos n)) d refl (f ∙ sym (ap bytes_read child-read)) l)
 
-      pub sector-inherited : ParentChecked parent p a
-      sector-inherited = record { opens = k.opens_parent; passes = subst Passing gap passed }
+      pub sector-inherited : Passing (from_parent (read parent a))
+      sector-inherited = subst Passing gap passed
 
-      pub sector-parents : {x : List ℕ} → x ≡ bytes_read (from_parent (read parent a)) → x ≡ sector_at child parent n
+      pub sector-parents : {x : List ℕ} → x ≡ bytes_read (from_parent (read parent a)) → x ≡ sector_of pair n
       sector-parents g = g ∙ sym (ap bytes_read gap)

@@ -5,20 +5,25 @@
 // one pass over the addresses for each call, and whether a sector is new is a comparison with each lower one.
 #![tactic(auto)]
 
-ghost use Rattle.std.specs.Prelude.{not, ◌≡◌, ◌≤◌, ◌<◌, length};
-ghost use Rattle.fields.specs.Bytes.{equal};
+ghost use Rattle.std.specs.Prelude.{not, ◌≡◌, ◌≤◌, ◌<◌, length, Ok};
 ghost use Rattle.format.specs.Tests.{same, below, ◌or◌};
 ghost use Rattle.format.specs.Reading.{read};
 ghost use Rattle.format.specs.Writing.{most_sectors, largest_size, most_addresses};
 ghost use Rattle.format.specs.Answers.{bytes_read};
+ghost use Rattle.format.specs.Committing.{other_than_21};
 ghost use Rattle.format.specs.Overlaying.{parent_refusal, from_parent};
-ghost use Rattle.format.specs.Flattening.{count_of, written_of, size_of, any_other, sizes_verdict};
-ghost use Rattle.opening.specs.Answers.{contents, outcome};
-ghost use Rattle.pairs.specs.Pairs.{entry_answer, EntryChecked, ParentChecked, Pair, sector_at, held_below};
+ghost use Rattle.format.specs.Flattening.{count_of, size_of, any_other, verdict_of, sizes_verdict};
+ghost use Rattle.opening.specs.Images.{held};
+ghost use Rattle.pairs.specs.Pairs.{entry_answer, EntryChecked, held_below};
+ghost use Rattle.pairs.specs.Sectors.{sector_of, written_in};
 
 use fields::part;
 use format::{ByteOffset, EntryNumber, Refusal, SectorAddress};
-use opening::Opened;
+use opening::Image;
+
+mod pair; // the pair: the two images, all of whose sectors were checked
+
+pub use pair::Pair;
 
 // A refusal of the parent, as the pair gives it: 20 and 21 as 21, any other with 100 added. A read's are at most 73, so that the sum is no larger number's.
 #[tactic(auto, using(crate::proofs::ParentRefusal::parent_numbers))]
@@ -48,186 +53,125 @@ pub fn parent_refusal(r: Refusal) -> Refusal
 }
 
 // The sector of table entry n of an image that was checked there, empty where it is not written.
-fn entry_sector<'a>(s: &'a [u8], t: Opened, n: EntryNumber) -> &'a [u8]
-    requires { EntryChecked s.now (contents t) n.0 }
-    ensures { result.now ≡ bytes_read (entry_answer s.now (contents t) n.0) }
+fn entry_sector<'a>(image: Image<'a>, n: EntryNumber) -> &'a [u8]
+    requires { EntryChecked image.bytes.now (held image) n.0 }
+    ensures { result.now ≡ bytes_read (entry_answer image.entry.bytes.now (held image.entry) n.0) }
 {
-    let e = opening::table_entry(s, t, n);
-    if opening::is_unwritten(t, e) {
+    let s = image.bytes;
+    let t = image.found;
+    let e = image.table_entry(n);
+    if t.is_unwritten(e) {
         return part(s, 0, 0);
     }
-    let place = sectors::place(s, opening::entry_decoded(t, e));
+    let place = sectors::place(s, t.decoded(e));
     let start = place.start;
     part(s, start.0, place.size)
-}
-
-// The parent's sector at address a, empty where it has none: it does not open, or the address is outside or not written.
-fn parent_sector<'a>(parent: &'a [u8], p: Result<Opened, Refusal>, a: SectorAddress) -> &'a [u8]
-    requires { ParentChecked parent.now (outcome p) a.0 }
-    ensures { result.now ≡ bytes_read (from_parent (read parent.now a.0)) }
-{
-    let Ok(t) = p else {
-        return part(parent, 0, 0);
-    };
-    match opening::entry_number(t, a) {
-        None => part(parent, 0, 0),
-        Some(n) => entry_sector(parent, t, n),
-    }
-}
-
-// The pair's sector at address n of the child, empty where it has none.
-pub fn sector<'a>(
-    child: &'a [u8],
-    t: Opened,
-    parent: &'a [u8],
-    p: Result<Opened, Refusal>,
-    n: EntryNumber,
-) -> &'a [u8]
-    requires { Pair child.now parent.now (contents t) (outcome p) × (n.0 < (contents t).count) }
-    ensures { result.now ≡ sector_at child.now parent.now n.0 }
-{
-    let own = entry_sector(child, t, n);
-    if 0 < own.len() {
-        return own;
-    }
-    parent_sector(parent, p, opening::address(t, n))
-}
-
-// The size of the first sector that the pair has, 0 where it has none.
-pub fn size_of<'a>(child: &'a [u8], t: Opened, parent: &'a [u8], p: Result<Opened, Refusal>) -> u64
-    requires { Pair child.now parent.now (contents t) (outcome p) }
-    ensures { result ≡ size_of (written_of child.now parent.now) }
-{
-    let count = opening::count(t);
-    let mut n: u64 = 0;
-    // an iteration for each address, up to the first that has a sector
-    while n < count {
-        let size = sector(child, t, parent, p, EntryNumber(n)).len() as u64;
-        n += 1;
-        if 0 < size {
-            return size;
-        }
-    }
-    0
-}
-
-// How many sectors the pair has.
-pub fn count_written<'a>(
-    child: &'a [u8],
-    t: Opened,
-    parent: &'a [u8],
-    p: Result<Opened, Refusal>,
-) -> u64
-    requires { Pair child.now parent.now (contents t) (outcome p) }
-    ensures { result ≡ length (written_of child.now parent.now) }
-{
-    let count = opening::count(t);
-    let mut written: u64 = 0;
-    let mut n: u64 = 0;
-    // an iteration for each address
-    while n < count {
-        let size = sector(child, t, parent, p, EntryNumber(n)).len();
-        n += 1;
-        if 0 < size {
-            written += 1;
-        }
-    }
-    written
-}
-
-// Whether a sector of the pair has another size than this.
-fn any_other<'a>(
-    child: &'a [u8],
-    t: Opened,
-    parent: &'a [u8],
-    p: Result<Opened, Refusal>,
-    size: u64,
-) -> bool
-    requires { Pair child.now parent.now (contents t) (outcome p) }
-    ensures { result ≡ any_other size (written_of child.now parent.now) }
-{
-    let count = opening::count(t);
-    let mut n: u64 = 0;
-    // an iteration for each address, up to the first whose sector has another size
-    while n < count {
-        let other = sector(child, t, parent, p, EntryNumber(n)).len() as u64;
-        n += 1;
-        if 0 < other {
-            if other != size {
-                return true;
-            }
-        }
-    }
-    false
 }
 
 // Check 30 of a disc of so many addresses, of which so many have a sector, and of this size.
 fn is_over(count: u64, size: u64, written: u64) -> bool
     ensures { result ≡ (same count 0 or below most_sectors count or below largest_size size or below most_addresses written) }
 {
-    if count == 0 {
-        return true;
-    }
-    if 1048576 < count {
-        return true;
-    }
-    if 65536 < size {
-        return true;
-    }
-    65536 < written
+    count == 0 || 1048576 < count || 65536 < size || 65536 < written
 }
 
-// The pair's sectors, of which there are so many, the first of this size: 40 if one has another, then 30.
-pub fn sizes_verdict<'a>(
-    child: &'a [u8],
-    t: Opened,
-    parent: &'a [u8],
-    p: Result<Opened, Refusal>,
-    size: u64,
-    written: u64,
-) -> Result<(), Refusal>
-    requires { Pair child.now parent.now (contents t) (outcome p) × (size ≡ size_of (written_of child.now parent.now)) × (written ≡ length (written_of child.now parent.now)) }
-    ensures { result ≡ sizes_verdict (count_of child.now) (written_of child.now parent.now) }
-{
-    let place = ByteOffset(0);
-    if any_other(child, t, parent, p, size) {
-        return Err(Refusal { number: 40, place });
-    }
-    if is_over(opening::count(t), size, written) {
-        return Err(Refusal { number: 30, place });
-    }
-    Ok(())
-}
-
-// Whether two sectors hold the same bytes, length included.
-fn is_same(x: &[u8], y: &[u8]) -> bool
-    ensures { result ≡ equal x.now y.now }
-{
-    if x.len() != y.len() {
-        return false;
-    }
-    fields::matches(x, 0, y)
-}
-
-// Whether no address below n has the same sector. Each comparison ends at the first difference in size or bytes.
-pub fn is_new<'a>(
-    child: &'a [u8],
-    t: Opened,
-    parent: &'a [u8],
-    p: Result<Opened, Refusal>,
-    n: EntryNumber,
-) -> bool
-    requires { Pair child.now parent.now (contents t) (outcome p) × (n.0 < (contents t).count) }
-    ensures { result ≡ not (held_below (sector_at child.now parent.now) (sector_at child.now parent.now n.0) n.0) }
-{
-    let own = sector(child, t, parent, p, n);
-    let mut left = n.0;
-    // an iteration for each address below, the nearest first, up to the first that has it
-    while 0 < left {
-        left -= 1;
-        if is_same(sector(child, t, parent, p, EntryNumber(left)), own) {
-            return false;
+impl<'a> Pair<'a> {
+    // The parent's sector at address a, empty where it has none: it does not open, or the address is outside or not written.
+    fn parent_sector(self, a: SectorAddress) -> &'a [u8]
+        requires { other_than_21 (verdict_of (from_parent (read self.parent.now a.0))) ≡ Ok tt }
+        ensures { result.now ≡ bytes_read (from_parent (read self.entry.parent.now a.0)) }
+    {
+        let Ok(image) = self.opened else {
+            return part(self.parent, 0, 0);
+        };
+        match image.found.entry_number(a) {
+            None => part(self.parent, 0, 0),
+            Some(n) => entry_sector(image, n),
         }
     }
-    true
+
+    // The pair's sector at address n of the child, empty where it has none.
+    pub fn sector(self, n: EntryNumber) -> &'a [u8]
+        requires { n.0 < (held self.child).count }
+        ensures { result.now ≡ sector_of self.entry n.0 }
+    {
+        let own = entry_sector(self.child, n);
+        if 0 < own.len() {
+            return own;
+        }
+        self.parent_sector(self.child.found.address(n))
+    }
+
+    // The size of the first sector that the pair has, 0 where it has none.
+    pub fn size(self) -> u64
+        ensures { result ≡ size_of (written_in self.entry) }
+    {
+        // an iteration for each address, up to the first that has a sector
+        for n in 0..self.child.found.count() {
+            let size = self.sector(EntryNumber(n)).len() as u64;
+            if 0 < size {
+                return size;
+            }
+        }
+        0
+    }
+
+    // How many sectors the pair has.
+    pub fn count_written(self) -> u64
+        ensures { result ≡ length (written_in self.entry) }
+    {
+        let mut written: u64 = 0;
+        // an iteration for each address
+        for n in 0..self.child.found.count() {
+            if 0 < self.sector(EntryNumber(n)).len() {
+                written += 1;
+            }
+        }
+        written
+    }
+
+    // Whether a sector of the pair has another size than this.
+    fn any_other(self, size: u64) -> bool
+        ensures { result ≡ any_other size (written_in self.entry) }
+    {
+        // an iteration for each address, up to the first whose sector has another size
+        for n in 0..self.child.found.count() {
+            let other = self.sector(EntryNumber(n)).len() as u64;
+            if 0 < other && other != size {
+                return true;
+            }
+        }
+        false
+    }
+
+    // The pair's sectors, of which there are so many, the first of this size: 40 if one has another, then 30.
+    pub fn sizes_verdict(self, size: u64, written: u64) -> Result<(), Refusal>
+        requires { (size ≡ size_of (written_in self)) × (written ≡ length (written_in self)) }
+        ensures { result ≡ sizes_verdict (count_of self.entry.child.bytes.now) (written_in self.entry) }
+    {
+        let place = ByteOffset(0);
+        if self.any_other(size) {
+            return Err(Refusal { number: 40, place });
+        }
+        if is_over(self.child.found.count(), size, written) {
+            return Err(Refusal { number: 30, place });
+        }
+        Ok(())
+    }
+
+    // Whether no address below n has the same sector. Each comparison ends at the first difference in size or bytes.
+    pub fn is_new(self, n: EntryNumber) -> bool
+        requires { n.0 < (held self.child).count }
+        ensures { result ≡ not (held_below (sector_of self.entry) (sector_of self.entry n.0) n.0) }
+    {
+        let own = self.sector(n);
+        // an iteration for each address below, the nearest first, up to the first that has it
+        for below in (0..n.0).rev() {
+            let other = self.sector(EntryNumber(below));
+            if other == own {
+                return false;
+            }
+        }
+        true
+    }
 }
