@@ -20,8 +20,8 @@ ghost use Rattle.pairs.specs.Pairs.{Pair, sector_at};
 ghost use Rattle.composing.specs.Composes.{stored_of, layout_of, filled, Lays};
 
 use composing::Layout;
-pub use format::Refusal;
-use format::{ByteOffset, EntryNumber, Placed};
+pub use format::{Placed, Refusal};
+use format::{ByteOffset, EntryNumber};
 use opening::Opened;
 
 // What a new image is stamped with: the application's version, the media type, and two times.
