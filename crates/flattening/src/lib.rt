@@ -20,10 +20,8 @@ ghost use Rattle.composing.specs.Composes.{stored_of, layout_of, filled, Lays};
 ghost use Rattle.flattening.specs.Flattens.{Ready};
 
 use composing::Layout;
-pub use format::Refusal;
-use format::{ByteOffset, EntryNumber, Placed};
-use opening::Image;
-use pairs::Pair;
+use format::{ByteOffset, EntryNumber};
+pub use format::{Placed, Refusal};
 
 // What a new image is stamped with: the application's version, the media type, and two times.
 #[derive(Clone, Copy)]
