@@ -22,6 +22,8 @@ ghost use Rattle.flattening.specs.Flattens.{Ready};
 use composing::Layout;
 use format::{ByteOffset, EntryNumber};
 pub use format::{Placed, Refusal};
+use opening::Image;
+use pairs::Pair;
 
 // What a new image is stamped with: the application's version, the media type, and two times.
 #[derive(Clone, Copy)]
