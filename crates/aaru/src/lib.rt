@@ -11,7 +11,7 @@ ghost use Rattle.format.specs.RollingBack.{rollback};
 ghost use Rattle.format.specs.Answers.{bytes_read, answered};
 
 use format::CREATED_ENTRIES;
-pub use format::{AddressRange, ByteOffset, Place, Placed, Refusal, SectorAddress};
+pub use format::{AddressRange, ByteOffset, Place, Placed, Refusal, SectorAddress, Stamp};
 
 // How many sectors the image has and which address is the lowest, or why it does not open: 1 to 14, 70 to 72.
 pub fn sector_count(image: &[u8]) -> Result<AddressRange, Refusal>
@@ -42,29 +42,11 @@ pub fn read<'a>(image: &'a [u8], a: SectorAddress) -> &'a [u8]
 // Makes a new image at the start of the buffer, of `count` sectors that are not written, or says why it can't: 31, 30, 33, 35. The
 // application's name has 64 bytes; times are stored as they are handed in. Later bytes of the buffer stay as they are. The answer is
 // how many bytes the image has, and where its index stands. Linear in the image's bytes.
-pub fn create(
-    buffer: &mut [u8],
-    count: u64,
-    application: &[u8],
-    major: u8,
-    minor: u8,
-    mediaType: u32,
-    created: u64,
-    written: u64,
-) -> Result<Placed, Refusal>
-    ensures { answered result buffer.new ≡ create buffer.old count application.now major minor mediaType created written }
+pub fn create<'a, 'b>(buffer: &'b mut [u8], count: u64, stamp: Stamp<'a>) -> Result<Placed, Refusal>
+    ensures { answered result buffer.new ≡ create buffer.old count stamp.entry.application.now stamp.entry.major stamp.entry.minor stamp.entry.media_type stamp.entry.created stamp.entry.written }
 {
-    arguments::create_verdict(buffer, count, application)?;
-    records::put_image(
-        buffer,
-        count,
-        application,
-        major,
-        minor,
-        mediaType,
-        created,
-        written,
-    );
+    arguments::create_verdict(buffer, count, stamp.application)?;
+    records::put_image(buffer, count, stamp);
     let at = CREATED_ENTRIES + 8 * count;
     let used = at + 20 + 16; // an index's header and one entry
     let index = ByteOffset(at);

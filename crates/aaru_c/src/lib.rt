@@ -17,7 +17,7 @@ ghost use Rattle.format.specs.Flattening.{flatten};
 ghost use Rattle.format.specs.Writing.{placed};
 ghost use Rattle.aaru_c.specs.Returned.{returned, count_and_lowest, start_and_size, which_start_and_size, left};
 
-use aaru::{ByteOffset, Placed, Refusal, SectorAddress};
+use aaru::{ByteOffset, Placed, Refusal, SectorAddress, Stamp};
 
 // What a refused call returns, and sets.
 fn refused(r: Refusal, place: &mut u64) -> u32
@@ -132,12 +132,14 @@ pub extern "C" fn aaru_create(
     let answer = aaru::create(
         buffer,
         sectors,
-        application,
-        major,
-        minor,
-        mediaType,
-        created,
-        written,
+        Stamp {
+            application,
+            major,
+            minor,
+            media_type: mediaType,
+            created,
+            written,
+        },
     );
     numbers(answer, used, index, place)
 }
@@ -242,12 +244,14 @@ pub extern "C" fn aaru_import(
         buffer,
         file,
         sectorSize,
-        application,
-        major,
-        minor,
-        mediaType,
-        creationTime,
-        lastWrittenTime,
+        Stamp {
+            application,
+            major,
+            minor,
+            media_type: mediaType,
+            created: creationTime,
+            written: lastWrittenTime,
+        },
     );
     numbers(answer, used, index, place)
 }
@@ -274,12 +278,14 @@ pub extern "C" fn aaru_flatten<'a, 'b, 'c>(
         buffer,
         child,
         parent,
-        application,
-        major,
-        minor,
-        mediaType,
-        createdAt,
-        writtenAt,
+        Stamp {
+            application,
+            major,
+            minor,
+            media_type: mediaType,
+            created: createdAt,
+            written: writtenAt,
+        },
     );
     numbers(answer, used, index, place)
 }

@@ -4,6 +4,8 @@
 ghost use Rattle.text.specs.Buffer.{Prints};
 ghost use Rattle.converting.specs.Texts.{export_text, import_text};
 
+use flat::Stamp;
+
 // What the exporting program prints for an image: its flat file, in which nothing is filled, or why there is none. It is written to the front of out; the answer is how many bytes it is.
 pub fn export(input: &[u8], out: &mut [u8; 65536]) -> usize
     ensures { Prints out.old (export_text input.now) out.new result }
@@ -26,7 +28,15 @@ pub fn import(input: &[u8], out: &mut [u8; 65536]) -> usize
         return text::write(out, 0, b"too long\n");
     }
     let application = [0u8; 64];
-    let answer = flat::import(out, input, 2048, &application, 0, 0, 0, 0, 0);
+    let stamp = Stamp {
+        application: &application,
+        major: 0,
+        minor: 0,
+        media_type: 0,
+        created: 0,
+        written: 0,
+    };
+    let answer = flat::import(out, input, 2048, stamp);
     match answer {
         Ok(p) => p.used as usize,
         Err(r) => text::refused(out, 0, r.number as u64),

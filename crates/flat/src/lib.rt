@@ -18,7 +18,7 @@ ghost use Rattle.flat.specs.Exports.{Uniform};
 
 use fields::{clear, copy, part};
 use format::{ByteOffset, EntryNumber};
-pub use format::{Flat, Placed, Refusal};
+pub use format::{Flat, Placed, Refusal, Stamp};
 // an import, with its contract
 pub use importing::import;
 use opening::Image;

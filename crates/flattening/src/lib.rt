@@ -21,19 +21,9 @@ ghost use Rattle.flattening.specs.Flattens.{Ready};
 
 use composing::Layout;
 use format::{ByteOffset, EntryNumber};
-pub use format::{Placed, Refusal};
+pub use format::{Placed, Refusal, Stamp};
 use opening::Image;
 use pairs::Pair;
-
-// What a new image is stamped with: the application's version, the media type, and two times.
-#[derive(Clone, Copy)]
-struct Stamp {
-    major: u8,
-    minor: u8,
-    mediaType: u32,
-    created: u64,
-    written: u64,
-}
 
 // How many of the pair's sectors are stored, wherever the block will be.
 fn count_stored<'a>(pair: Pair<'a>) -> u64
@@ -86,11 +76,10 @@ fn flatten_tight<'a, 'b, 'c>(
     buffer: &'b mut [u8],
     pair: Pair<'a>,
     size: u64,
-    application: &'c [u8],
-    new: Stamp,
+    stamp: Stamp<'c>,
 ) -> Result<Placed, Refusal>
-    requires { Ready buffer.old pair application.now size }
-    ensures { answered result buffer.new ≡ flatten buffer.old pair.entry.child.bytes.now pair.entry.parent.now application.now new.major new.minor new.mediaType new.created new.written }
+    requires { Ready buffer.old pair stamp.application.now size }
+    ensures { answered result buffer.new ≡ flatten buffer.old pair.entry.child.bytes.now pair.entry.parent.now stamp.entry.application.now stamp.entry.major stamp.entry.minor stamp.entry.media_type stamp.entry.created stamp.entry.written }
 {
     let count = pair.child.found.count();
     let stored = count_stored(pair);
@@ -102,18 +91,9 @@ fn flatten_tight<'a, 'b, 'c>(
         let place = ByteOffset(0);
         return Err(Refusal { number: 35, place });
     }
-    records::put_image(
-        buffer,
-        count,
-        application,
-        new.major,
-        new.minor,
-        new.mediaType,
-        new.created,
-        new.written,
-    );
+    records::put_image(buffer, count, stamp);
     put_entries(buffer, pair, at);
-    composing::finish(buffer, count, size, stored, at, new.written);
+    composing::finish(buffer, count, size, stored, at, stamp.written);
     Ok(Placed { used: end, index })
 }
 
@@ -124,28 +104,18 @@ fn flatten_roomy<'a, 'b, 'c>(
     pair: Pair<'a>,
     size: u64,
     most: Layout,
-    application: &'c [u8],
-    new: Stamp,
+    stamp: Stamp<'c>,
 ) -> Result<Placed, Refusal>
-    requires { Ready buffer.old pair application.now size
+    requires { Ready buffer.old pair stamp.application.now size
         × (most ≡ layout_of (held pair.child).count size (length (written_in pair))) × (most.end ≤ length buffer.old) }
-    ensures { answered result buffer.new ≡ flatten buffer.old pair.entry.child.bytes.now pair.entry.parent.now application.now new.major new.minor new.mediaType new.created new.written }
+    ensures { answered result buffer.new ≡ flatten buffer.old pair.entry.child.bytes.now pair.entry.parent.now stamp.entry.application.now stamp.entry.major stamp.entry.minor stamp.entry.media_type stamp.entry.created stamp.entry.written }
 {
     let count = pair.child.found.count();
-    records::put_image(
-        buffer,
-        count,
-        application,
-        new.major,
-        new.minor,
-        new.mediaType,
-        new.created,
-        new.written,
-    );
+    records::put_image(buffer, count, stamp);
     let stored = put_sectors(buffer, pair, most);
     let at = composing::lay_out(count, size, stored);
     put_entries(buffer, pair, at);
-    composing::finish(buffer, count, size, stored, at, new.written);
+    composing::finish(buffer, count, size, stored, at, stamp.written);
     let end = at.end;
     let index = at.index;
     Ok(Placed { used: end, index })
@@ -157,18 +127,17 @@ fn flatten_some<'a, 'b, 'c>(
     pair: Pair<'a>,
     size: u64,
     sectors: u64,
-    application: &'c [u8],
-    new: Stamp,
+    stamp: Stamp<'c>,
 ) -> Result<Placed, Refusal>
-    requires { Ready buffer.old pair application.now size × (sectors ≡ length (written_in pair)) }
-    ensures { answered result buffer.new ≡ flatten buffer.old pair.entry.child.bytes.now pair.entry.parent.now application.now new.major new.minor new.mediaType new.created new.written }
+    requires { Ready buffer.old pair stamp.application.now size × (sectors ≡ length (written_in pair)) }
+    ensures { answered result buffer.new ≡ flatten buffer.old pair.entry.child.bytes.now pair.entry.parent.now stamp.entry.application.now stamp.entry.major stamp.entry.minor stamp.entry.media_type stamp.entry.created stamp.entry.written }
 {
     let most = composing::lay_out(pair.child.found.count(), size, sectors);
     let length = buffer.len() as u64;
     if length < most.end {
-        return flatten_tight(buffer, pair, size, application, new);
+        return flatten_tight(buffer, pair, size, stamp);
     }
-    flatten_roomy(buffer, pair, size, most, application, new)
+    flatten_roomy(buffer, pair, size, most, stamp)
 }
 
 // Flattening a pair whose child has a table of the first kind, after 31 and 33.
@@ -176,11 +145,10 @@ fn flatten_opened<'a, 'b, 'c>(
     buffer: &'b mut [u8],
     child: Image<'a>,
     parent: &'a [u8],
-    application: &'c [u8],
-    new: Stamp,
+    stamp: Stamp<'c>,
 ) -> Result<Placed, Refusal>
-    requires { ((held child).kind ≡ First) × (lent_verdict buffer.old application.now ≡ Ok tt) }
-    ensures { answered result buffer.new ≡ flatten buffer.old child.entry.bytes.now parent.now application.now new.major new.minor new.mediaType new.created new.written }
+    requires { ((held child).kind ≡ First) × (lent_verdict buffer.old stamp.application.now ≡ Ok tt) }
+    ensures { answered result buffer.new ≡ flatten buffer.old child.entry.bytes.now parent.now stamp.entry.application.now stamp.entry.major stamp.entry.minor stamp.entry.media_type stamp.entry.created stamp.entry.written }
 {
     let opened = opening::open(parent);
     pair_checking::pair_verdict(child, parent, opened)?;
@@ -193,18 +161,9 @@ fn flatten_opened<'a, 'b, 'c>(
     let sectors = pair.count_written();
     pair.sizes_verdict(size, sectors)?;
     if sectors == 0 {
-        return aaru::create(
-            buffer,
-            child.found.count(),
-            application,
-            new.major,
-            new.minor,
-            new.mediaType,
-            new.created,
-            new.written,
-        );
+        return aaru::create(buffer, child.found.count(), stamp);
     }
-    flatten_some(buffer, pair, size, sectors, application, new)
+    flatten_some(buffer, pair, size, sectors, stamp)
 }
 
 // Flattening a pair whose child opened, after 31 and 33: 74 where its table is of the second kind.
@@ -212,14 +171,13 @@ fn flatten_child<'a, 'b, 'c>(
     buffer: &'b mut [u8],
     child: Image<'a>,
     parent: &'a [u8],
-    application: &'c [u8],
-    new: Stamp,
+    stamp: Stamp<'c>,
 ) -> Result<Placed, Refusal>
-    requires { lent_verdict buffer.old application.now ≡ Ok tt }
-    ensures { answered result buffer.new ≡ flatten buffer.old child.entry.bytes.now parent.now application.now new.major new.minor new.mediaType new.created new.written }
+    requires { lent_verdict buffer.old stamp.application.now ≡ Ok tt }
+    ensures { answered result buffer.new ≡ flatten buffer.old child.entry.bytes.now parent.now stamp.entry.application.now stamp.entry.major stamp.entry.minor stamp.entry.media_type stamp.entry.created stamp.entry.written }
 {
     child.found.kind_verdict()?;
-    flatten_opened(buffer, child, parent, application, new)
+    flatten_opened(buffer, child, parent, stamp)
 }
 
 // Makes an image at the start of the buffer that reads as the child over its parent: what a creation with the child's count and one commit, at the last time,
@@ -230,23 +188,11 @@ pub fn flatten<'a, 'b, 'c>(
     buffer: &'b mut [u8],
     child: &'a [u8],
     parent: &'a [u8],
-    application: &'c [u8],
-    major: u8,
-    minor: u8,
-    mediaType: u32,
-    created: u64,
-    written: u64,
+    stamp: Stamp<'c>,
 ) -> Result<Placed, Refusal>
-    ensures { answered result buffer.new ≡ flatten buffer.old child.now parent.now application.now major minor mediaType created written }
+    ensures { answered result buffer.new ≡ flatten buffer.old child.now parent.now stamp.entry.application.now stamp.entry.major stamp.entry.minor stamp.entry.media_type stamp.entry.created stamp.entry.written }
 {
-    arguments::lent_verdict(buffer, application)?;
-    let new = Stamp {
-        major,
-        minor,
-        mediaType,
-        created,
-        written,
-    };
+    arguments::lent_verdict(buffer, stamp.application)?;
     let opened = opening::open(child)?;
-    flatten_child(buffer, opened, parent, application, new)
+    flatten_child(buffer, opened, parent, stamp)
 }

@@ -76,6 +76,18 @@ pub struct Placed {
     pub index: ByteOffset,
 }
 
+// What a new image is stamped with: the application's name, 64 bytes, and its version, the media type, and the two times of the header, which are stored as
+// they are.
+#[derive(Clone, Copy)]
+pub struct Stamp<'a> {
+    pub application: &'a [u8],
+    pub major: u8,
+    pub minor: u8,
+    pub media_type: u32,
+    pub created: u64,
+    pub written: u64,
+}
+
 // The flat file that an export wrote: how many bytes it has, and how many sectors of it are filled with zeros (9/13).
 #[derive(Clone, Copy)]
 pub struct Flat {

@@ -1,5 +1,5 @@
 // The calls that rows make, and the lines that say what they answer and whether they wrote what document 01 allows and nothing else.
-use aaru::{ByteOffset, Placed, Refusal};
+use aaru::{ByteOffset, Placed, Refusal, Stamp};
 use printing::{MINUS, address, number, refused, text};
 use std::io;
 
@@ -87,7 +87,15 @@ fn create(buffer: &mut [u8], row: &[u64; 5]) -> Result<Placed, Refusal> {
     if 65 < n {
         return no_call();
     }
-    aaru::create(buffer, row[1], &application[0..n], 1, 2, 3, row[3], row[4])
+    let stamp = Stamp {
+        application: &application[0..n],
+        major: 1,
+        minor: 2,
+        media_type: 3,
+        created: row[3],
+        written: row[4],
+    };
+    aaru::create(buffer, row[1], stamp)
 }
 
 // Commits at the addresses of a list.

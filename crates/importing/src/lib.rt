@@ -13,7 +13,7 @@ ghost use Rattle.composing.specs.Composes.{stored_of, filled, Lays};
 ghost use Rattle.importing.specs.Imports.{Files};
 
 use composing::Layout;
-use format::{ByteOffset, Placed, Refusal};
+use format::{ByteOffset, Placed, Refusal, Stamp};
 
 // How many of the first `count` sectors of the file are stored, wherever the block will be.
 fn count_stored(file: &[u8], count: u64, size: u64) -> u64
@@ -47,20 +47,15 @@ fn put_entries(buf: &mut [u8], file: &[u8], count: u64, size: u64, at: Layout)
 // Makes an image at the start of the buffer whose sectors are those of a flat file, each of `size` bytes: what a creation and one commit
 // of all sectors at the last time would leave, and that commit's answer. Or says why it can't: 31, 30, 42, 33, 35. Later bytes of the
 // buffer stay as they are.
-pub fn import(
-    buffer: &mut [u8],
-    file: &[u8],
+pub fn import<'a, 'b, 'c>(
+    buffer: &'b mut [u8],
+    file: &'c [u8],
     size: u64,
-    application: &[u8],
-    major: u8,
-    minor: u8,
-    mediaType: u32,
-    created: u64,
-    written: u64,
+    stamp: Stamp<'a>,
 ) -> Result<Placed, Refusal>
-    ensures { answered result buffer.new ≡ import buffer.old file.now size application.now major minor mediaType created written }
+    ensures { answered result buffer.new ≡ import buffer.old file.now size stamp.entry.application.now stamp.entry.major stamp.entry.minor stamp.entry.media_type stamp.entry.created stamp.entry.written }
 {
-    arguments::import_verdict(buffer, file, size, application)?;
+    arguments::import_verdict(buffer, file, size, stamp.application)?;
     let count = file.len() as u64 / size;
     let stored = count_stored(file, count, size);
     let at = composing::lay_out(count, size, stored);
@@ -71,17 +66,8 @@ pub fn import(
         let place = ByteOffset(0);
         return Err(Refusal { number: 35, place });
     }
-    records::put_image(
-        buffer,
-        count,
-        application,
-        major,
-        minor,
-        mediaType,
-        created,
-        written,
-    );
+    records::put_image(buffer, count, stamp);
     put_entries(buffer, file, count, size, at);
-    composing::finish(buffer, count, size, stored, at, written);
+    composing::finish(buffer, count, size, stored, at, stamp.written);
     Ok(Placed { used: end, index })
 }

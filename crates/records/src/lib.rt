@@ -17,6 +17,7 @@ use fields::{clear, copy, get, part, put};
 use format::{
     APPLICATION, APPLICATION_MAJOR, APPLICATION_MINOR, ByteOffset, CREATED_ENTRIES, CREATION_TIME,
     Entry, HEADER_LENGTH, IMAGE_MAJOR, IMAGE_MINOR, INDEX_OFFSET, LAST_WRITTEN_TIME, MEDIA_TYPE,
+    Stamp,
 };
 
 // The fields that begin a block and a table: identifier, type 1, compression 0.
@@ -107,37 +108,28 @@ pub fn user_data_entry(letters: &[u8; 4], offset: ByteOffset) -> Entry
 }
 
 // The header's versions and mediaType: those of the image are 2.0.
-fn put_versions(buf: &mut [u8], major: u8, minor: u8, mediaType: u32)
+fn put_versions(buf: &mut [u8], major: u8, minor: u8, media_type: u32)
     requires { image_major_at + 8 ≤ length buf.old }
-    ensures { buf.new ≡ overwrite buf.old image_major_at (layout (num 1 2 ∷ num 1 0 ∷ num 1 major ∷ num 1 minor ∷ num 4 mediaType ∷ [])) }
+    ensures { buf.new ≡ overwrite buf.old image_major_at (layout (num 1 2 ∷ num 1 0 ∷ num 1 major ∷ num 1 minor ∷ num 4 media_type ∷ [])) }
 {
     put(buf, IMAGE_MAJOR, 1, 2);
     put(buf, IMAGE_MINOR, 1, 0);
     put(buf, APPLICATION_MAJOR, 1, major as u64);
     put(buf, APPLICATION_MINOR, 1, minor as u64);
-    put(buf, MEDIA_TYPE, 4, mediaType as u64);
+    put(buf, MEDIA_TYPE, 4, media_type as u64);
 }
 
 // Writes the header of a new image.
-fn put_header(
-    buf: &mut [u8],
-    application: &[u8],
-    major: u8,
-    minor: u8,
-    mediaType: u32,
-    index: ByteOffset,
-    created: u64,
-    written: u64,
-)
-    requires { (header_length ≤ length buf.old) × (length application.now ≡ application_length) }
-    ensures { buf.new ≡ overwrite buf.old 0 (header_bytes application.now major minor mediaType index.0 created written) }
+fn put_header<'a, 'b>(buf: &'b mut [u8], stamp: Stamp<'a>, index: ByteOffset)
+    requires { (header_length ≤ length buf.old) × (length stamp.application.now ≡ application_length) }
+    ensures { buf.new ≡ overwrite buf.old 0 (header_bytes stamp.entry.application.now stamp.entry.major stamp.entry.minor stamp.entry.media_type index.0 stamp.entry.created stamp.entry.written) }
 {
     copy(buf, 0, b"AARUFRMT");
-    copy(buf, APPLICATION, application);
-    put_versions(buf, major, minor, mediaType);
+    copy(buf, APPLICATION, stamp.application);
+    put_versions(buf, stamp.major, stamp.minor, stamp.media_type);
     put(buf, INDEX_OFFSET, 8, index.0);
-    put(buf, CREATION_TIME, 8, created);
-    put(buf, LAST_WRITTEN_TIME, 8, written);
+    put(buf, CREATION_TIME, 8, stamp.created);
+    put(buf, LAST_WRITTEN_TIME, 8, stamp.written);
 }
 
 // Sets indexOffset and lastWrittenTime.
@@ -151,30 +143,12 @@ pub fn set_header(buf: &mut [u8], offset: ByteOffset, time: u64)
 
 // Writes a new image: header, a table of `count` entries that are 0, an index of the table's entry.
 #[tactic(auto, unfolding(format::specs::Creating::created_used, format::specs::Creating::created_index_at))]
-pub fn put_image(
-    buf: &mut [u8],
-    count: u64,
-    application: &[u8],
-    major: u8,
-    minor: u8,
-    mediaType: u32,
-    created: u64,
-    written: u64,
-)
-    requires { (created_used count ≤ length buf.old) × (length application.now ≡ application_length) }
-    ensures { buf.new ≡ overwrite buf.old 0 (created_bytes count application.now major minor mediaType created written) }
+pub fn put_image<'a, 'b>(buf: &'b mut [u8], count: u64, stamp: Stamp<'a>)
+    requires { (created_used count ≤ length buf.old) × (length stamp.application.now ≡ application_length) }
+    ensures { buf.new ≡ overwrite buf.old 0 (created_bytes count stamp.entry.application.now stamp.entry.major stamp.entry.minor stamp.entry.media_type stamp.entry.created stamp.entry.written) }
 {
     let index = CREATED_ENTRIES + 8 * count;
-    put_header(
-        buf,
-        application,
-        major,
-        minor,
-        mediaType,
-        ByteOffset(index),
-        created,
-        written,
-    );
+    put_header(buf, stamp, ByteOffset(index));
     clear(buf, CREATED_ENTRIES, 8 * count);
     seal_table(buf, ByteOffset(HEADER_LENGTH), 0, count);
     let e = user_data_entry(b"DDT*", ByteOffset(HEADER_LENGTH));

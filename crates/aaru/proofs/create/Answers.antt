@@ -10,7 +10,7 @@ use Rattle.format.proofs.Answers.{outcome-stops, outcome-done}
 use Rattle.aaru.proofs.create.Goals as goal
 use Rattle.aaru.proofs.create.Goals.{In_ok-create_verdict}
 
-ok : (c : In_ok-create_verdict) → let a = c.args in CreateOk a.buffer.now a.count a.application.now
+ok : (c : In_ok-create_verdict) → let a = c.args in CreateOk a.buffer.now a.count a.stamp.application.now
 ok c = (create-ok _ _ _).0 (sym c.in_ok-create_verdict.ensures)
 
 pub returns-in_err-create_verdict : goal.returns-in_err-create_verdict

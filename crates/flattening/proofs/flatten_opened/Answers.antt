@@ -50,7 +50,7 @@ returns-in_err-sizes_verdict c =
 -- all checks but 35 have
 checked : (c : In_ok-sizes_verdict)
     → (let a = c.args in
-    flatten_verdict a.buffer.now a.child.bytes.now a.parent.now a.application.now ≡ Ok tt)
+    flatten_verdict a.buffer.now a.child.bytes.now a.parent.now a.stamp.application.now ≡ Ok tt)
 checked c =
     rest-is _ _ _ _ c.requires.1 _ c.args.child.opens c.requires.0 ∙ sym (goes c.in_ok-pair_verdict.ensures c.in_ok-sizes_verdict.ensures)
 

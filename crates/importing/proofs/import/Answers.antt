@@ -16,7 +16,7 @@ use Rattle.importing.proofs.import.Goals as goal
 use Rattle.importing.proofs.import.Goals.{After-lay_out-at, After-put_image, In_ok-import_verdict}
 
 -- the arguments have passed
-ok : (c : In_ok-import_verdict) → (let a = c.args in Importable a.buffer.now a.file.now a.size a.application.now)
+ok : (c : In_ok-import_verdict) → (let a = c.args in Importable a.buffer.now a.file.now a.size a.stamp.application.now)
 ok c = (importable _ _ _ _).0 (sym c.in_ok-import_verdict.ensures)
 
 pub returns-in_err-import_verdict : goal.returns-in_err-import_verdict
