@@ -1,5 +1,5 @@
 -- `opening::writable_verdict` meets its contract. Assumes nothing.
-use mathlib.Core.Path.{sym}
+use mathlib.Core.Path.{sym, ap, ◌∙◌}
 use Rattle.format.specs.Opening.{open_verdict}
 use Rattle.format.specs.Writing.{writable_verdict}
 use Rattle.format.proofs.Refusals.{answer-accepted, answer-refused}
@@ -16,10 +16,10 @@ open_index-requires c = sym c.in_ok-header_verdict.ensures
 
 pub returns-in_err-t : goal.returns-in_err-t
 unfolding writable_verdict outcome
-returns-in_err-t c = early c.from_residual-in_err-t.ensures (stops _ (sym (answer-refused _ _ _ (sym c.in_err-t.ensures))))
+returns-in_err-t c = early c.from_residual-in_err-t.ensures (stops _ (sym (answer-refused _ _ _ (sym (ap outcome (sym c.in_err-t.was) ∙ c.open_index.ensures)))))
 
 pub returns : goal.returns
 unfolding writable_verdict outcome
 returns c =
-    let q = answer-accepted _ _ _ (sym c.in_ok-t.ensures) in
+    let q = answer-accepted _ _ _ (sym (ap outcome (sym c.in_ok-t.was) ∙ c.open_index.ensures)) in
     goes (sym q.0) (rw q.1 c.kind_verdict.ensures)
