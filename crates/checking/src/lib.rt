@@ -224,7 +224,8 @@ fn with_block<'a, 'b>(image: Image<'a>, scope: Scope<'b>, i: u64, first: First) 
         return first;
     }
     let b = e.offset;
-    if sectors::names(index, i + 1, b) {
+    let behind = ByteOffset(index.place(i).0 + 16);
+    if sectors::names(image.bytes, behind, index.count() - (i + 1), b) {
         return first;
     }
     if is_damaged(image.bytes, b) {

@@ -25,24 +25,26 @@ step left h = omega arith
 end : (left : ℕ) → left ≤ 0 → left ≡ 0
 end left h = omega arith
 
--- the same by the number of the entry, of n in the index at o: what holds of all holds from the first one on, and what holds of those behind an entry
+-- the same by the number of the entry, of n from place p on: what holds of all holds from the first one on, and what holds of those behind an entry
 -- holds from the next one on
-pub start : (P : ℕ → ℕ → Type 0) (n o : ℕ) → P n (o + index_header_length) → P (n - 0) (entry_place o 0)
-start P n o h =
+pub start-at : (P : ℕ → ℕ → Type 0) (n p : ℕ) → P n p → P (n - 0) (p + entry_length * 0)
+start-at P n p h =
     let l : n ≡ n - 0 = omega arith in
-    let p : o + 20 ≡ o + 20 + 16 * 0 = omega arith in
-    subst (λ (k : ℕ). P k (entry_place o 0)) l (subst (λ (q : ℕ). P n q) p h)
+    let e : p ≡ p + 16 * 0 = omega arith in
+    subst (λ (k : ℕ). P k (p + entry_length * 0)) l (subst (λ (q : ℕ). P n q) e h)
 
--- from the first on they are all
-pub all_on : (img : List ℕ) (o : ℕ) → entries_on img o 0 ≡ entries img o
-unfolding entries
-all_on img o = start (λ k p. entries_from img k p ≡ entries_from img (entry_count img o) (o + index_header_length)) (entry_count img o) o refl
+pub turn-at : (P : ℕ → ℕ → Type 0) (n p i : ℕ) → P (n - i - 1) (p + entry_length * i + entry_length) → P (n - (i + 1)) (p + entry_length * (i + 1))
+turn-at P n p i h =
+    let l : n - i - 1 ≡ n - (i + 1) = omega arith in
+    let e : p + 16 * i + 16 ≡ p + 16 * (i + 1) = omega arith in
+    subst (λ (k : ℕ). P k (p + entry_length * (i + 1))) l (subst (λ (q : ℕ). P (n - i - 1) q) e h)
+
+-- of the index at o
+pub start : (P : ℕ → ℕ → Type 0) (n o : ℕ) → P n (o + index_header_length) → P (n - 0) (entry_place o 0)
+start P n o h = start-at P n (o + index_header_length) h
 
 pub turn : (P : ℕ → ℕ → Type 0) (n o i : ℕ) → P (n - i - 1) (entry_place o i + entry_length) → P (n - (i + 1)) (entry_place o (i + 1))
-turn P n o i h =
-    let l : n - i - 1 ≡ n - (i + 1) = omega arith in
-    let p : o + 20 + 16 * i + 16 ≡ o + 20 + 16 * (i + 1) = omega arith in
-    subst (λ (k : ℕ). P k (entry_place o (i + 1))) l (subst (λ (q : ℕ). P (n - i - 1) q) p h)
+turn P n o i h = turn-at P n (o + index_header_length) i h
 
 -- ---- checks 7 and 8; v is what all entries give
 module _ (img : List ℕ) (left p : ℕ) {v : Verdict} (all : entries_verdict img left p ≡ v) where
@@ -82,6 +84,11 @@ module _ (f : Entry → Bool) (img : List ℕ) (left p : ℕ) where
   pub offsets-done : left ≤ 0 → offsets_with f (entries_from img left p) ≡ []
   unfolding offsets_with
   offsets-done h = ap (offsets_with f) (entries-done img left p h)
+
+-- from the first on they are all
+pub all_on : (img : List ℕ) (o : ℕ) → entries_on img o 0 ≡ entries img o
+unfolding entries
+all_on img o = start (λ k p. entries_from img k p ≡ entries_from img (entry_count img o) (o + index_header_length)) (entry_count img o) o refl
 
 -- the same by the number of the entry
 module _ (f : Entry → Bool) (img : List ℕ) (o i : ℕ) where

@@ -11,7 +11,6 @@ ghost use Rattle.format.specs.Opening.{is_user_data, offsets_of, open_verdict, o
 ghost use Rattle.format.specs.Reading.{has, pointer_at, block_malformed, block_verdict, item_verdict, pointer_verdict, sector_verdict, address_verdict, pointer_of, place_of, locate, read};
 ghost use Rattle.format.specs.Facts.{BlockOk, ItemOk};
 ghost use Rattle.format.specs.Answers.{bytes_read};
-ghost use Rattle.index.specs.Entries.{entries_on};
 ghost use Rattle.opening.specs.Images.{held};
 ghost use Rattle.sectors.specs.Found.{Known, is_known};
 
@@ -19,7 +18,7 @@ use fields::{get, part, room};
 use format::{
     ByteOffset, Entry, EntryNumber, INDEX_OFFSET, Place, Pointer, Refusal, SectorAddress,
 };
-use index::{Index, is_user_data};
+use index::{Index, entry, is_user_data};
 use opening::Image;
 
 // An address to locate, and a block that is known to be intact, if there is one.
@@ -50,13 +49,14 @@ fn names_block(e: Entry, b: ByteOffset) -> bool
     false
 }
 
-// One of the index entries from the i-th on names a data block at b. At most one pass over them.
-pub fn names<'a>(index: Index<'a>, i: u64, b: ByteOffset) -> bool
-    ensures { result ≡ has b.0 (offsets_of DBLK (entries_on index.entry.bytes.now index.entry.at.0 i)) }
+// One of the `left` index entries from `first` on names a data block at b. At most one pass over them.
+pub fn names(s: &[u8], first: ByteOffset, left: u64, b: ByteOffset) -> bool
+    requires { first.0 + entry_length * left ≤ length s.now }
+    ensures { result ≡ has b.0 (offsets_of DBLK (entries_from s.now left first.0)) }
 {
     // an iteration for each entry, up to the first that names the block
-    for k in i..index.count() {
-        if names_block(index.entry(k), b) {
+    for k in 0..left {
+        if names_block(entry(s, ByteOffset(first.0 + 16 * k)), b) {
             return true;
         }
     }
@@ -67,7 +67,7 @@ pub fn names<'a>(index: Index<'a>, i: u64, b: ByteOffset) -> bool
 pub fn is_indexed<'a>(index: Index<'a>, b: ByteOffset) -> bool
     ensures { result ≡ has b.0 (offsets_of DBLK (entries index.entry.bytes.now index.entry.at.0)) }
 {
-    names(index, 0, b)
+    names(index.bytes, ByteOffset(index.at.0 + 20), index.count(), b)
 }
 
 // The block at b: check 25.

@@ -3,9 +3,10 @@ use mathlib.Core.Bool.{true}
 use mathlib.Core.List.{◌∷◌}
 use mathlib.Core.Logic.Iff
 use mathlib.Core.Logic.{inl, inr}
-use mathlib.Core.Path.{◌≡◌}
-use Prim.Native.Nat.{◌+◌}
-use Rattle.format.specs.Layouts.{DBLK, index_offset, entry_at}
+use Prim.Native.Nat.{ℕ, ◌+◌, ◌-◌, ◌*◌}
+use native.Mathlib.Omega.{arith}
+use mathlib.Core.Path.{◌≡◌, ap, ◌∙◌}
+use Rattle.format.specs.Layouts.{DBLK, index_offset, entry_count, entry_at, entries_from}
 use Rattle.format.specs.Opening.{is_user_data, offsets_of}
 use Rattle.format.proofs.Tests.{not_iff, and-iff}
 use Rattle.format.proofs.Chains.{by}
@@ -39,7 +40,13 @@ returns-then-not-is_user_data c = let k = c.requires in other-entry _ _ _ _ k.0 
 
 -- whether a later entry names it
 named : (c : After-names) → let s = c.args.image.bytes.now in c.names.result ≡ has c.entry-e.result.offset.0 (offsets_of DBLK (entries_on s (index_offset s) (c.args.i + 1)))
-named c = rw (c.index-index.ensures.bytes, c.index-index.ensures.at) at c.names.ensures
+named c =
+    let s = c.args.image.bytes.now in
+    let o = index_offset s in
+    let i = c.args.i in
+    let next : o + 20 + 16 * i + 16 ≡ o + 20 + 16 * (i + 1) = omega arith in
+    rw (c.place.ensures, c.count.ensures, c.index-index.ensures.bytes, c.index-index.ensures.at) at c.names.ensures
+    ∙ ap (λ (p : ℕ). has c.entry-e.result.offset.0 (offsets_of DBLK (entries_from s (entry_count s o - (i + 1)) p))) next
 
 pub returns-then-names : goal.returns-then-names
 returns-then-names c =
