@@ -4,21 +4,23 @@ use mathlib.Core.List.{List, ◌∷◌}
 use mathlib.Core.Logic.Iff
 use mathlib.Core.Logic.{◌≢◌, ◌⊎◌, inl, inr, ⊎_elim}
 use mathlib.Core.Path.{◌≡◌, refl, sym, ap, ◌∙◌, subst}
-use Prim.Native.Nat.{ℕ, ◌+◌, ◌-◌, ◌≤◌, ◌<◌}
+use Prim.Native.Nat.{ℕ, ◌+◌, ◌≤◌, ◌<◌}
 use native.Mathlib.Omega.{arith}
 use Rattle.std.specs.Prelude.{Ok, Err}
-use Rattle.format.specs.Tests.{same, ◌and◌}
+use Rattle.format.specs.Tests.{same, ◌and◌, choose}
 use Rattle.format.specs.Refusals.{refusal, row, ◌then◌}
-use Rattle.format.specs.Layouts.{DBLK, entry_length, entry_at, entries_from}
+use Rattle.format.specs.declared.Entry.{Entry}
+use Rattle.format.specs.Layouts.{DBLK, index_offset, entry_count, entry_at}
 use Rattle.format.specs.Opening.{is_user_data, offsets_of, Opened}
 use Rattle.format.specs.Reading.{pointer_at, has}
 use Rattle.format.proofs.Tests.{on-or-off, never, not_iff, same-on, same-iff, or-rest, and-iff, and-true, choose-true, choose-false}
 use Rattle.format.proofs.Refusals.{then-rest, then-stays, row-refuses}
 use Rattle.format.proofs.Chains.{on-last, ends}
 use Rattle.format.proofs.Named.{has-head}
-use Rattle.index.proofs.Entries.{offsets-next}
+use Rattle.index.specs.Entries.{entry_place, entries_on}
+use Rattle.index.proofs.Entries.{offsets-on}
 use Rattle.checking.specs.declared.First.{First}
-use Rattle.checking.specs.Checked.{entry_form, damaged, mark, looked_verdict, FirstLeft, FirstFrom}
+use Rattle.checking.specs.Checked.{entry_form, damaged, mark, looked_verdict, FirstLeft, FirstOn}
 use Rattle.checking.proofs.Firsts.{first-at, first-same}
 use Rattle.checking.proofs.Forms.{looked-at, passed_over}
 
@@ -79,10 +81,16 @@ module _ (img : List ℕ) (t : Opened) (looks : ℕ → Bool) where
             ⊎_elim (λ i. into left a i ∙ then-stays _ _ (λ e. ne (into-before a i ∙ e)) ∙ sym (into-before a i)) (λ n. sym (elsewhere a n)) (into-or-not a)
 
   -- ---- one index entry more
-  module _ (left p : ℕ) {first : First} (h : 0 < left) (f : FirstFrom img t looks left p first) where
-    pub other-entry : is_user_data DBLK (entry_at img p) ≡ false → FirstFrom img t looks (left - 1) (p + entry_length) first
-    other-entry e = subst (λ (l : List ℕ). FirstLeft img t looks l first) (offsets-next (is_user_data DBLK) img left p h ∙ choose-false _ _ _ e) f
+  module _ (i : ℕ) {first : First} (h : i < entry_count img (index_offset img)) (f : FirstOn img t looks i first) where
+    abbrev entry : Entry
+    entry = entry_at img (entry_place (index_offset img) i)
 
-    pub block-entry : is_user_data DBLK (entry_at img p) ≡ true
-        → FirstLeft img t looks ((entry_at img p).offset.0 ∷ offsets_of DBLK (entries_from img (left - 1) (p + entry_length))) first
-    block-entry e = subst (λ (l : List ℕ). FirstLeft img t looks l first) (offsets-next (is_user_data DBLK) img left p h ∙ choose-true _ _ _ e) f
+    next : offsets_of DBLK (entries_on img (index_offset img) i)
+        ≡ choose (is_user_data DBLK entry) (entry.offset.0 ∷ offsets_of DBLK (entries_on img (index_offset img) (i + 1))) (offsets_of DBLK (entries_on img (index_offset img) (i + 1)))
+    next = offsets-on (is_user_data DBLK) img (index_offset img) i h
+
+    pub other-entry : is_user_data DBLK entry ≡ false → FirstOn img t looks (i + 1) first
+    other-entry e = subst (λ (l : List ℕ). FirstLeft img t looks l first) (next ∙ choose-false _ _ _ e) f
+
+    pub block-entry : is_user_data DBLK entry ≡ true → FirstLeft img t looks (entry.offset.0 ∷ offsets_of DBLK (entries_on img (index_offset img) (i + 1))) first
+    block-entry e = subst (λ (l : List ℕ). FirstLeft img t looks l first) (next ∙ choose-true _ _ _ e) f

@@ -12,16 +12,16 @@ use Rattle.format.specs.declared.Pointer.{Pointer}
 use Rattle.format.specs.declared.Refusal.{Refusal}
 use Rattle.format.specs.Tests.{same, ◌and◌, choose}
 use Rattle.format.specs.Refusals.{refusal, row, ◌then◌, first_refusal, Verdict}
-use Rattle.format.specs.Layouts.{DBLK, index_offset, entries}
+use Rattle.format.specs.Layouts.{DBLK, index_offset, entry_count, entries}
 use Rattle.format.specs.Opening.{is_user_data, Opened}
 use Rattle.format.specs.Reading.{table_entry_at, not_written, unknown_status, pointer_at, has, block_verdict, item_verdict, pointer_verdict, sector_verdict}
 use Rattle.format.specs.Committing.{other_than_21, sectors_verdict}
 use Rattle.format.proofs.Tests.{on-or-off, never, off_rest, not_iff, and-iff, and-true, choose-true, choose-false}
 use Rattle.format.proofs.Refusals.{row-iff, then-rest, then-assoc}
 use Rattle.format.proofs.Checks.{keeps-others, sector-ok, sector-21, gives-21, address-ok}
-use Rattle.index.proofs.Entries.{offsets-done}
+use Rattle.index.proofs.Entries.{offsets-past}
 use Rattle.checking.specs.declared.First.{First}
-use Rattle.checking.specs.Checked.{indexed, form_verdict, entry_form, only_after, damaged, mark, looked_verdict, FirstLeft, FirstFrom, FirstWithin, FirstRefused, FirstOfAll}
+use Rattle.checking.specs.Checked.{indexed, form_verdict, entry_form, only_after, damaged, mark, looked_verdict, FirstLeft, FirstOn, FirstWithin, FirstRefused, FirstOfAll}
 use Rattle.checking.proofs.Firsts.{first-at, first-same, first-refusal}
 use Rattle.checking.proofs.Forms.{looked-at, passed_over}
 
@@ -56,9 +56,9 @@ module _ (img : List ℕ) (t : Opened) where
         ⊎_elim (λ k. in_scope_lem a k ∙ sym (choose-true _ _ _ k))
         (λ k. passed_over img t looks [] a (both a ∙ (and-iff Iff.rfl Iff.rfl).1 (inr k)) ∙ sym (choose-false _ _ _ k)) (on-or-off (within a))
 
-    pub all-looked-at : (left p : ℕ) {first : First} → left ≤ 0 → FirstFrom img t looks left p first → FirstWithin img t within first
-    all-looked-at left p {first} h f =
-        first-same _ _ _ address-whole (subst (λ (l : List ℕ). FirstLeft img t looks l first) (offsets-done (is_user_data DBLK) img left p h) f)
+    pub all-looked-at : (i : ℕ) {first : First} → entry_count img (index_offset img) ≤ i → FirstOn img t looks i first → FirstWithin img t within first
+    all-looked-at i {first} h f =
+        first-same _ _ _ address-whole (subst (λ (l : List ℕ). FirstLeft img t looks l first) (offsets-past (is_user_data DBLK) img (index_offset img) i h) f)
 
   -- where the scope is all
   pub all-within : (within : ℕ → Bool) {first : First} → ((a : ℕ) → within a ≡ true) → FirstWithin img t within first → FirstRefused img t first

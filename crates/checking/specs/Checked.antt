@@ -5,11 +5,12 @@ use Rattle.format.specs.declared.ByteOffset.{ByteOffset}
 use Rattle.format.specs.declared.Pointer.{Pointer}
 use Rattle.format.specs.Tests.{below, at_least, ◌and◌, choose}
 use Rattle.format.specs.Refusals.{refusal, row, ◌then◌, Verdict}
-use Rattle.format.specs.Layouts.{DBLK, index_offset, entries, entries_from, sector_size, block_length, block_cmp_crc64, block_crc64, block_payload}
+use Rattle.format.specs.Layouts.{DBLK, index_offset, entries, sector_size, block_length, block_cmp_crc64, block_crc64, block_payload}
 use Rattle.format.specs.Opening.{sums_differ, offsets_of, Opened}
 use Rattle.format.specs.Reading.{outside, entry_number, table_entry_at, not_written, unknown_status, pointer_at, has, block_verdict, sector_verdict}
 use Rattle.format.specs.Committing.{other_than_21}
 use Rattle.format.specs.Facts.{BlockOk}
+use Rattle.index.specs.Entries.{entries_on}
 use Rattle.opening.specs.Images.{held}
 use Rattle.checking.specs.declared.First.{First}
 use Rattle.checking.specs.declared.Scope.{Scope}
@@ -87,9 +88,9 @@ pub record IsFirst (check : ℕ → Verdict) (count : ℕ) (first : First) : Typ
 abbrev pub FirstLeft : List ℕ → Opened → (ℕ → Bool) → List ℕ → First → Type 0
 FirstLeft img t looks left first = IsFirst (looked_verdict img t looks left) t.count first
 
--- the same, while these index entries are still to be looked at
-abbrev pub FirstFrom : List ℕ → Opened → (ℕ → Bool) → ℕ → ℕ → First → Type 0
-FirstFrom img t looks left p first = FirstLeft img t looks (offsets_of DBLK (entries_from img left p)) first
+-- the same, while the index entries from the i-th on are still to be looked at
+abbrev pub FirstOn : List ℕ → Opened → (ℕ → Bool) → ℕ → First → Type 0
+FirstOn img t looks i first = FirstLeft img t looks (offsets_of DBLK (entries_on img (index_offset img) i)) first
 
 -- the first table entry that is refused, 21 too
 abbrev pub FirstOfAll : List ℕ → Opened → First → Type 0

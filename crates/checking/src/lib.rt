@@ -10,12 +10,12 @@
 ghost use Rattle.std.specs.Prelude.{true, false, not, List, ◌∷◌, ◌≡◌, ℕ, ◌+◌, ◌-◌, ◌*◌, ◌^◌, ◌≤◌, ◌<◌, length};
 ghost use Rattle.format.specs.Tests.{◌and◌};
 ghost use Rattle.format.specs.Refusals.{first_refusal};
-ghost use Rattle.format.specs.Layouts.{index_offset, entry_length, entries};
+ghost use Rattle.format.specs.Layouts.{index_offset, entry_count, entries};
 ghost use Rattle.format.specs.Reading.{table_entry, unwritten, has, pointer_at, sector_verdict};
 ghost use Rattle.format.specs.Committing.{any_outside, sectors_verdict, disc_verdict};
 ghost use Rattle.opening.specs.Answers.{contents};
 ghost use Rattle.opening.specs.Images.{held};
-ghost use Rattle.checking.specs.Checked.{leaves, in_scope, looked_at, indexed, form_verdict, entry_form, Formed, damaged, FirstLeft, FirstFrom, FirstWithin, FirstRefused, FirstOfAll};
+ghost use Rattle.checking.specs.Checked.{leaves, in_scope, looked_at, indexed, form_verdict, entry_form, Formed, damaged, FirstLeft, FirstOn, FirstWithin, FirstRefused, FirstOfAll};
 
 use fields::{get, part};
 use format::{ByteOffset, EntryNumber, INDEX_OFFSET, Pointer, Refusal, SectorAddress};
@@ -113,7 +113,7 @@ fn form_verdict<'a>(
     if sectors::is_known(b, known) {
         return sectors::number_verdict(s, p);
     }
-    if sectors::is_indexed(s, ByteOffset(get(s, INDEX_OFFSET, 8)), b) {
+    if sectors::is_indexed(image.index(), b) {
         sectors::block_verdict(s, b)?;
         return sectors::number_verdict(s, p);
     }
@@ -212,28 +212,22 @@ fn first_into<'a, 'b>(image: Image<'a>, scope: Scope<'b>, b: ByteOffset, first: 
     first
 }
 
-// The first table entry once the block of the index entry at p, the first of `left`, is looked at. An entry whose block a later one names
-// again is passed over, so that no block is summed twice.
-fn with_block<'a, 'b>(
-    image: Image<'a>,
-    scope: Scope<'b>,
-    p: ByteOffset,
-    left: u64,
-    first: First,
-) -> First
-    requires { (0 < left) × (p.0 + entry_length * left ≤ length image.bytes.now) × FirstFrom image.bytes.now (held image) (looked_at image.bytes.now (held image) scope) left p.0 first }
-    ensures { FirstFrom image.entry.bytes.now (held image.entry) (looked_at image.entry.bytes.now (held image.entry) scope.entry) (left - 1) (p.0 + entry_length) result }
+// The first table entry once the block of index entry i is looked at. An entry whose block a later one names again is passed over, so that no
+// block is summed twice.
+fn with_block<'a, 'b>(image: Image<'a>, scope: Scope<'b>, i: u64, first: First) -> First
+    requires { (i < entry_count image.bytes.now (index_offset image.bytes.now)) × FirstOn image.bytes.now (held image) (looked_at image.bytes.now (held image) scope) i first }
+    ensures { FirstOn image.entry.bytes.now (held image.entry) (looked_at image.entry.bytes.now (held image.entry) scope.entry) (i + 1) result }
 {
-    let s = image.bytes;
-    let e = index::entry(s, p);
+    let index = image.index();
+    let e = index.entry(i);
     if !index::is_user_data(e, b"DBLK") {
         return first;
     }
     let b = e.offset;
-    if sectors::names(s, ByteOffset(p.0 + 16), left - 1, b) {
+    if sectors::names(index, i + 1, b) {
         return first;
     }
-    if is_damaged(s, b) {
+    if is_damaged(image.bytes, b) {
         return first_into(image, scope, b, first);
     }
     first
@@ -243,16 +237,10 @@ fn with_block<'a, 'b>(
 fn first_within<'a, 'b>(image: Image<'a>, scope: Scope<'b>) -> First
     ensures { FirstWithin image.entry.bytes.now (held image.entry) (in_scope scope.entry (held image.entry)) result }
 {
-    let s = image.bytes;
     let mut first = first_form(image, scope);
-    let index = get(s, INDEX_OFFSET, 8);
-    let mut left = get(s, index + 4, 8);
-    let mut p = index + 20;
     // an iteration for each index entry
-    while 0 < left {
-        first = with_block(image, scope, ByteOffset(p), left, first);
-        p += 16;
-        left -= 1;
+    for i in 0..image.index().count() {
+        first = with_block(image, scope, i, first);
     }
     first
 }

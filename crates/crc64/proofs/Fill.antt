@@ -1,8 +1,8 @@
 -- Filling the tables by linearity. Assumes nothing.
 use mathlib.Core.Path.{◌≡◌, sym, ap, ap₂, ◌∙◌}
 use mathlib.Core.List.{List}
-use Prim.Native.Nat.{ℕ, ◌+◌, ◌-◌, ◌*◌, ◌%◌, ◌^◌, ◌≤◌, ◌<◌}
-use native.Mathlib.Nat.{zero-mul, one-mul, mod-eq_of_lt, not-suc-le-zero}
+use Prim.Native.Nat.{ℕ, ◌+◌, ◌-◌, ◌*◌, ◌^◌, ◌≤◌, ◌<◌}
+use native.Mathlib.Nat.{zero-mul, one-mul, not-suc-le-zero}
 use native.Mathlib.Omega.{arith}
 use borrow.Author.Count.{below_more}
 use lib.ListN.{length, get_or, set, length-set}
@@ -44,14 +44,6 @@ power-next n =
 -- a bit of a byte is at most 2^7
 pub bit_le : (j : ℕ) → j < 8 → 2 ^ j ≤ 128
 bit_le j h = let l : j ≤ 7 = omega arith in pow_mono l
-
--- as the code makes it, by a shift
-pub bit-of : (j : ℕ) → j < 8 → (1 * 2 ^ j) % 2 ^ 64 ≡ 2 ^ j
-bit-of j h = let l : 2 ^ j < 2 ^ 64 = omega (arith, bit_le j h) in ap (λ (x : ℕ). x % 2 ^ 64) (one-mul (2 ^ j)) ∙ mod-eq_of_lt l
-
--- twice a bit is the next
-pub bit-next : (j : ℕ) → 2 ^ (j + 1) ≡ 2 ^ j + 2 ^ j
-bit-next j = pow-add 2 j 1 ∙ omega arith
 
 -- a single bit's entry is a power
 pub power-is : (k j : ℕ) → j < 8 → power (8 * k + 7 - j) ≡ shifts (200 + 8 * k) (2 ^ j)

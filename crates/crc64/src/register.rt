@@ -18,11 +18,9 @@ pub fn shifts(register: u64, n: u32) -> u64
     ensures { result ≡ shifts n register }
 {
     let mut x = register;
-    let mut left = n;
     // n iterations
-    while left > 0 {
+    for _i in 0..n {
         x = shift(x);
-        left -= 1;
     }
     x
 }
@@ -39,11 +37,9 @@ pub fn update(register: u64, s: &[u8]) -> u64
     ensures { result ≡ run register s.now }
 {
     let mut x = register;
-    let mut i = 0;
     // an iteration for each byte
-    while i < s.len() {
-        x = add_byte(x, s[i]);
-        i += 1;
+    for b in s {
+        x = add_byte(x, *b);
     }
     x
 }

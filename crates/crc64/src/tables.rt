@@ -1,6 +1,6 @@
-// The eight tables of 256 entries, one after the other. Table k serves the byte that stands 8 (7 - k) bits up in a register that
-// is to take 256 shifts: the first 56 - 8 k of these bring the byte down, and 200 + 8 k are left for the table. Filled by
-// linearity: the entry of a byte is that of its highest bit, exclusive-or that of the rest.
+// The eight tables of 256 entries, one after the other. Table k serves the byte that stands 8 (7 - k) bits up in a
+// register that is to take 256 shifts: the first 56 - 8 k of these bring the byte down, and 200 + 8 k are left for the
+// table. Filled by linearity: the entry of a byte is that of its highest bit, exclusive-or that of the rest.
 ghost use Rattle.std.specs.Prelude.{◌≡◌, ◌+◌, ◌*◌, ◌^◌, ◌<◌, length};
 ghost use Rattle.crc64.specs.Crc.{shifts};
 ghost use Rattle.crc64.specs.Internal.{entry, power, Filled, Tables};
@@ -13,12 +13,10 @@ fn powers() -> [u64; 64]
 {
     let mut p = [0u64; 64];
     let mut x = register::shifts(128, 200);
-    let mut n: usize = 0;
     // 64 iterations
-    while n < 64 {
-        p[n] = x;
+    for power in &mut p {
+        *power = x;
         x = register::shift(x);
-        n += 1;
     }
     p
 }
@@ -32,11 +30,9 @@ fn double(t: &mut [u64; 2048], k: usize, j: usize, x: u64)
     ensures { Filled entry 2048 t.new (256 * k + 2 ^ (j + 1)) }
 {
     let half: usize = 1 << j;
-    let mut m: usize = 0;
     // 2^j iterations, at most 128
-    while m < half {
+    for m in 0..half {
         t[256 * k + half + m] = t[256 * k + m] ^ x;
-        m += 1;
     }
 }
 
@@ -48,11 +44,9 @@ fn table(t: &mut [u64; 2048], k: usize, p: &[u64; 64])
     ensures { Filled entry 2048 t.new (256 * k + 256) }
 {
     t[256 * k] = 0;
-    let mut j: usize = 0;
     // 8 iterations
-    while j < 8 {
+    for j in 0..8 {
         double(t, k, j, p[8 * k + 7 - j]);
-        j += 1;
     }
 }
 
@@ -62,10 +56,8 @@ pub fn fill(t: &mut [u64; 2048])
     ensures { Tables t.new }
 {
     let p = powers();
-    let mut k: usize = 0;
     // 8 iterations
-    while k < 8 {
+    for k in 0..8 {
         table(t, k, &p);
-        k += 1;
     }
 }

@@ -8,6 +8,7 @@ use native.Mathlib.Omega.{arith}
 use lib.Dec.{eqb}
 use lib.ListN.{length, get_or}
 use borrow.Author.Tests.{eqb-true, eq-eqb, ne_eqb}
+use Rattle.std.specs.Cmp.Lexicographic.{pointwise}
 use Rattle.fields.specs.Bytes.{part, from_le, field, equal}
 use Rattle.fields.proofs.Numbers.{field-same}
 use Rattle.fields.proofs.Overwrite.{part-whole}
@@ -46,6 +47,14 @@ equal-step x y xs ys e = ap (λ (b : Bool). b && equal xs ys) (eq-eqb x y e)
 pub equal-stop : (x y : ℕ) (xs ys : List ℕ) → (x ≡ y → ⊥) → equal (x ∷ xs) (y ∷ ys) ≡ false
 unfolding equal
 equal-stop x y xs ys h = ap (λ (b : Bool). b && equal xs ys) (ne_eqb x y h)
+
+-- as the library compares slices
+pub equal_pointwise : (xs ys : List ℕ) → pointwise eqb xs ys ≡ equal xs ys
+unfolding equal
+equal_pointwise [] [] = refl
+equal_pointwise [] (y ∷ ys) = refl
+equal_pointwise (x ∷ xs) [] = refl
+equal_pointwise (x ∷ xs) (y ∷ ys) = ap (λ (b : Bool). eqb x y && b) (equal_pointwise xs ys)
 
 -- ---- as numbers
 pub equal-numbers : (s : List ℕ) (at : ℕ) (t : List ℕ) → ((i : ℕ) → get_or s i 0 < 256) → ((i : ℕ) → get_or t i 0 < 256) → at + length t ≤ length s

@@ -8,7 +8,8 @@ use native.Mathlib.Nat.{add_assoc, add-zero}
 use native.Mathlib.Numerals.{add-one}
 use native.Mathlib.Omega.{arith}
 use lib.ListN.{length, take, drop, get_or, set, length-take, length-drop, length-set}
-use lib.Seq.{sets, length-sets, set-append_left, set_out, set_comm, sets-eq, take-set-le, drop-set-lt, get_or-set_other, set-get_or, get_or-take, get_or-drop, ext_get_or, take_at, drop_at, length-take-le, take-length, drop-cons}
+use borrow.Rule.Slice.PartMut.{put_mid}
+use lib.Seq.{sets, length-sets, set-append_left, set_out, set_comm, sets-eq, take-set-le, drop-set-lt, get_or-set_other, set-get_or, get_or-take, get_or-drop, ext_get_or, take_at, drop_at, length-take-le, take-length, drop-cons, drop-drop}
 use Rattle.fields.specs.Bytes.{part, overwrite}
 
 -- ---- length, past the end, one after the other, nothing, one byte, the three pieces
@@ -46,6 +47,11 @@ written s at new goal e h = sym (overwrite-nil s at) ∙ ap (overwrite s at) (sy
 pub overwrite-split : (s : List ℕ) (at : ℕ) (new : List ℕ) → at + length new ≤ length s → overwrite s at new ≡ take at s ++ new ++ drop (at + length new) s
 unfolding overwrite
 overwrite-split s at new h = sets-eq new s at h
+
+-- a part that was lent to be written comes back
+pub put_overwrite : (s : List ℕ) (at k : ℕ) (new : List ℕ) → length new ≡ k → at + k ≤ length s → put_mid at k s new ≡ overwrite s at new
+put_overwrite s at k new e h =
+    rw (← e, drop-drop) (sym (overwrite-split s at new (omega arith) ∙ append_assoc (take at s) new (drop (at + length new) s)))
 
 -- ---- what an overwrite leaves as it was
 

@@ -10,9 +10,12 @@ ghost use Rattle.format.specs.Layouts.{AARUFRMT, DICMFRMT, index_header_length, 
 ghost use Rattle.format.specs.Opening.{lacks, header_verdict, index_verdict, entry_verdict, is_type, is_user_data, is_table, table_at};
 ghost use Rattle.index.specs.Tables.{named_verdict, one_answer, before, only_one};
 
+mod lent; // an index as it lies in an image, and its entries
+
 use crc64::checksum;
 use fields::{get, part, put, room, spells};
 use format::{ByteOffset, Entry, HEADER_LENGTH, IMAGE_MAJOR, Refusal};
+pub use lent::Index;
 
 // The tables among the index entries seen so far.
 #[derive(Clone, Copy)]
@@ -161,26 +164,18 @@ fn with_entry(seen: Tables, e: Entry) -> Tables
     seen
 }
 
-// The one table that the index at o names. Each entry is checked in turn, 7 and 8; then the tables among them, 9 and 10. One pass
-// over the entries.
-pub fn one_table(s: &[u8], o: ByteOffset) -> Result<ByteOffset, Refusal>
-    requires { o.0 + index_header_length + entry_length * entry_count s.now o.0 ≤ length s.now }
-    ensures { only_one result ≡ answer (named_verdict s.now o.0) (table_at s.now o.0) }
+// The one table that an index names. Each entry is checked in turn, 7 and 8; then the tables among them, 9 and 10. One pass over the entries.
+pub fn one_table<'a>(index: Index<'a>) -> Result<ByteOffset, Refusal>
+    ensures { only_one result ≡ answer (named_verdict index.entry.bytes.now index.entry.at.0) (table_at index.entry.bytes.now index.entry.at.0) }
 {
-    let index = o.0;
-    let mut left = get(s, index + 4, 8);
-    let mut p = index + 20;
     let mut seen = Tables::None;
     // an iteration for each entry
-    while 0 < left {
-        let here = ByteOffset(p);
-        let e = entry(s, here);
-        entry_verdict(s, here, e)?;
+    for i in 0..index.count() {
+        let e = index.entry(i);
+        entry_verdict(index.bytes, index.place(i), e)?;
         seen = with_entry(seen, e);
-        p += 16;
-        left -= 1;
     }
-    let place = o;
+    let place = index.at;
     match seen {
         Tables::None => Err(Refusal { number: 9, place }),
         Tables::One(t) => Ok(t),

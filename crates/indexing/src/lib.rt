@@ -14,7 +14,7 @@ ghost use Rattle.indexing.specs.Entries.{new_entries, Indexes, entries_bytes};
 
 use fields::{get, part};
 use format::{ByteOffset, Entry};
-use index::entry;
+use index::{Index, entry};
 
 // An old entry as the new index has it, with the new table at `table`.
 fn kept_entry(e: Entry, table: ByteOffset) -> Entry
@@ -37,23 +37,17 @@ fn is_checksums(e: Entry) -> bool
     index::is_type(e, b"CKSM")
 }
 
-// How many entries of the index at o the new index keeps, wherever the new table is.
-pub fn count_kept(s: &[u8], o: ByteOffset) -> u64
-    requires { o.0 + index_header_length + entry_length * entry_count s.now o.0 ≤ length s.now }
-    ensures { ((table : ℕ) → result ≡ length (kept_entries table (entries s.now o.0))) × (result ≤ entry_count s.now o.0) }
+// How many entries of an index the new one keeps, wherever the new table is.
+pub fn count_kept<'a>(index: Index<'a>) -> u64
+    ensures { ((table : ℕ) → result ≡ length (kept_entries table (entries index.entry.bytes.now index.entry.at.0))) × (result ≤ entry_count index.entry.bytes.now index.entry.at.0) }
 {
-    let index = o.0;
-    let mut rest = get(s, index + 4, 8);
-    let mut p = index + 20;
     let mut kept: u64 = 0;
     // an iteration for each old entry
-    while 0 < rest {
-        let e = entry(s, ByteOffset(p));
-        p += 16;
-        rest -= 1;
-        if !is_checksums(e) {
-            kept += 1;
+    for i in 0..index.count() {
+        if is_checksums(index.entry(i)) {
+            continue;
         }
+        kept += 1;
     }
     kept
 }
@@ -64,19 +58,16 @@ fn put_kept(buf: &mut [u8], used: u64, o: ByteOffset, at: ByteOffset, table: Byt
         × (at.0 + entry_length * length (kept_entries table.0 (entries (take used buf.old) o.0)) ≤ length buf.old) }
     ensures { buf.new ≡ overwrite buf.old at.0 (entries_bytes (kept_entries table.0 (entries (take used buf.old) o.0))) }
 {
-    let index = o.0;
-    let mut left = get(part(buf, 0, used), index + 4, 8);
-    let mut p = index + 20;
+    let count = get(part(buf, 0, used), o.0 + 4, 8);
     let mut q = at.0;
     // an iteration for each old entry
-    while 0 < left {
-        let e = entry(part(buf, 0, used), ByteOffset(p));
-        p += 16;
-        left -= 1;
-        if !is_checksums(e) {
-            records::put_entry(buf, ByteOffset(q), kept_entry(e, table));
-            q += 16;
+    for i in 0..count {
+        let e = entry(part(buf, 0, used), ByteOffset(o.0 + 20 + 16 * i));
+        if is_checksums(e) {
+            continue;
         }
+        records::put_entry(buf, ByteOffset(q), kept_entry(e, table));
+        q += 16;
     }
 }
 

@@ -1,5 +1,6 @@
 // The opened image, as it travels. Its last field says that opening answered so: none is made otherwise.
 ghost use Rattle.std.specs.Prelude.{◌≡◌, ◌<◌, Ok};
+ghost use Rattle.format.specs.Layouts.{index_offset};
 ghost use Rattle.format.specs.Opening.{opening};
 ghost use Rattle.format.specs.Reading.{table_entry, pointer_at};
 ghost use Rattle.opening.specs.Answers.{contents};
@@ -7,8 +8,10 @@ ghost use Rattle.opening.specs.Answers.{contents};
 use super::Opened;
 use fields::get;
 use format::{
-    EntryNumber, Pointer, SECOND_ENTRY, SECOND_HEADER, TABLE_ENTRY, TABLE_HEADER, TableKind,
+    ByteOffset, EntryNumber, INDEX_OFFSET, Pointer, SECOND_ENTRY, SECOND_HEADER, TABLE_ENTRY,
+    TABLE_HEADER, TableKind,
 };
+use index::Index;
 
 // The lent bytes, and what opening found in them.
 #[derive(Clone, Copy)]
@@ -19,6 +22,18 @@ pub struct Image<'a> {
 }
 
 impl<'a> Image<'a> {
+    // Its index, where the header says.
+    pub fn index(self) -> Index<'a>
+        ensures bytes { result.bytes ≡ self.entry.bytes }
+        ensures at { result.at.0 ≡ index_offset self.entry.bytes.now }
+    {
+        let at = ByteOffset(get(self.bytes, INDEX_OFFSET, 8));
+        Index {
+            bytes: self.bytes,
+            at,
+        }
+    }
+
     // The number in table entry n.
     pub fn table_entry(self, n: EntryNumber) -> u64
         requires { n.0 < (contents self.found).count }

@@ -18,6 +18,7 @@ use format::{
     AddressRange, ByteOffset, EntryNumber, INDEX_OFFSET, Pointer, Refusal, SECOND_ENTRY,
     SECOND_HEADER, SectorAddress, TABLE_ENTRY, TABLE_HEADER, TableKind,
 };
+use index::Index;
 use tables::layout_of;
 
 // What opening finds of the table: its kind, place (that of the header), count and shift, alignment and negative, which are 0 for 'DDT*'. The fields are
@@ -64,7 +65,7 @@ fn open_index(s: &[u8], o: ByteOffset) -> Result<Opened, Refusal>
     ensures { outcome result ≡ answer (open_verdict s.now o.0) (opened s.now o.0) }
 {
     index::index_verdict(s, o)?;
-    let t = index::one_table(s, o)?;
+    let t = index::one_table(Index { bytes: s, at: o })?;
     open_table(s, t)
 }
 

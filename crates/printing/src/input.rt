@@ -12,7 +12,7 @@ pub fn read_full<R: Read>(input: &mut R, buf: &mut [u8]) -> io::Result<usize>
     ensures end { IfOk result (λ n. n < length buf.new → IsAtEnd (R.remaining input.new)) }
 {
     let mut done = 0;
-    // an iteration for each read
+    // an iteration for each read, which says how far the next one starts: no `for` counts that
     while done < buf.len() {
         let n = read_at(input, buf, done)?;
         if n == 0 {

@@ -1,4 +1,5 @@
-// The letters of identifiers, as rows of numbers have them: the first is the lowest byte.
+// The letters of identifiers, as rows of numbers have them: the first is the lowest byte. A constant calls no function,
+// `from_le_bytes` neither.
 const AARU: u64 = (b'A' as u64)
     + ((b'A' as u64) << 8)
     + ((b'R' as u64) << 16)

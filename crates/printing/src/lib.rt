@@ -4,7 +4,6 @@
 
 ghost use Rattle.std.specs.Prelude.{◌≤◌, length, IfOk};
 
-use fields::magnitude;
 use format::{AddressRange, Place, Refusal, SectorAddress};
 use std::io;
 
@@ -48,10 +47,7 @@ pub fn refused(rt: &impl Print, r: Refusal) -> io::Result<()> {
 
 // A whole number, with a minus where it is negative.
 pub fn signed(rt: &impl Print, x: i64) -> io::Result<()> {
-    if x < 0 {
-        text(rt, b"-")?;
-    }
-    number(rt, b"", magnitude(x))
+    print!(rt; "{x}")
 }
 
 // An address from 2^63 on stands for minus what it is above that, in rows of numbers.
@@ -62,7 +58,7 @@ pub fn address(n: u64) -> SectorAddress {
     if n < MINUS {
         return SectorAddress(n as i64);
     }
-    SectorAddress(0 - ((n % 65536) as i64))
+    SectorAddress(-((n % 65536) as i64))
 }
 
 // How many sectors there are, and the lowest address where it is not 0.
@@ -101,12 +97,9 @@ pub fn line_end(lines: &[u8], start: usize) -> usize
     requires { start ≤ length lines.now }
     ensures { (start ≤ result) × (result ≤ length lines.now) }
 {
-    for end in start..lines.len() {
-        if lines[end] == b'\n' {
-            return end;
-        }
-    }
-    lines.len()
+    let rest = &lines[start..];
+    // at most a step for each byte of the line
+    start + rest.iter().position(|b| *b == b'\n').unwrap_or(rest.len())
 }
 
 // Where the line after the one that ends there starts.
@@ -114,10 +107,7 @@ pub fn next_line(lines: &[u8], end: usize) -> usize
     requires { end ≤ length lines.now }
     ensures { result ≤ length lines.now }
 {
-    if end < lines.len() {
-        return end + 1;
-    }
-    end
+    (end + 1).min(lines.len())
 }
 
 // Prints the line that starts there, and says where the next one does.

@@ -11,6 +11,7 @@ ghost use Rattle.format.specs.Opening.{is_user_data, offsets_of, open_verdict, o
 ghost use Rattle.format.specs.Reading.{has, pointer_at, block_malformed, block_verdict, item_verdict, pointer_verdict, sector_verdict, address_verdict, pointer_of, place_of, locate, read};
 ghost use Rattle.format.specs.Facts.{BlockOk, ItemOk};
 ghost use Rattle.format.specs.Answers.{bytes_read};
+ghost use Rattle.index.specs.Entries.{entries_on};
 ghost use Rattle.opening.specs.Images.{held};
 ghost use Rattle.sectors.specs.Found.{Known, is_known};
 
@@ -18,7 +19,7 @@ use fields::{get, part, room};
 use format::{
     ByteOffset, Entry, EntryNumber, INDEX_OFFSET, Place, Pointer, Refusal, SectorAddress,
 };
-use index::{entry, is_user_data};
+use index::{Index, is_user_data};
 use opening::Image;
 
 // An address to locate, and a block that is known to be intact, if there is one.
@@ -49,31 +50,24 @@ fn names_block(e: Entry, b: ByteOffset) -> bool
     false
 }
 
-// One of the `left` index entries from `first` on names a data block at b. At most one pass over them.
-pub fn names(s: &[u8], first: ByteOffset, left: u64, b: ByteOffset) -> bool
-    requires { first.0 + entry_length * left ≤ length s.now }
-    ensures { result ≡ has b.0 (offsets_of DBLK (entries_from s.now left first.0)) }
+// One of the index entries from the i-th on names a data block at b. At most one pass over them.
+pub fn names<'a>(index: Index<'a>, i: u64, b: ByteOffset) -> bool
+    ensures { result ≡ has b.0 (offsets_of DBLK (entries_on index.entry.bytes.now index.entry.at.0 i)) }
 {
-    let mut p = first.0;
-    let mut n = left;
     // an iteration for each entry, up to the first that names the block
-    while 0 < n {
-        if names_block(entry(s, ByteOffset(p)), b) {
+    for k in i..index.count() {
+        if names_block(index.entry(k), b) {
             return true;
         }
-        p += 16;
-        n -= 1;
     }
     false
 }
 
-// The index at o names a data block at b. At most one pass over its entries.
-pub fn is_indexed(s: &[u8], o: ByteOffset, b: ByteOffset) -> bool
-    requires { o.0 + index_header_length + entry_length * entry_count s.now o.0 ≤ length s.now }
-    ensures { result ≡ has b.0 (offsets_of DBLK (entries s.now o.0)) }
+// The index names a data block at b. At most one pass over its entries.
+pub fn is_indexed<'a>(index: Index<'a>, b: ByteOffset) -> bool
+    ensures { result ≡ has b.0 (offsets_of DBLK (entries index.entry.bytes.now index.entry.at.0)) }
 {
-    let index = o.0;
-    names(s, ByteOffset(index + 20), get(s, index + 4, 8), b)
+    names(index, 0, b)
 }
 
 // The block at b: check 25.
@@ -180,7 +174,7 @@ fn pointer_verdict<'a>(
     if is_known(b, known) {
         return number_verdict(s, p);
     }
-    if is_indexed(s, ByteOffset(get(s, INDEX_OFFSET, 8)), b) {
+    if is_indexed(image.index(), b) {
         return item_verdict(s, p);
     }
     Err(Refusal { number: 22, place })

@@ -26,16 +26,15 @@ pub fn write(out: &mut [u8], at: usize, s: &[u8]) -> usize
     ensures { Writes out.old at s.now out.new result }
 {
     let mut next = at;
-    let mut i: usize = 0;
     // an iteration for each byte of s
-    while i < s.len() {
-        next = write_byte(out, next, s[i]);
-        i += 1;
+    for b in s {
+        next = write_byte(out, next, *b);
     }
     next
 }
 
-// A number in decimal. It calls itself at most 19 times, once for each digit before the last.
+// A number in decimal. It calls itself at most 19 times, once for each digit before the last. The library prints to a
+// `fmt::Write` or a `String`, which a lent buffer is not.
 pub fn write_number(out: &mut [u8], at: usize, n: u64) -> usize
     requires { at ≤ length out.old }
     ensures { Writes out.old at (decimal n) out.new result }

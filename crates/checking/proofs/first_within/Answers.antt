@@ -1,45 +1,31 @@
 use native.Mathlib.Omega.{arith}
-use mathlib.Core.Path.{refl}
-use Rattle.format.specs.Layouts.{index_offset, entry_count, entries}
-use Rattle.format.proofs.Checks.{OpenOk}
-use Rattle.opening.proofs.Accepted.{opens}
-use Rattle.checking.specs.Checked.{looked_at}
+use mathlib.Core.List.{List}
+use mathlib.Core.Path.{◌≡◌, refl, sym, subst}
+use Rattle.format.specs.declared.Entry.{Entry}
+use Rattle.format.specs.Layouts.{DBLK, index_offset, entry_count}
+use Rattle.format.specs.Opening.{offsets_of}
+use Rattle.index.proofs.Entries.{all_on}
+use Rattle.opening.specs.Images.{held}
+use Rattle.checking.specs.Checked.{looked_at, FirstLeft}
 use Rattle.checking.proofs.Whole.{all-looked-at}
 use Rattle.checking.proofs.first_within.Goals as goal
-use Rattle.checking.proofs.first_within.Goals.{Start}
+use Rattle.checking.proofs.first_within.Goals.{After-count-i-end}
 
-ok : (c : Start) → OpenOk c.args.image.bytes.now (index_offset c.args.image.bytes.now)
-ok c = opens _ _ c.args.image.opens
+-- the loop goes over the entries of the image's own index
+bound : (c : After-count-i-end) → let s = c.args.image.bytes.now in c.count-i-end.result ≡ entry_count s (index_offset s)
+bound c = rw (c.index.ensures.bytes, c.index.ensures.at) at c.count-i-end.ensures
 
-pub get-index-requires : goal.get-index-requires
-get-index-requires c = let k = (ok (goal.at.get-index-requires c).Start).header in omega arith
-
-pub overflow_add-index : goal.overflow_add-index
-unfolding index_offset
-overflow_add-index c = let k = (ok (goal.at.overflow_add-index c).Start).index in omega arith
-
-pub get-left-requires : goal.get-left-requires
-unfolding index_offset
-get-left-requires c = let k = (ok (goal.at.get-left-requires c).Start).index in omega arith
-
-pub overflow_add-p : goal.overflow_add-p
-unfolding index_offset
-overflow_add-p c = let k = (ok (goal.at.overflow_add-p c).Start).index in omega arith
-
-pub loop-left-init : goal.loop-left-init
-unfolding index_offset entry_count entries
-loop-left-init c = (
-  rw (c.get-left.ensures, c.get-index.ensures) (ok (goal.at.loop-left-init c).Start).index.fits,
-  rw (c.get-left.ensures, c.get-index.ensures) c.first_form-first.ensures,
-)
+pub loop-i-init : goal.loop-i-init
+loop-i-init c =
+    let s = c.args.image.bytes.now in
+    let t = held c.args.image in
+    subst (λ (es : List Entry). FirstLeft s t (looked_at s t c.args.scope) (offsets_of DBLK es) c.first_form-first.result) (sym (all_on s (index_offset s))) c.first_form-first.ensures
 
 pub with_block-first-requires : goal.with_block-first-requires
 with_block-first-requires c =
-    (c.loop-left-test.true, c.loop-left.invariant.0, c.loop-left.invariant.1)
-
-pub loop-left-preserved : goal.loop-left-preserved
-loop-left-preserved c = (omega arith, c.with_block-first.ensures)
+    (omega (arith, bound (goal.at.with_block-first-requires c).After-count-i-end), c.loop-i.invariant)
 
 pub returns : goal.returns
 unfolding looked_at
-returns c = all-looked-at _ _ _ _ (λ a. refl) _ _ (omega arith) c.loop-left.invariant.1
+returns c =
+    all-looked-at _ _ _ _ (λ a. refl) _ (omega (arith, bound (goal.at.returns c).After-count-i-end)) c.loop-i.invariant

@@ -1,21 +1,15 @@
 -- `checking::form_verdict` meets its contract. Assumes nothing.
-use native.Mathlib.Omega.{arith}
 use mathlib.Core.Bool.{true, not}
 use mathlib.Core.Path.{◌≡◌, sym, ap}
-use Rattle.format.specs.Layouts.{index_offset}
 use Rattle.format.specs.Reading.{has}
 use Rattle.format.specs.Facts.{BlockOk}
-use Rattle.format.proofs.Checks.{OpenOk, block-ok}
+use Rattle.format.proofs.Checks.{block-ok}
 use Rattle.format.proofs.Tests.{not_iff}
 use Rattle.format.proofs.Chains.{early, stop, on, stops, goes, by}
-use Rattle.opening.proofs.Accepted.{opens}
 use Rattle.sectors.proofs.Known.{known-block}
 use Rattle.checking.specs.Checked.{indexed, form_verdict}
 use Rattle.checking.proofs.form_verdict.Goals as goal
-use Rattle.checking.proofs.form_verdict.Goals.{Start, Then-is_known}
-
-ok : (c : Start) → OpenOk c.args.image.bytes.now (index_offset c.args.image.bytes.now)
-ok c = opens _ _ c.args.image.opens
+use Rattle.checking.proofs.form_verdict.Goals.{Then-is_known}
 
 -- the block that is known
 known : (c : Then-is_known) → let a = c.args in
@@ -33,28 +27,21 @@ returns-then-is_known c =
     let k = known (goal.at.returns-then-is_known c).Then-is_known in
     on _ (not_iff.1 k.0) (goes (sym ((block-ok _ _).1 k.1)) c.number_verdict.ensures)
 
-pub get-requires : goal.get-requires
-get-requires c = let k = (ok (goal.at.get-requires c).Start).header in omega arith
-
-pub is_indexed-requires : goal.is_indexed-requires
-unfolding index_offset
-is_indexed-requires c = rw c.get.ensures (ok (goal.at.is_indexed-requires c).Start).index.fits
-
 pub returns-in_err-block_verdict : goal.returns-in_err-block_verdict
-unfolding form_verdict index_offset
+unfolding form_verdict
 returns-in_err-block_verdict c =
-    early c.from_residual.ensures (on _ (not_iff.1 (rw c.get.ensures at (by c.is_indexed.ensures c.if-is_indexed.true)))
+    early c.from_residual.ensures (on _ (not_iff.1 (rw (c.index.ensures.bytes, c.index.ensures.at) at (by c.is_indexed.ensures c.if-is_indexed.true)))
     (stops _ c.in_err-block_verdict.ensures))
 
 pub number_verdict-requires-then-is_indexed : goal.number_verdict-requires-then-is_indexed
 number_verdict-requires-then-is_indexed c = (block-ok _ _).0 (sym c.in_ok-block_verdict.ensures)
 
 pub returns-then-is_indexed : goal.returns-then-is_indexed
-unfolding form_verdict index_offset
+unfolding form_verdict
 returns-then-is_indexed c =
-    on _ (not_iff.1 (rw c.get.ensures at (by c.is_indexed.ensures c.if-is_indexed.true)))
+    on _ (not_iff.1 (rw (c.index.ensures.bytes, c.index.ensures.at) at (by c.is_indexed.ensures c.if-is_indexed.true)))
     (goes c.in_ok-block_verdict.ensures c.number_verdict-then-is_indexed.ensures)
 
 pub returns : goal.returns
-unfolding form_verdict index_offset
-returns c = stop _ (ap not (rw c.get.ensures at (by c.is_indexed.ensures c.if-is_indexed.false)))
+unfolding form_verdict
+returns c = stop _ (ap not (rw (c.index.ensures.bytes, c.index.ensures.at) at (by c.is_indexed.ensures c.if-is_indexed.false)))

@@ -24,8 +24,8 @@ unfolding open_verdict outcome
 returns-in_err-index_verdict c =
     early-as outcome c.from_residual.ensures (refuses _ (goes (sym c.requires) (stops _ c.in_err-index_verdict.ensures)))
 
-pub one_table-requires : goal.one_table-requires
-one_table-requires c = (ok (goal.at.one_table-requires c).In_ok-index_verdict).fits
+pub invariant_of-one_table : goal.invariant_of-one_table
+invariant_of-one_table c = record { inside = (ok (goal.at.invariant_of-one_table c).In_ok-index_verdict).fits }
 
 pub open_table-requires : goal.open_table-requires
 unfolding only_one

@@ -1,11 +1,12 @@
 -- `sectors::is_indexed` meets its contract. Assumes nothing.
-use Rattle.format.specs.Layouts.{entry_count, entries}
+use mathlib.Core.Path.{ap, ◌∙◌}
+use mathlib.Core.List.{List}
+use Rattle.format.specs.declared.Entry.{Entry}
+use Rattle.format.specs.Layouts.{DBLK}
+use Rattle.format.specs.Opening.{offsets_of}
+use Rattle.format.specs.Reading.{has}
+use Rattle.index.proofs.Entries.{all_on}
 use Rattle.sectors.proofs.is_indexed.Goals as goal
 
-pub names-requires : goal.names-requires
-unfolding entry_count
-names-requires c = rw c.get.ensures c.requires
-
 pub returns : goal.returns
-unfolding entries entry_count
-returns c = rw (← c.get.ensures) c.names.ensures
+returns c = c.names.ensures ∙ ap (λ (es : List Entry). has c.args.b.0 (offsets_of DBLK es)) (all_on _ _)

@@ -1,15 +1,13 @@
--- `sectors::names` meets its contract. The invariant: what is left gives what all gives. Assumes nothing.
+-- `sectors::names` meets its contract. The invariant: what is left gives what all from the i-th on give. Assumes nothing.
 use mathlib.Core.Path.{◌≡◌}
-use Prim.Native.Nat.{◌+◌, ◌*◌, ◌≤◌}
-use lib.ListN.{length}
-use Rattle.format.specs.Layouts.{DBLK, entry_length, entries_from}
+use Rattle.format.specs.Layouts.{DBLK}
 use Rattle.format.specs.Opening.{offsets_of}
 use Rattle.format.specs.Reading.{has}
+use Rattle.index.specs.Entries.{entries_on}
 use Rattle.sectors.proofs.names.Given as goal
 
-abbrev pub invariant-loop-n : goal.invariant-loop-n
-invariant-loop-n l =
-    (l.p + entry_length * l.n ≤ length l.s) × (has l.b.0 (offsets_of DBLK (entries_from l.s l.n l.p)) ≡ has l.b.0 (offsets_of DBLK (entries_from l.s l.left l.initial.p)))
-
-abbrev pub decreases-loop-n : goal.decreases-loop-n
-decreases-loop-n l = l.n
+abbrev pub invariant-loop-k : goal.invariant-loop-k
+invariant-loop-k l =
+    let s = l.index.bytes.now in
+    let o = l.index.at.0 in
+    has l.b.0 (offsets_of DBLK (entries_on s o l.k)) ≡ has l.b.0 (offsets_of DBLK (entries_on s o l.i))

@@ -6,17 +6,11 @@ use Rattle.crc64.proofs.Run.{run-next, run-done}
 use Rattle.crc64.specs.Crc.{run}
 use Rattle.crc64.proofs.register.update.Goals as goal
 
-pub loop-i-preserved : goal.loop-i-preserved
-loop-i-preserved c =
+pub loop-b-preserved : goal.loop-b-preserved
+loop-b-preserved c =
     let s = c.args.s.now in
-    let i = c.loop-i.i in (
-      omega arith,
-      ap (λ (x : ℕ). run x (drop (i + 1) s)) c.add_byte-x.ensures
-          ∙ sym (run-next c.loop-i.x s i (omega arith))
-          ∙ c.loop-i.invariant.1,
-    )
+    let l = c.loop-b in
+    ap (λ (x : ℕ). run x (drop (l.b-index + 1) s)) c.add_byte-x.ensures ∙ sym (run-next l.x s l.b-index (omega arith)) ∙ l.invariant
 
 pub returns : goal.returns
-returns c =
-    let s = c.args.s.now in
-    sym (run-done c.loop-i.x s c.loop-i.i (omega arith)) ∙ c.loop-i.invariant.1
+returns c = sym (run-done c.loop-b.x c.args.s.now c.loop-b.b-index (omega arith)) ∙ c.loop-b.invariant

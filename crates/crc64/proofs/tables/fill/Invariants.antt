@@ -1,10 +1,7 @@
 -- `tables::fill` meets its contract: the first k tables are filled in. Assumes nothing.
-use Prim.Native.Nat.{◌-◌, ◌*◌, ◌≤◌}
+use Prim.Native.Nat.{◌*◌}
 use Rattle.crc64.specs.Internal.{entry, Filled}
 use Rattle.crc64.proofs.tables.fill.Given as goal
 
 abbrev pub invariant-loop-k : goal.invariant-loop-k
-invariant-loop-k l = (l.k ≤ 8) × Filled entry 2048 l.t (256 * l.k)
-
-abbrev pub decreases-loop-k : goal.decreases-loop-k
-decreases-loop-k l = 8 - l.k
+invariant-loop-k l = Filled entry 2048 l.t (256 * l.k)

@@ -1,10 +1,7 @@
 -- `tables::table` meets its contract: the entries below 256 k + 2^j are filled in. Assumes nothing.
-use Prim.Native.Nat.{◌-◌, ◌+◌, ◌*◌, ◌^◌, ◌≤◌}
+use Prim.Native.Nat.{◌+◌, ◌*◌, ◌^◌}
 use Rattle.crc64.specs.Internal.{entry, Filled}
 use Rattle.crc64.proofs.tables.table.Given as goal
 
 abbrev pub invariant-loop-j : goal.invariant-loop-j
-invariant-loop-j l = (l.j ≤ 8) × Filled entry 2048 l.t (256 * l.k + 2 ^ l.j)
-
-abbrev pub decreases-loop-j : goal.decreases-loop-j
-decreases-loop-j l = 8 - l.j
+invariant-loop-j l = Filled entry 2048 l.t (256 * l.k + 2 ^ l.j)
