@@ -11,15 +11,9 @@ returns-in_err-lent_verdict c =
     early-as (λ x. answered x c.args.buffer.now) c.from_residual.ensures
     (flatten-stops _ _ _ _ _ _ _ _ _ (lent-stops _ _ _ _ c.in_err-lent_verdict.ensures))
 
-pub flatten_child-requires : goal.flatten_child-requires
-flatten_child-requires c = sym c.in_ok-lent_verdict.ensures
-
 pub returns-in_err-opened : goal.returns-in_err-opened
 unfolding outcome_of
 returns-in_err-opened c =
     early-as (λ x. answered x c.args.buffer.now) c.from_residual-in_err-opened.ensures
     (flatten-stops _ _ _ _ _ _ _ _ _
     (child-stops _ _ _ _ (sym c.in_ok-lent_verdict.ensures) c.in_err-opened.ensures.opens))
-
-pub returns : goal.returns
-returns c = rw c.in_ok-opened.ensures.bytes at c.flatten_child.ensures

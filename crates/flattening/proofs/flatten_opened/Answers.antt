@@ -1,45 +1,22 @@
 -- `flattening::flatten_opened` meets its contract. Assumes nothing.
 use native.Mathlib.Omega.{arith}
 use mathlib.Core.List.{List}
-use mathlib.Core.Path.{◌≡◌, sym, ap, ◌∙◌, subst}
+use mathlib.Core.Path.{◌≡◌, sym, ap, ◌∙◌}
 use lib.ListN.{length}
-use Rattle.std.specs.Prelude.{Ok, IfOk}
-use Rattle.std.specs.Result.{ForOk}
+use Rattle.std.specs.Prelude.{Ok}
 use Rattle.format.specs.Answers.{answered}
-use Rattle.format.specs.Refusals.{Answer}
 use Rattle.format.specs.Flattening.{Written, flatten_verdict}
 use Rattle.format.proofs.Chains.{early-as, stops, goes}
 use Rattle.format.proofs.Flattening.{flattenable, flatten-created}
-use Rattle.opening.specs.declared.image.Image.{Image}
 use Rattle.flattening.proofs.Stages.{flatten-stops, rest-is, none}
 use Rattle.flattening.proofs.Whole.{count-is}
 use Rattle.flattening.proofs.flatten_opened.Goals as goal
 use Rattle.flattening.proofs.flatten_opened.Goals.{Start, In_ok-sizes_verdict, After-open-opened}
 
--- the parent, where it opens, is what was lent
-lent : (c : After-open-opened) → ForOk c.open-opened.result (λ (image : Image). image.bytes.now ≡ c.args.parent.now)
-lent c image e =
-    ap (λ s. s.now) (subst (λ (q : Answer Image). IfOk q (λ (i : Image). i.bytes ≡ c.args.parent)) e c.open-opened.ensures.bytes)
-
-pub pair_verdict-requires : goal.pair_verdict-requires
-pair_verdict-requires c = (c.requires.0, sym c.open-opened.ensures.opens, lent (goal.at.pair_verdict-requires c).After-open-opened)
-
 pub returns-in_err-pair_verdict : goal.returns-in_err-pair_verdict
 returns-in_err-pair_verdict c =
     early-as (λ x. answered x c.args.buffer.now) c.from_residual.ensures
     (flatten-stops _ _ _ _ _ _ _ _ _ (stops _ c.in_err-pair_verdict.ensures ∙ sym (rest-is _ _ _ _ c.requires.1 _ c.args.child.opens c.requires.0)))
-
--- all sectors of the pair have passed
-pub invariant_of-pair : goal.invariant_of-pair
-invariant_of-pair c = record {
-  first = c.requires.0;
-  opens = sym c.open-opened.ensures.opens;
-  lent = lent (goal.at.invariant_of-pair c).After-open-opened;
-  passes = sym c.in_ok-pair_verdict.ensures;
-}
-
-pub sizes_verdict-requires : goal.sizes_verdict-requires
-sizes_verdict-requires c = (c.size-size.ensures, c.count_written-sectors.ensures)
 
 pub returns-in_err-sizes_verdict : goal.returns-in_err-sizes_verdict
 returns-in_err-sizes_verdict c =

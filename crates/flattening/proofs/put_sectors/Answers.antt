@@ -1,6 +1,6 @@
 use native.Mathlib.Omega.{arith}
 use mathlib.Core.Path.{refl}
-use Rattle.composing.proofs.Entries.{standing-starts, standing-long, standing-done, standing-none, standing-steps, standing-some}
+use Rattle.composing.proofs.Entries.{standing-starts, standing-none, standing-steps, standing-some}
 use Rattle.flattening.proofs.put_sectors.Goals as goal
 
 pub loop-n-init : goal.loop-n-init
@@ -18,9 +18,3 @@ loop-n-preserved c =
 pub loop-n-preserved-then-sector-eq0 : goal.loop-n-preserved-then-sector-eq0
 loop-n-preserved-then-sector-eq0 c =
     standing-none c.requires refl c.loop-n.invariant (omega arith) c.sector-sector.ensures (omega (arith, c.if-sector-eq0.true))
-
-pub shape_of-buf : goal.shape_of-buf
-shape_of-buf c = standing-long c.requires refl c.loop-n.invariant
-
-pub returns : goal.returns
-returns c = standing-done c.requires refl c.loop-n.invariant (omega arith)

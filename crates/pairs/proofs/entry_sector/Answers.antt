@@ -9,9 +9,6 @@ use Rattle.pairs.proofs.Sectors.{entry-none, entry-item, entry-inside, entry-byt
 use Rattle.pairs.proofs.entry_sector.Goals as goal
 use Rattle.pairs.proofs.entry_sector.Goals.{After-decoded, After-is_unwritten}
 
-pub table_entry-e-requires : goal.table_entry-e-requires
-table_entry-e-requires c = c.requires.inside
-
 gap : (c : After-is_unwritten) → let a = c.args in c.is_unwritten.result ≡ not_written a.image.bytes.now (held a.image) a.n.0
 gap c = written_is _ _ _ c.table_entry-e.ensures c.is_unwritten.ensures
 

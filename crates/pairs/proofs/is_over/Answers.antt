@@ -9,6 +9,7 @@ use Rattle.format.specs.Writing.{most_sectors, largest_size}
 use Rattle.format.proofs.Tests.{same_true, same-iff, below_true, below-iff, or-true-left, or_true_right, or-rest}
 use Rattle.pairs.proofs.is_over.Goals as goal
 
+-- two tests that both say yes
 both : {r b : Bool} → r ≡ true → b ≡ true → r ≡ b
 both e f = e ∙ sym f
 

@@ -6,9 +6,6 @@ use Rattle.pairs.proofs.pair.Pair.count_written.Goals.{then-sector-gt0, else-sec
 pub loop-n-init : goal.loop-n-init
 loop-n-init c = (omega arith, many-all _ _ _ c.args.self.child.opens)
 
-pub overflow_add-written : goal.overflow_add-written
-overflow_add-written c = let l = c.loop-n.invariant.0 in omega arith
-
 pub loop-n-preserved : goal.loop-n-preserved
 loop-n-preserved c =
     let g = c.loop-n.invariant in

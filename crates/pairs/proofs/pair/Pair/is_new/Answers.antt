@@ -4,9 +4,6 @@ use native.Mathlib.Omega.{arith}
 use Rattle.pairs.proofs.Written.{held_none, held_found, held-goes, new_is}
 use Rattle.pairs.proofs.pair.Pair.is_new.Goals as goal
 
-pub sector-other-requires : goal.sector-other-requires
-sector-other-requires c = omega (arith, c.requires)
-
 pub returns-then-eq : goal.returns-then-eq
 returns-then-eq c =
     new_is _ _ _ _ true c.sector-own.ensures c.loop-below.invariant
