@@ -9,7 +9,6 @@ use Rattle.sectors.proofs.Known.{known-block, known-verdict}
 use Rattle.sectors.proofs.pointer_verdict.Goals as goal
 use Rattle.sectors.proofs.pointer_verdict.Goals.{Then-is_known}
 
-
 known : (c : Then-is_known) → Intact c.args.image.bytes.now c.args.p.block.0
 known c = known-block (Intact _) _ _ c.requires (by c.is_known.ensures c.if-is_known.true)
 
@@ -27,4 +26,4 @@ returns-then-is_indexed c =
 
 pub returns : goal.returns
 unfolding pointer_verdict
-returns c = stop _ (ap not (rw (c.index.ensures.bytes, c.index.ensures.at) at (by c.is_indexed.ensures c.if-is_indexed.false)))
+returns c = rw c.at.ensures (stop _ (ap not (rw (c.index.ensures.bytes, c.index.ensures.at) at (by c.is_indexed.ensures c.if-is_indexed.false))))
