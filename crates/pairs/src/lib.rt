@@ -31,18 +31,12 @@ pub fn parent_refusal(r: Refusal) -> Refusal
     requires { r.number ≤ 73 }
     ensures { result ≡ parent_refusal r }
 {
-    let number = r.number;
-    let none = ByteOffset(0);
-    if number == 20 {
-        return Refusal::at(Check::NotWritten, none);
+    if r.is(Check::AddressOutside) || r.is(Check::NotWritten) {
+        return Refusal::of(Check::NotWritten);
     }
-    if number == 21 {
-        return Refusal::at(Check::NotWritten, none);
-    }
-    let place = r.place;
     Refusal {
-        number: 100 + number,
-        place,
+        number: 100 + r.number,
+        place: r.place,
     }
 }
 
