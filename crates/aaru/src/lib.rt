@@ -17,8 +17,8 @@ pub use format::{AddressRange, ByteOffset, Place, Placed, Refusal, SectorAddress
 pub fn sector_count(image: &[u8]) -> Result<AddressRange, Refusal>
     ensures { result ≡ sector_count image.now }
 {
-    let t = opening::open(image)?;
-    Ok(opening::range(t))
+    let opened = opening::open(image)?;
+    Ok(opened.found.range())
 }
 
 // Where the sector at address a lies in the image, or why it can't be read: opening's numbers, 20 to 27, 73. Beside opening it costs at
@@ -35,7 +35,7 @@ pub fn read<'a>(image: &'a [u8], a: SectorAddress) -> &'a [u8]
 {
     match opening::open(image) {
         Err(_) => fields::part(image, 0, 0),
-        Ok(t) => sectors::read_of(image, t, a),
+        Ok(opened) => sectors::read(opened, a),
     }
 }
 
@@ -90,7 +90,8 @@ pub fn commit(
     ensures { answered result buffer.new ≡ commit buffer.old used addresses.now size sectors.now time }
 {
     arguments::commit_verdict(buffer, used, addresses, size, sectors)?;
-    let t = opening::open(fields::part(buffer, 0, used))?;
+    let opened = opening::open(fields::part(buffer, 0, used))?;
+    let t = opened.found;
     appending::commit(buffer, used, t, addresses, size, sectors, time)
 }
 

@@ -17,8 +17,7 @@ ghost use Rattle.format.specs.Flattening.{flatten};
 ghost use Rattle.format.specs.Writing.{placed};
 ghost use Rattle.aaru_c.specs.Returned.{returned, count_and_lowest, start_and_size, which_start_and_size, left};
 
-use aaru::{ByteOffset, Refusal, SectorAddress};
-use overlay::Result<Sourced, Refusal>;
+use aaru::{ByteOffset, Placed, Refusal, SectorAddress};
 
 // What a refused call returns, and sets.
 fn refused(r: Refusal, place: &mut u64) -> u32
@@ -100,10 +99,10 @@ pub extern "C" fn aaru_locate_over(
 }
 
 // What a call that writes returns, and leaves behind its three pointers.
-fn numbers(answer: Result<Placed, Refusal>, used: &mut u64, index: &mut u64, place: &mut u64) -> u32
-    ensures { record { number = result; values = placed used.new index.new; place = place.new } ≡ returned (updated answer) (placed used.old index.old) place.old }
+fn numbers(update: Result<Placed, Refusal>, used: &mut u64, index: &mut u64, place: &mut u64) -> u32
+    ensures { record { number = result; values = placed used.new index.new; place = place.new } ≡ returned update (placed used.old index.old) place.old }
 {
-    match answer {
+    match update {
         Ok(p) => {
             *used = p.used;
             *index = p.index.0;

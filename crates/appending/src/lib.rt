@@ -60,7 +60,7 @@ fn lay_out<'a>(image: Image<'a>, size: u64, stored: u64) -> Layout
     ensures { result ≡ layout_for image.entry.bytes.now (held image.entry) size stored }
 {
     let s = image.bytes;
-    let kept = indexing::count_kept(s, ByteOffset(get(s, INDEX_OFFSET, 8)));
+    let kept = indexing::count_kept(image.index());
     let table = s.len() as u64 + block_length(stored, size);
     let index = table + (49 + 8 * image.found.count());
     let end = index + (20 + 16 * (kept + block_entries(stored)));

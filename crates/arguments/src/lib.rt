@@ -86,15 +86,13 @@ fn size_refused(size: u64, count: u64) -> bool
 fn is_rising(addresses: &[i64]) -> bool
     ensures { result ≡ rising addresses.now }
 {
-    let mut k: usize = 1;
     // an iteration for each address but the first, up to the first that is not above the one before it
-    while k < addresses.len() {
+    for k in 1..addresses.len() {
         let x = addresses[k - 1];
         let y = addresses[k];
         if y <= x {
             return false;
         }
-        k += 1;
     }
     true
 }

@@ -4,7 +4,6 @@
 ghost use Rattle.text.specs.Buffer.{Prints};
 ghost use Rattle.converting.specs.Texts.{export_text, import_text};
 
-
 // What the exporting program prints for an image: its flat file, in which nothing is filled, or why there is none. It is written to the front of out; the answer is how many bytes it is.
 pub fn export(input: &[u8], out: &mut [u8; 65536]) -> usize
     ensures { Prints out.old (export_text input.now) out.new result }

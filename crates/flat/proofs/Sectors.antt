@@ -85,12 +85,11 @@ module _ (l n size : ℕ) where
 -- ---- how many a test says yes to: so many of the numbers below a
 module _ (f : ℕ → Bool) (n : ℕ) where
   pub record Counting (a so : ℕ) : Type 0 where
-    pub most : a ≤ n
     pub few : so ≤ a
     pub left : so + how_many f (n - a) a ≡ how_many f n 0
 
   pub counting-starts : Counting 0 0
-  counting-starts = record { most = omega arith; few = omega arith; left = rw sub-zero (omega arith) }
+  counting-starts = record { few = omega arith; left = rw sub-zero (omega arith) }
 
   module _ {a so : ℕ} (g : Counting a so) where
     next-count : a < n → how_many f (n - a) a ≡ choose (f a) (suc (how_many f (n - (a + 1)) (a + 1))) (how_many f (n - (a + 1)) (a + 1))
@@ -98,10 +97,10 @@ module _ (f : ℕ → Bool) (n : ℕ) where
     next-count h = ap (λ k. how_many f k a) (sub-step a n h) ∙ ap (λ k. choose (f a) (suc (how_many f (n - (a + 1)) k)) (how_many f (n - (a + 1)) k)) (sym (add-one a))
 
     pub counting-yes : a < n → f a ≡ true → Counting (a + 1) (so + 1)
-    counting-yes h e = record { most = omega arith; few = omega (arith, g.few); left = omega (arith, g.left, next-count h ∙ choose-true _ _ _ e) }
+    counting-yes h e = record { few = omega (arith, g.few); left = omega (arith, g.left, next-count h ∙ choose-true _ _ _ e) }
 
     pub counting-no : a < n → f a ≡ false → Counting (a + 1) so
-    counting-no h e = record { most = omega arith; few = omega (arith, g.few); left = omega (arith, g.left, next-count h ∙ choose-false _ _ _ e) }
+    counting-no h e = record { few = omega (arith, g.few); left = omega (arith, g.left, next-count h ∙ choose-false _ _ _ e) }
 
     pub counting-done : n ≤ a → so ≡ how_many f n 0
     unfolding how_many
@@ -109,9 +108,9 @@ module _ (f : ℕ → Bool) (n : ℕ) where
 
 -- ---- 21: there are sectors, and none is written
 module _ (count gaps : ℕ) where
-  pub blank_none : count ≡ 0 → false ≡ (differs count 0 and same gaps count)
+  pub blank_none : {b : Bool} → count ≡ 0 → b ≡ differs count 0 → b ≡ (differs count 0 and same gaps count)
   unfolding ◌and◌
-  blank_none e = sym (rw ((differs-iff {a = count} {b = 0}).1 e) refl)
+  blank_none e d = d ∙ rw ((differs-iff {a = count} {b = 0}).1 e) refl
 
   pub blank-some : {b : Bool} → count ≢ 0 → b ≡ same gaps count → b ≡ (differs count 0 and same gaps count)
   unfolding ◌and◌
@@ -132,7 +131,6 @@ module _ (img : List ℕ) (t : Opened) (n : ℕ) where
 pub record Going (img : List ℕ) (t : Opened) (size : ℕ) (out₀ out : List ℕ) (at n : ℕ) : Type 0 where
   pub long : length out ≡ length out₀
   pub place : at ≡ n * size
-  pub most : n ≤ t.count
   pub left : overwrite out at (flatten (of_each (piece_at img t) (t.count - n) n)) ≡ overwrite out₀ 0 (flat_file img t)
 
 module _ (img : List ℕ) (t : Opened) (size : ℕ) (u : Uniform img t size) where
@@ -167,7 +165,7 @@ module _ (img : List ℕ) (t : Opened) (size : ℕ) (u : Uniform img t size) whe
 
   pub going-starts : (out : List ℕ) → Going img t size out out 0 0
   unfolding flat_file
-  going-starts out = record { long = refl; place = sym (zero-mul size); most = omega arith; left = rw sub-zero refl }
+  going-starts out = record { long = refl; place = sym (zero-mul size); left = rw sub-zero refl }
 
   module _ {out₀ out : List ℕ} {at n : ℕ} (g : Going img t size out₀ out at n) (room : t.count * size ≤ length out₀) where
     pub going-room : n < t.count → at + size ≤ length out
@@ -183,15 +181,13 @@ module _ (img : List ℕ) (t : Opened) (size : ℕ) (u : Uniform img t size) whe
         record {
           long = ap length v ∙ length-overwrite out at (f n) ∙ g.long;
           place = omega (arith, g.place, add-one n, suc-mul n size);
-          most = omega arith;
           left = ap (λ (l : List ℕ). overwrite l (at + size) rest) v ∙ ap (λ k. overwrite (overwrite out at (f n)) (at + k) rest) (sym (piece-sized n h))
               ∙ overwrite-then out at (f n) rest ∙ ap (overwrite out at) (sym s) ∙ g.left;
         }
 
-    pub going_done : t.count ≤ n → (at ≡ length (flat_file img t)) × (out ≡ overwrite out₀ 0 (flat_file img t))
+    pub going_done : n ≡ t.count → (at ≡ length (flat_file img t)) × (out ≡ overwrite out₀ 0 (flat_file img t))
     unfolding of_each flatten
-    going_done h =
-        let q : n ≡ t.count = omega (arith, g.most) in (
-          g.place ∙ ap (λ k. k * size) q ∙ sym bytes-sized,
-          sym (overwrite-nil out at) ∙ ap (λ k. overwrite out at (flatten (of_each (piece_at img t) k n))) (sym (sub-done n t.count h)) ∙ g.left,
-        )
+    going_done e = (
+      g.place ∙ ap (λ k. k * size) e ∙ sym bytes-sized,
+      sym (overwrite-nil out at) ∙ ap (λ k. overwrite out at (flatten (of_each (piece_at img t) k n))) (sym (sub-done n t.count (omega arith))) ∙ g.left,
+    )

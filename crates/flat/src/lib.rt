@@ -9,33 +9,28 @@ ghost use Rattle.std.specs.Prelude.{◌≡◌, ◌+◌, ◌*◌, ◌≤◌, ◌<
 ghost use Rattle.fields.specs.Bytes.{overwrite};
 ghost use Rattle.format.specs.Tests.{same, differs, below, ◌and◌};
 ghost use Rattle.format.specs.Refusals.{refusal, row, first_refusal};
-ghost use Rattle.format.specs.Opening.{opening};
 ghost use Rattle.format.specs.Writing.{outcome};
 ghost use Rattle.format.specs.Exporting.{flat_size, piece_at, flat_file, gap_count, size_verdict, file_verdict, export_exact, export};
 ghost use Rattle.format.specs.Answers.{answered};
-ghost use Rattle.opening.specs.Answers.{contents};
+ghost use Rattle.opening.specs.Images.{held};
 ghost use Rattle.search.specs.Found.{Checked};
 ghost use Rattle.flat.specs.Exports.{Uniform};
 
 use fields::{clear, copy, part};
 use format::{ByteOffset, EntryNumber};
-pub use format::{Flat, Refusal};
+pub use format::{Flat, Placed, Refusal};
 // an import, with its contract
 pub use importing::import;
-use opening::Opened;
+use opening::Image;
 
 // The size of the lowest written sector; 0 where none is written.
-fn flat_size(s: &[u8], t: Opened) -> u64
-    requires { Checked s.now (contents t) }
-    ensures { result ≡ flat_size s.now (contents t) }
+fn flat_size<'a>(image: Image<'a>) -> u64
+    requires { Checked image.bytes.now (held image) }
+    ensures { result ≡ flat_size image.entry.bytes.now (held image.entry) }
 {
-    let count = opening::count(t);
-    let mut n: u64 = 0;
     // an iteration for each sector, up to the first that is written
-    while n < count {
-        let slot = search::slot_at(s, t, EntryNumber(n));
-        n += 1;
-        if let Some(p) = slot {
+    for n in 0..image.found.count() {
+        if let Some(p) = search::slot_at(image, EntryNumber(n)) {
             return p.size;
         }
     }
@@ -43,17 +38,13 @@ fn flat_size(s: &[u8], t: Opened) -> u64
 }
 
 // 40 if a written sector has another size.
-fn sizes_verdict(s: &[u8], t: Opened, size: u64) -> Result<(), Refusal>
-    requires { Checked s.now (contents t) × (size ≡ flat_size s.now (contents t)) }
-    ensures { result ≡ first_refusal (size_verdict s.now (contents t)) (contents t).count 0 }
+fn sizes_verdict<'a>(image: Image<'a>, size: u64) -> Result<(), Refusal>
+    requires { Checked image.bytes.now (held image) × (size ≡ flat_size image.bytes.now (held image)) }
+    ensures { result ≡ first_refusal (size_verdict image.entry.bytes.now (held image.entry)) (held image.entry).count 0 }
 {
-    let count = opening::count(t);
-    let mut n: u64 = 0;
     // an iteration for each sector, up to the first whose size differs
-    while n < count {
-        let slot = search::slot_at(s, t, EntryNumber(n));
-        n += 1;
-        if let Some(p) = slot {
+    for n in 0..image.found.count() {
+        if let Some(p) = search::slot_at(image, EntryNumber(n)) {
             if p.size != size {
                 let place = ByteOffset(0);
                 return Err(Refusal { number: 40, place });
@@ -79,71 +70,57 @@ fn room_verdict(out: &[u8], count: u64, size: u64) -> Result<(), Refusal>
 }
 
 // Writes what stands in the file for table entry n: its sector, or zeros.
-fn put_piece(s: &[u8], t: Opened, n: EntryNumber, out: &mut [u8], at: u64, size: u64)
-    requires { Uniform s.now (contents t) size × (n.0 < (contents t).count) × (at + size ≤ length out.old) }
-    ensures { out.new ≡ overwrite out.old at (piece_at s.now (contents t) n.0) }
+fn put_piece<'a, 'b>(image: Image<'a>, n: EntryNumber, out: &'b mut [u8], at: u64, size: u64)
+    requires { Uniform image.bytes.now (held image) size × (n.0 < (held image).count) × (at + size ≤ length out.old) }
+    ensures { out.new ≡ overwrite out.old at (piece_at image.entry.bytes.now (held image.entry) n.0) }
 {
-    let slot = search::slot_at(s, t, n);
-    match slot {
+    match search::slot_at(image, n) {
         None => clear(out, at, size),
-        Some(p) => {
-            let start = p.start;
-            copy(out, at, part(s, start.0, p.size));
-        }
+        Some(p) => copy(out, at, part(image.bytes, p.start.0, p.size)),
     }
 }
 
 // Writes the file, whose pieces have this size, to the front of `out`; how many bytes that is.
-fn put_file(s: &[u8], t: Opened, out: &mut [u8], size: u64) -> u64
-    requires { Uniform s.now (contents t) size × ((contents t).count * size ≤ length out.old) }
-    ensures { (result ≡ length (flat_file s.now (contents t))) × (out.new ≡ overwrite out.old 0 (flat_file s.now (contents t))) }
+fn put_file<'a, 'b>(image: Image<'a>, out: &'b mut [u8], size: u64) -> u64
+    requires { Uniform image.bytes.now (held image) size × ((held image).count * size ≤ length out.old) }
+    ensures { (result ≡ length (flat_file image.entry.bytes.now (held image.entry))) × (out.new ≡ overwrite out.old 0 (flat_file image.entry.bytes.now (held image.entry))) }
 {
-    let count = opening::count(t);
     let mut at: u64 = 0;
-    let mut n: u64 = 0;
     // an iteration for each sector
-    while n < count {
-        put_piece(s, t, EntryNumber(n), out, at, size);
+    for n in 0..image.found.count() {
+        put_piece(image, EntryNumber(n), out, at, size);
         at += size;
-        n += 1;
     }
     at
 }
 
 // What both rules do once the sectors are checked: 40, 41, and the file.
-fn export_file(s: &[u8], t: Opened, out: &mut [u8]) -> Result<u64, Refusal>
-    requires { Checked s.now (contents t) }
-    ensures { answered result out.new ≡ outcome out.old (file_verdict s.now (contents t) out.old) (length (flat_file s.now (contents t))) (overwrite out.old 0 (flat_file s.now (contents t))) }
+fn export_file<'a, 'b>(image: Image<'a>, out: &'b mut [u8]) -> Result<u64, Refusal>
+    requires { Checked image.bytes.now (held image) }
+    ensures { answered result out.new ≡ outcome out.old (file_verdict image.entry.bytes.now (held image.entry) out.old) (length (flat_file image.entry.bytes.now (held image.entry))) (overwrite out.old 0 (flat_file image.entry.bytes.now (held image.entry))) }
 {
-    let size = flat_size(s, t);
-    sizes_verdict(s, t, size)?;
-    let count = opening::count(t);
-    room_verdict(out, count, size)?;
-    Ok(put_file(s, t, out, size))
+    let size = flat_size(image);
+    sizes_verdict(image, size)?;
+    room_verdict(out, image.found.count(), size)?;
+    Ok(put_file(image, out, size))
 }
 
-// The exact export of a disc that opened as t.
-fn export_exact_at(s: &[u8], t: Opened, out: &mut [u8]) -> Result<u64, Refusal>
-    requires { opening s.now ≡ Ok (contents t) }
-    ensures { answered result out.new ≡ export_exact s.now out.old }
+// The exact export of an opened disc.
+fn export_exact_at<'a, 'b>(image: Image<'a>, out: &'b mut [u8]) -> Result<u64, Refusal>
+    ensures { answered result out.new ≡ export_exact image.entry.bytes.now out.old }
 {
-    checking::every_verdict(s, t)?;
-    export_file(s, t, out)
+    checking::every_verdict(image)?;
+    export_file(image, out)
 }
 
 // How many sectors are not written.
-fn count_gaps(s: &[u8], t: Opened) -> u64
-    requires { opening s.now ≡ Ok (contents t) }
-    ensures { result ≡ gap_count s.now (contents t) }
+fn count_gaps<'a>(image: Image<'a>) -> u64
+    ensures { result ≡ gap_count image.entry.bytes.now (held image.entry) }
 {
-    let count = opening::count(t);
     let mut gaps: u64 = 0;
-    let mut n: u64 = 0;
     // an iteration for each sector
-    while n < count {
-        let here = EntryNumber(n);
-        n += 1;
-        if opening::is_unwritten(t, opening::table_entry(s, t, here)) {
+    for n in 0..image.found.count() {
+        if image.found.is_unwritten(image.table_entry(EntryNumber(n))) {
             gaps += 1;
         }
     }
@@ -154,24 +131,20 @@ fn count_gaps(s: &[u8], t: Opened) -> u64
 fn is_blank(count: u64, gaps: u64) -> bool
     ensures { result ≡ (differs count 0 and same gaps count) }
 {
-    if count == 0 {
-        return false;
-    }
-    gaps == count
+    count != 0 && gaps == count
 }
 
-// The export of a disc that opened as t.
-fn export_at(s: &[u8], t: Opened, out: &mut [u8]) -> Result<Flat, Refusal>
-    requires { opening s.now ≡ Ok (contents t) }
-    ensures { answered result out.new ≡ export s.now out.old }
+// The export of an opened disc.
+fn export_at<'a, 'b>(image: Image<'a>, out: &'b mut [u8]) -> Result<Flat, Refusal>
+    ensures { answered result out.new ≡ export image.entry.bytes.now out.old }
 {
-    checking::sectors_verdict(s, t)?;
-    let filled = count_gaps(s, t);
-    if is_blank(opening::count(t), filled) {
+    checking::sectors_verdict(image)?;
+    let filled = count_gaps(image);
+    if is_blank(image.found.count(), filled) {
         let place = ByteOffset(0);
         return Err(Refusal { number: 21, place });
     }
-    let length = export_file(s, t, out)?;
+    let length = export_file(image, out)?;
     Ok(Flat { length, filled })
 }
 
@@ -180,8 +153,8 @@ fn export_at(s: &[u8], t: Opened, out: &mut [u8]) -> Result<Flat, Refusal>
 pub fn export_exact(image: &[u8], out: &mut [u8]) -> Result<u64, Refusal>
     ensures { answered result out.new ≡ export_exact image.now out.old }
 {
-    let t = opening::open(image)?;
-    export_exact_at(image, t, out)
+    let opened = opening::open(image)?;
+    export_exact_at(opened, out)
 }
 
 // The same with zeros in place of each sector that is not written, as many as the lowest written one has bytes; it answers too how many sectors these are. 21
@@ -189,6 +162,6 @@ pub fn export_exact(image: &[u8], out: &mut [u8]) -> Result<u64, Refusal>
 pub fn export(image: &[u8], out: &mut [u8]) -> Result<Flat, Refusal>
     ensures { answered result out.new ≡ export image.now out.old }
 {
-    let t = opening::open(image)?;
-    export_at(image, t, out)
+    let opened = opening::open(image)?;
+    export_at(opened, out)
 }

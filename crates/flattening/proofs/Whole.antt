@@ -8,18 +8,20 @@ use lib.ListN.{length, length-map}
 use Rattle.std.specs.Prelude.{Ok, Err}
 use Rattle.fields.specs.Bytes.{overwrite}
 use Rattle.format.specs.Lists.{All}
-use Rattle.format.specs.Refusals.{refusal, Answer}
+use Rattle.format.specs.Refusals.{refusal}
 use Rattle.format.specs.Opening.{Opened, opening}
 use Rattle.format.specs.Writing.{most_sectors, largest_size, most_addresses, placed}
 use Rattle.format.specs.Creating.{created_used, created_bytes}
 use Rattle.format.specs.Answers.{answered}
-use Rattle.format.specs.Flattening.{count_of, pair_at, Written, written_of, size_of, sectors_of, flatten_verdict, flatten}
+use Rattle.format.specs.Flattening.{count_of, pair_at, Written, written_of, size_of, sectors_of, flatten}
 use Rattle.format.proofs.Lists.{not-empty, Sized}
 use Rattle.format.proofs.Storing.{stored-few}
 use Rattle.format.proofs.Composing.{Composable}
 use Rattle.format.proofs.Flattening.{sector_list, number_list, pair-some, Flattenable, flattenable, composable, pieces_are, flatten-composed}
 use Rattle.opening.proofs.Accepted.{opened-is}
-use Rattle.pairs.specs.Pairs.{Pair, sector_at}
+use Rattle.opening.specs.Images.{held}
+use Rattle.pairs.specs.declared.pair.Pair.{Pair}
+use Rattle.pairs.specs.Sectors.{sector_of}
 use Rattle.pairs.proofs.Sectors.{sector-some, sector-is}
 use Rattle.storing.specs.Turns.{no_disc}
 use Rattle.composing.specs.declared.Layout.{Layout}
@@ -27,6 +29,7 @@ use Rattle.composing.specs.Composes.{handed, stored_of, composed_in, layout_of, 
 use Rattle.composing.proofs.Counting.{some_stored}
 use Rattle.composing.proofs.Laid.{Most, most-lays}
 use Rattle.composing.proofs.New.{Hands, composed-full, composed-fits, composed-done}
+use Rattle.flattening.specs.Flattens.{Ready}
 use Rattle.flattening.proofs.Sectors.{numbers-are, sectors-are, sized-at, somewhere}
 
 -- the child's count is that of its table
@@ -43,19 +46,19 @@ split : (l : List Written) → l ≢ [] → Split l
 split [] h = absurd (h refl)
 split (w ∷ ws) h = record { head = w; rest = ws; is = refl }
 
-pub record Ready (buffer child parent application : List ℕ) (count size : ℕ) : Type 0 where
-  pub many : count ≡ count_of child
-  pub checked : flatten_verdict buffer child parent application ≡ Ok tt
-  pub size_is : size ≡ size_of (written_of child parent)
-  pub any : written_of child parent ≢ []
+module _ {buffer application : List ℕ} {pair : Pair} {size : ℕ} (q : Ready buffer pair application size) where
+  abbrev child : List ℕ
+  child = pair.child.bytes.now
 
--- by what the functions that write ask for
-pub ready-by : {buffer child parent application : List ℕ} {t : Opened} {p : Answer Opened} {size : ℕ} → Pair child parent t p
-    → flatten_verdict buffer child parent application ≡ Ok tt → size ≡ size_of (written_of child parent) → written_of child parent ≢ []
-    → Ready buffer child parent application t.count size
-ready-by h checked is any = record { many = count-is _ _ h.opens; checked = checked; size_is = is; any = any }
+  abbrev parent : List ℕ
+  parent = pair.parent.now
 
-module _ {buffer child parent application : List ℕ} {count size : ℕ} (q : Ready buffer child parent application count size) where
+  abbrev count : ℕ
+  count = (held pair.child).count
+
+  many : count ≡ count_of child
+  many = count-is child (held pair.child) pair.child.opens
+
   k : Flattenable buffer child parent application
   k = (flattenable buffer child parent application).0 q.checked
 
@@ -66,7 +69,7 @@ module _ {buffer child parent application : List ℕ} {count size : ℕ} (q : Re
   ws = s.head ∷ s.rest
 
   abbrev f : ℕ → List ℕ
-  f = sector_at child parent
+  f = sector_of pair
 
   c : Composable buffer (count_of child) (number_list ws) (size_of ws) (sectors_of ws) application
   c = composable k s.head s.rest s.is
@@ -92,7 +95,7 @@ module _ {buffer child parent application : List ℕ} {count size : ℕ} (q : Re
   unfolding written_of
   sectors = record {
     sized = λ n h e.
-        sized-at (pair_at child parent) size (count_of child) 0 n (f n) (rw q.size_is k.sized) (omega arith) (omega (arith, q.many)) (sector-some child parent n (f n) refl (omega arith));
+        sized-at (pair_at child parent) size (count_of child) 0 n (f n) (rw q.size_is k.sized) (omega arith) (omega (arith, many)) (sector-some child parent n (f n) refl (omega arith));
     pos = rw size_is c.some;
   }
 
@@ -101,15 +104,15 @@ module _ {buffer child parent application : List ℕ} {count size : ℕ} (q : Re
   stored_some block =
       let w = somewhere (pair_at child parent) (count_of child) 0 q.any in
       let i = sector-is child parent w.at w.sector w.has in
-      some_stored block f count w.at (omega (arith, w.inside, q.many)) (rw i.0 (not-empty w.sector i.1))
+      some_stored block f count w.at (omega (arith, w.inside, many)) (rw i.0 (not-empty w.sector i.1))
 
   -- no more are stored than there are
   few : (block : ℕ) → length (stored_of block f count).items ≤ length (written_of child parent)
   few block =
-      rw q.many (omega (arith, stored-few [] no_disc block (handed f (count_of child)) [], ap length handed-are, ap length (sym s.is), length-map ws (λ (w : Written). w.sector)))
+      omega (arith, stored-few [] no_disc block (handed f count) [], ap length (ap (handed f) many ∙ handed-are), ap length (sym s.is), length-map ws (λ (w : Written). w.sector))
 
   lays : {n : ℕ} → n ≤ length (written_of child parent) → n ≢ 0 → (count ≤ most_sectors) × (size ≤ largest_size) × (n ≤ most_addresses) × (n ≢ 0)
-  lays l o = (omega (arith, q.many, k.most), omega (arith, q.size_is, k.small), omega (arith, k.few), o)
+  lays l o = (omega (arith, many, k.most), omega (arith, q.size_is, k.small), omega (arith, k.few), o)
 
   pub flat-lays : (block : ℕ) {stored : ℕ} → stored ≡ length (stored_of block f count).items → (count ≤ most_sectors) × (size ≤ largest_size) × (stored ≤ most_addresses) × (stored ≢ 0)
   flat-lays block e = lays (omega (arith, few block)) (λ y. stored_some block (sym e ∙ y))
@@ -131,7 +134,7 @@ module _ {buffer child parent application : List ℕ} {count size : ℕ} (q : Re
 
   module _ (major minor mediaType creationTime lastWrittenTime : ℕ) {stored : ℕ} {at : Layout} (p : Plan f count size stored at) where
     plan : Plan f (count_of child) (size_of ws) stored at
-    plan = rw (← q.many, ← size_is) p
+    plan = rw (← many, ← size_is) p
 
     pub flat-full : length buffer < at.end → answered (Err (refusal 35 0)) buffer ≡ flatten buffer child parent application major minor mediaType creationTime lastWrittenTime
     flat-full h =
@@ -140,13 +143,13 @@ module _ {buffer child parent application : List ℕ} {count size : ℕ} (q : Re
 
     module _ (h : at.end ≤ length buffer) {b₁ : List ℕ} (e₁ : b₁ ≡ overwrite buffer 0 (created_bytes count application major minor mediaType creationTime lastWrittenTime)) where
       made : b₁ ≡ overwrite buffer 0 (created_bytes (count_of child) application major minor mediaType creationTime lastWrittenTime)
-      made = rw q.many at e₁
+      made = rw many at e₁
 
       pub flat-fits : Fits b₁ f count size stored at
-      flat-fits = rw (q.many, size_is) (composed-fits _ _ _ _ _ _ major minor mediaType creationTime lastWrittenTime c hands plan h made)
+      flat-fits = rw (many, size_is) (composed-fits _ _ _ _ _ _ major minor mediaType creationTime lastWrittenTime c hands plan h made)
 
       pub flat-done : {b₂ : List ℕ} → b₂ ≡ composed_in b₁ f size count lastWrittenTime
           → answered (Ok (placed at.end at.index.0)) b₂ ≡ flatten buffer child parent application major minor mediaType creationTime lastWrittenTime
       flat-done e₂ =
-          composed-done _ _ _ _ _ _ major minor mediaType creationTime lastWrittenTime c hands plan h made (rw (q.many, size_is) at e₂)
+          composed-done _ _ _ _ _ _ major minor mediaType creationTime lastWrittenTime c hands plan h made (rw (many, size_is) at e₂)
           ∙ sym (flatten-composed buffer child parent application major minor mediaType creationTime lastWrittenTime k s.head s.rest s.is)

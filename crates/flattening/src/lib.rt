@@ -7,22 +7,23 @@
 // difference, and a search at the first that is equal. Else linear in what is read and written.
 #![tactic(auto)]
 
-ghost use mathlib.Core.List.{[], flatten as flattened};
-ghost use Rattle.std.specs.Prelude.{◌≢◌, ◌≡◌, ℕ, ◌+◌, ◌≤◌, length};
+ghost use mathlib.Core.List.{flatten as flattened};
+ghost use Rattle.std.specs.Prelude.{◌≡◌, ℕ, ◌+◌, ◌≤◌, length};
 ghost use Rattle.fields.specs.Bytes.{overwrite};
 ghost use Rattle.format.specs.declared.TableKind.TheVariants.{First};
 ghost use Rattle.format.specs.Layouts.{block_header_length};
-ghost use Rattle.format.specs.Opening.{opening};
-ghost use Rattle.format.specs.Flattening.{written_of, size_of, lent_verdict, flatten_verdict, flatten};
+ghost use Rattle.format.specs.Flattening.{size_of, lent_verdict, flatten};
 ghost use Rattle.format.specs.Answers.{answered};
-ghost use Rattle.opening.specs.Answers.{contents, outcome};
-ghost use Rattle.pairs.specs.Pairs.{Pair, sector_at};
+ghost use Rattle.opening.specs.Images.{held};
+ghost use Rattle.pairs.specs.Sectors.{sector_of, written_in};
 ghost use Rattle.composing.specs.Composes.{stored_of, layout_of, filled, Lays};
+ghost use Rattle.flattening.specs.Flattens.{Ready};
 
 use composing::Layout;
-use format::{ByteOffset, EntryNumber, Placed};
-pub use format::Refusal;
-use opening::Opened;
+use format::{ByteOffset, EntryNumber};
+pub use format::{Placed, Refusal};
+use opening::Image;
+use pairs::Pair;
 
 // What a new image is stamped with: the application's version, the media type, and two times.
 #[derive(Clone, Copy)]
@@ -35,73 +36,47 @@ struct Stamp {
 }
 
 // How many of the pair's sectors are stored, wherever the block will be.
-fn count_stored<'a>(child: &'a [u8], t: Opened, parent: &'a [u8], p: Result<Opened, Refusal>) -> u64
-    requires { Pair child.now parent.now (contents t) (outcome p) }
-    ensures { (block : ℕ) → result ≡ length (stored_of block (sector_at child.now parent.now) (contents t).count).items }
+fn count_stored<'a>(pair: Pair<'a>) -> u64
+    ensures { (block : ℕ) → result ≡ length (stored_of block (sector_of pair.entry) (held pair.entry.child).count).items }
 {
-    let count = opening::count(t);
     let mut stored: u64 = 0;
-    let mut n: u64 = 0;
     // an iteration for each address, whose sector is compared with those at lower ones, up to the first that is equal
-    while n < count {
+    for n in 0..pair.child.found.count() {
         let here = EntryNumber(n);
-        n += 1;
-        if 0 < pairs::sector(child, t, parent, p, here).len() {
-            if pairs::is_new(child, t, parent, p, here) {
-                stored += 1;
-            }
+        if 0 < pair.sector(here).len() && pair.is_new(here) {
+            stored += 1;
         }
     }
     stored
 }
 
 // Writes the sectors that are stored, behind the place of the block's header, and the table's entries.
-fn put_entries<'a, 'b>(
-    buf: &'b mut [u8],
-    child: &'a [u8],
-    t: Opened,
-    parent: &'a [u8],
-    p: Result<Opened, Refusal>,
-    at: Layout,
-)
-    requires { Pair child.now parent.now (contents t) (outcome p) × Lays buf.old (sector_at child.now parent.now) (contents t).count (size_of (written_of child.now parent.now)) at }
-    ensures { buf.new ≡ filled buf.old (sector_at child.now parent.now) (contents t).count at }
+fn put_entries<'a, 'b>(buf: &'b mut [u8], pair: Pair<'a>, at: Layout)
+    requires { Lays buf.old (sector_of pair) (held pair.child).count (size_of (written_in pair)) at }
+    ensures { buf.new ≡ filled buf.old (sector_of pair.entry) (held pair.entry.child).count at }
 {
-    let count = opening::count(t);
     let mut stored: u64 = 0;
-    let mut n: u64 = 0;
     // an iteration for each address, whose sector is compared with those stored before it, up to the first that is equal
-    while n < count {
-        let sector = pairs::sector(child, t, parent, p, EntryNumber(n));
-        stored = composing::enter(buf, at, n, sector, stored);
-        n += 1;
+    for n in 0..pair.child.found.count() {
+        stored = composing::enter(buf, at, n, pair.sector(EntryNumber(n)), stored);
     }
 }
 
 // Writes only the sectors that are stored, behind the place of the block's header, where there is room up to the table of `most`. How many they are.
-fn put_sectors<'a, 'b>(
-    buf: &'b mut [u8],
-    child: &'a [u8],
-    t: Opened,
-    parent: &'a [u8],
-    p: Result<Opened, Refusal>,
-    most: Layout,
-) -> u64
-    requires { Pair child.now parent.now (contents t) (outcome p) × Lays buf.old (sector_at child.now parent.now) (contents t).count (size_of (written_of child.now parent.now)) most }
-    ensures { let items = (stored_of most.used (sector_at child.now parent.now) (contents t).count).items in
+fn put_sectors<'a, 'b>(buf: &'b mut [u8], pair: Pair<'a>, most: Layout) -> u64
+    requires { Lays buf.old (sector_of pair) (held pair.child).count (size_of (written_in pair)) most }
+    ensures { let items = (stored_of most.used (sector_of pair.entry) (held pair.entry.child).count).items in
         (result ≡ length items) × (buf.new ≡ overwrite buf.old (most.used + block_header_length) (flattened items)) }
 {
-    let count = opening::count(t);
     let mut stored: u64 = 0;
-    let mut n: u64 = 0;
     // an iteration for each address, whose sector is compared with those stored before it, up to the first that is equal
-    while n < count {
-        let sector = pairs::sector(child, t, parent, p, EntryNumber(n));
-        n += 1;
-        if 0 < sector.len() {
-            let step = storing::store_among(buf, ByteOffset(most.used), sector, stored);
-            stored = step.stored;
+    for n in 0..pair.child.found.count() {
+        let sector = pair.sector(EntryNumber(n));
+        if sector.len() == 0 {
+            continue;
         }
+        let step = storing::store_among(buf, ByteOffset(most.used), sector, stored);
+        stored = step.stored;
     }
     stored
 }
@@ -109,20 +84,16 @@ fn put_sectors<'a, 'b>(
 // Flattening a pair that has sectors, of this size, all of whose checks but 35 have passed. There may be no room, so those that are stored are counted first.
 fn flatten_tight<'a, 'b, 'c>(
     buffer: &'b mut [u8],
-    child: &'a [u8],
-    t: Opened,
-    parent: &'a [u8],
-    p: Result<Opened, Refusal>,
+    pair: Pair<'a>,
     size: u64,
     application: &'c [u8],
     new: Stamp,
 ) -> Result<Placed, Refusal>
-    requires { Pair child.now parent.now (contents t) (outcome p) × (flatten_verdict buffer.old child.now parent.now application.now ≡ Ok tt)
-        × (size ≡ size_of (written_of child.now parent.now)) × (written_of child.now parent.now ≢ []) }
-    ensures { answered result buffer.new ≡ flatten buffer.old child.now parent.now application.now new.major new.minor new.mediaType new.created new.written }
+    requires { Ready buffer.old pair application.now size }
+    ensures { answered result buffer.new ≡ flatten buffer.old pair.entry.child.bytes.now pair.entry.parent.now application.now new.major new.minor new.mediaType new.created new.written }
 {
-    let count = opening::count(t);
-    let stored = count_stored(child, t, parent, p);
+    let count = pair.child.found.count();
+    let stored = count_stored(pair);
     let at = composing::lay_out(count, size, stored);
     let end = at.end;
     let index = at.index;
@@ -141,7 +112,7 @@ fn flatten_tight<'a, 'b, 'c>(
         new.created,
         new.written,
     );
-    put_entries(buffer, child, t, parent, p, at);
+    put_entries(buffer, pair, at);
     composing::finish(buffer, count, size, stored, at, new.written);
     Ok(Placed { used: end, index })
 }
@@ -150,21 +121,17 @@ fn flatten_tight<'a, 'b, 'c>(
 // entries stand. With those, the same sectors are written over themselves.
 fn flatten_roomy<'a, 'b, 'c>(
     buffer: &'b mut [u8],
-    child: &'a [u8],
-    t: Opened,
-    parent: &'a [u8],
-    p: Result<Opened, Refusal>,
+    pair: Pair<'a>,
     size: u64,
     most: Layout,
     application: &'c [u8],
     new: Stamp,
 ) -> Result<Placed, Refusal>
-    requires { Pair child.now parent.now (contents t) (outcome p) × (flatten_verdict buffer.old child.now parent.now application.now ≡ Ok tt)
-        × (size ≡ size_of (written_of child.now parent.now)) × (written_of child.now parent.now ≢ [])
-        × (most ≡ layout_of (contents t).count size (length (written_of child.now parent.now))) × (most.end ≤ length buffer.old) }
-    ensures { answered result buffer.new ≡ flatten buffer.old child.now parent.now application.now new.major new.minor new.mediaType new.created new.written }
+    requires { Ready buffer.old pair application.now size
+        × (most ≡ layout_of (held pair.child).count size (length (written_in pair))) × (most.end ≤ length buffer.old) }
+    ensures { answered result buffer.new ≡ flatten buffer.old pair.entry.child.bytes.now pair.entry.parent.now application.now new.major new.minor new.mediaType new.created new.written }
 {
-    let count = opening::count(t);
+    let count = pair.child.found.count();
     records::put_image(
         buffer,
         count,
@@ -175,9 +142,9 @@ fn flatten_roomy<'a, 'b, 'c>(
         new.created,
         new.written,
     );
-    let stored = put_sectors(buffer, child, t, parent, p, most);
+    let stored = put_sectors(buffer, pair, most);
     let at = composing::lay_out(count, size, stored);
-    put_entries(buffer, child, t, parent, p, at);
+    put_entries(buffer, pair, at);
     composing::finish(buffer, count, size, stored, at, new.written);
     let end = at.end;
     let index = at.index;
@@ -187,50 +154,48 @@ fn flatten_roomy<'a, 'b, 'c>(
 // The same, of so many sectors: 35 needs a count only where there is no room for all of them.
 fn flatten_some<'a, 'b, 'c>(
     buffer: &'b mut [u8],
-    child: &'a [u8],
-    t: Opened,
-    parent: &'a [u8],
-    p: Result<Opened, Refusal>,
+    pair: Pair<'a>,
     size: u64,
     sectors: u64,
     application: &'c [u8],
     new: Stamp,
 ) -> Result<Placed, Refusal>
-    requires { Pair child.now parent.now (contents t) (outcome p) × (flatten_verdict buffer.old child.now parent.now application.now ≡ Ok tt)
-        × (size ≡ size_of (written_of child.now parent.now)) × (written_of child.now parent.now ≢ [])
-        × (sectors ≡ length (written_of child.now parent.now)) }
-    ensures { answered result buffer.new ≡ flatten buffer.old child.now parent.now application.now new.major new.minor new.mediaType new.created new.written }
+    requires { Ready buffer.old pair application.now size × (sectors ≡ length (written_in pair)) }
+    ensures { answered result buffer.new ≡ flatten buffer.old pair.entry.child.bytes.now pair.entry.parent.now application.now new.major new.minor new.mediaType new.created new.written }
 {
-    let count = opening::count(t);
-    let most = composing::lay_out(count, size, sectors);
+    let most = composing::lay_out(pair.child.found.count(), size, sectors);
     let length = buffer.len() as u64;
     if length < most.end {
-        return flatten_tight(buffer, child, t, parent, p, size, application, new);
+        return flatten_tight(buffer, pair, size, application, new);
     }
-    flatten_roomy(buffer, child, t, parent, p, size, most, application, new)
+    flatten_roomy(buffer, pair, size, most, application, new)
 }
 
-// Flattening a pair whose child opened as t, with a table of the first kind, after 31 and 33.
+// Flattening a pair whose child has a table of the first kind, after 31 and 33.
 fn flatten_opened<'a, 'b, 'c>(
     buffer: &'b mut [u8],
-    child: &'a [u8],
-    t: Opened,
+    child: Image<'a>,
     parent: &'a [u8],
     application: &'c [u8],
     new: Stamp,
 ) -> Result<Placed, Refusal>
-    requires { (opening child.now ≡ Ok (contents t)) × ((contents t).kind ≡ First) × (lent_verdict buffer.old application.now ≡ Ok tt) }
-    ensures { answered result buffer.new ≡ flatten buffer.old child.now parent.now application.now new.major new.minor new.mediaType new.created new.written }
+    requires { ((held child).kind ≡ First) × (lent_verdict buffer.old application.now ≡ Ok tt) }
+    ensures { answered result buffer.new ≡ flatten buffer.old child.entry.bytes.now parent.now application.now new.major new.minor new.mediaType new.created new.written }
 {
-    let p = opening::open(parent);
-    pair_checking::pair_verdict(child, t, parent, p)?;
-    let size = pairs::size_of(child, t, parent, p);
-    let sectors = pairs::count_written(child, t, parent, p);
-    pairs::sizes_verdict(child, t, parent, p, size, sectors)?;
+    let opened = opening::open(parent);
+    pair_checking::pair_verdict(child, parent, opened)?;
+    let pair = Pair {
+        child,
+        parent,
+        opened,
+    };
+    let size = pair.size();
+    let sectors = pair.count_written();
+    pair.sizes_verdict(size, sectors)?;
     if sectors == 0 {
         return aaru::create(
             buffer,
-            opening::count(t),
+            child.found.count(),
             application,
             new.major,
             new.minor,
@@ -239,23 +204,22 @@ fn flatten_opened<'a, 'b, 'c>(
             new.written,
         );
     }
-    flatten_some(buffer, child, t, parent, p, size, sectors, application, new)
+    flatten_some(buffer, pair, size, sectors, application, new)
 }
 
-// Flattening a pair whose child opened as t, after 31 and 33: 74 where its table is of the second kind.
+// Flattening a pair whose child opened, after 31 and 33: 74 where its table is of the second kind.
 fn flatten_child<'a, 'b, 'c>(
     buffer: &'b mut [u8],
-    child: &'a [u8],
-    t: Opened,
+    child: Image<'a>,
     parent: &'a [u8],
     application: &'c [u8],
     new: Stamp,
 ) -> Result<Placed, Refusal>
-    requires { (opening child.now ≡ Ok (contents t)) × (lent_verdict buffer.old application.now ≡ Ok tt) }
-    ensures { answered result buffer.new ≡ flatten buffer.old child.now parent.now application.now new.major new.minor new.mediaType new.created new.written }
+    requires { lent_verdict buffer.old application.now ≡ Ok tt }
+    ensures { answered result buffer.new ≡ flatten buffer.old child.entry.bytes.now parent.now application.now new.major new.minor new.mediaType new.created new.written }
 {
-    opening::kind_verdict(t)?;
-    flatten_opened(buffer, child, t, parent, application, new)
+    child.found.kind_verdict()?;
+    flatten_opened(buffer, child, parent, application, new)
 }
 
 // Makes an image at the start of the buffer that reads as the child over its parent: what a creation with the child's count and one commit, at the last time,
@@ -283,6 +247,6 @@ pub fn flatten<'a, 'b, 'c>(
         created,
         written,
     };
-    let t = opening::open(child)?;
-    flatten_child(buffer, child, t, parent, application, new)
+    let opened = opening::open(child)?;
+    flatten_child(buffer, opened, parent, application, new)
 }

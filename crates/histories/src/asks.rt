@@ -1,5 +1,4 @@
 // What rows ask of a buffer, and the lines that answer.
-use aaru::Result<AddressRange, Refusal>;
 use fields::get;
 use printing::{bytes, located, number, range, refused, text};
 use std::io;
@@ -32,8 +31,7 @@ fn sectors(rt: &impl Print, image: &[u8], count: u64) -> io::Result<()> {
 }
 
 fn disc(rt: &impl Print, image: &[u8]) -> io::Result<()> {
-    let answer = aaru::sector_count(image);
-    match answer {
+    match aaru::sector_count(image) {
         Err(r) => refused(rt, r),
         Ok(s) => {
             range(rt, s)?;

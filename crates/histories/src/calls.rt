@@ -1,5 +1,5 @@
 // The calls that rows make, and the lines that say what they answer and whether they wrote what document 01 allows and nothing else.
-use aaru::{ByteOffset, Refusal};
+use aaru::{ByteOffset, Placed, Refusal};
 use printing::{MINUS, address, number, refused, text};
 use std::io;
 
@@ -91,7 +91,12 @@ fn create(buffer: &mut [u8], row: &[u64; 5]) -> Result<Placed, Refusal> {
 }
 
 // Commits at the addresses of a list.
-fn commit_at(buffer: &mut [u8], row: &[u64; 5], list: &[u64; 6], sectors: &[u8]) -> Result<Placed, Refusal> {
+fn commit_at(
+    buffer: &mut [u8],
+    row: &[u64; 5],
+    list: &[u64; 6],
+    sectors: &[u8],
+) -> Result<Placed, Refusal> {
     let first = address(list[1]);
     let second = address(list[2]);
     let third = address(list[3]);
@@ -185,7 +190,12 @@ fn report(
 }
 
 // Makes the call of a row on the buffer's first `limit` bytes.
-fn make_within(buffer: &mut [u8], limit: usize, row: &[u64; 5], sectors: &[u8]) -> Result<Placed, Refusal> {
+fn make_within(
+    buffer: &mut [u8],
+    limit: usize,
+    row: &[u64; 5],
+    sectors: &[u8],
+) -> Result<Placed, Refusal> {
     if buffer.len() < limit {
         return no_call();
     }

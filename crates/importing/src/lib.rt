@@ -21,14 +21,12 @@ fn count_stored(file: &[u8], count: u64, size: u64) -> u64
     ensures { (block : ℕ) → result ≡ length (stored_of block (sector_of size file.now) count).items }
 {
     let mut stored: u64 = 0;
-    let mut k: u64 = 0;
     // an iteration for each sector, which is compared with those before it, up to the first that is equal
-    while k < count {
-        let new = planning::is_new(file, size, k);
-        k += 1;
-        if new {
-            stored += 1;
+    for k in 0..count {
+        if !planning::is_new(file, size, k) {
+            continue;
         }
+        stored += 1;
     }
     stored
 }
@@ -39,12 +37,10 @@ fn put_entries(buf: &mut [u8], file: &[u8], count: u64, size: u64, at: Layout)
     ensures { buf.new ≡ filled buf.old (sector_of size file.now) count at }
 {
     let mut stored: u64 = 0;
-    let mut a: u64 = 0;
     // an iteration for each sector, which is compared with those stored before it, up to the first that is equal
-    while a < count {
+    for a in 0..count {
         let sector = fields::part(file, a * size, size);
         stored = composing::enter(buf, at, a, sector, stored);
-        a += 1;
     }
 }
 

@@ -5,38 +5,38 @@
 #![tactic(auto)]
 
 ghost use Rattle.std.specs.Prelude.{◌≡◌};
+ghost use Rattle.std.specs.Result.{ForOk};
 ghost use Rattle.format.specs.declared.TableKind.TheVariants.{First};
 ghost use Rattle.format.specs.Opening.{opening};
 ghost use Rattle.format.specs.Flattening.{pair_verdict};
-ghost use Rattle.opening.specs.Answers.{contents, outcome};
+ghost use Rattle.opening.specs.Images.{held, outcome_of};
 
 use format::Refusal;
-use opening::Opened;
+use opening::Image;
 
 // All sectors of the pair: the first refusal other than 21. It is the child's first one, unless the parent refuses a sector at a lower address that the
 // child has not written. As both tables rise with the addresses, the parent's first one is that of the lowest such address.
-pub fn pair_verdict(
-    child: &[u8],
-    t: Opened,
-    parent: &[u8],
-    p: Result<Opened, Refusal>,
+pub fn pair_verdict<'a>(
+    child: Image<'a>,
+    parent: &'a [u8],
+    opened: Result<Image<'a>, Refusal>,
 ) -> Result<(), Refusal>
-    requires { (opening child.now ≡ Ok (contents t)) × ((contents t).kind ≡ First) × (opening parent.now ≡ outcome p) }
-    ensures { result ≡ pair_verdict child.now parent.now }
+    requires { ((held child).kind ≡ First) × (opening parent.now ≡ outcome_of opened) × ForOk opened (λ image. image.bytes.now ≡ parent.now) }
+    ensures { result ≡ pair_verdict child.entry.bytes.now parent.now }
 {
-    let own = checking::first_refused(child, t);
+    let own = checking::first_refused(child);
     let limit = own.number;
-    match p {
+    match opened {
         Err(r) => {
-            let gap = checking::first_unwritten(child, t, own);
+            let gap = checking::first_unwritten(child, own);
             let here = gap.number;
             if here.0 < limit.0 {
                 return Err(pairs::parent_refusal(r));
             }
             own.verdict
         }
-        Ok(u) => {
-            let other = checking::first_left(parent, u, child, t, limit);
+        Ok(image) => {
+            let other = checking::first_left(image, child, limit);
             other.verdict.map_err(pairs::parent_refusal)?;
             own.verdict
         }

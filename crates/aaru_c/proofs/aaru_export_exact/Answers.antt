@@ -1,13 +1,12 @@
 -- `aaru_c::aaru_export_exact` meets its contract. Assumes nothing.
-use Rattle.format.specs.Answers.{exported_exact, answered}
+use Rattle.format.specs.Answers.{answered}
 use Rattle.aaru_c.specs.Returned.{returned, left}
 use Rattle.aaru_c.proofs.aaru_export_exact.Goals as goal
 
-pub returns-in-Length : goal.returns-in-Length
-unfolding left answered returned exported_exact
-returns-in-Length c = rw (← c.export_exact-answer.ensures, c.in-Length.is)
+pub returns-in-Ok : goal.returns-in-Ok
+unfolding left answered returned
+returns-in-Ok c = rw (← c.in-Ok.ensures)
 
-pub returns-in-Refused : goal.returns-in-Refused
-unfolding left answered returned exported_exact
-returns-in-Refused c =
-    rw (c.refused.ensures.0, c.refused.ensures.1, ← c.export_exact-answer.ensures, c.in-Refused.is)
+pub returns-in-Err : goal.returns-in-Err
+unfolding left answered returned
+returns-in-Err c = rw (c.refused.ensures.0, c.refused.ensures.1, ← c.in-Err.ensures)

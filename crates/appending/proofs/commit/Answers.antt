@@ -31,6 +31,3 @@ append-requires c =
       opens = p.1;
       disc = sym (rw c.part.ensures at c.in_ok-disc_verdict.ensures);
     }
-
-pub returns : goal.returns
-returns c = c.append.ensures

@@ -3,9 +3,6 @@ use native.Mathlib.Omega.{arith}
 use Rattle.appending.proofs.Appended.{data-room, data-written}
 use Rattle.appending.proofs.put_data.Goals as goal
 
-pub put_entries-requires : goal.put_entries-requires
-put_entries-requires c = (c.requires.0.stores, c.requires.1)
-
 pub seal_block-requires : goal.seal_block-requires
 seal_block-requires c = omega (arith, data-room c.requires.0)
 

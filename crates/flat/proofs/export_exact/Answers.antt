@@ -1,17 +1,15 @@
 -- `flat::export_exact` meets its contract. Assumes nothing.
-use mathlib.Core.Path.{sym}
 use Rattle.format.specs.Answers.{answered}
-use Rattle.opening.specs.Answers.{outcome}
+use Rattle.opening.specs.Images.{outcome_of}
 use Rattle.flat.proofs.Whole.{exact-unopened}
 use Rattle.format.proofs.Chains.{early-as}
 use Rattle.flat.proofs.export_exact.Goals as goal
 
-pub export_exact_at-requires : goal.export_exact_at-requires
-unfolding outcome
-export_exact_at-requires c = sym c.in_ok-t.ensures
-
-pub returns-in_err-t : goal.returns-in_err-t
-unfolding outcome
-returns-in_err-t c =
+pub returns-in_err-opened : goal.returns-in_err-opened
+unfolding outcome_of
+returns-in_err-opened c =
     early-as (λ x. answered x c.args.out.now) c.from_residual.ensures
-    (exact-unopened _ _ c.in_err-t.ensures _)
+    (exact-unopened _ _ c.in_err-opened.ensures.opens _)
+
+pub returns : goal.returns
+returns c = rw c.in_ok-opened.ensures.bytes at c.export_exact_at.ensures

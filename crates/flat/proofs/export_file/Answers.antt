@@ -4,7 +4,7 @@ use Rattle.format.specs.Exporting.{file_verdict}
 use Rattle.format.specs.Answers.{answered}
 use Rattle.format.proofs.Chains.{early-as, stops}
 use Rattle.format.proofs.Answers.{outcome-stops, outcome-done}
-use Rattle.opening.specs.Answers.{contents}
+use Rattle.opening.specs.Images.{held}
 use Rattle.flat.specs.Exports.{Uniform}
 use Rattle.flat.proofs.Whole.{room-is, fits}
 use Rattle.flat.proofs.export_file.Goals as goal
@@ -13,7 +13,7 @@ use Rattle.flat.proofs.export_file.Goals.{In_ok-sizes_verdict}
 -- the written sectors have one size
 uniform : (c : In_ok-sizes_verdict)
     → let a = c.args in
-    Uniform a.s.now (contents a.t) c.flat_size-size.result
+    Uniform a.image.bytes.now (held a.image) c.flat_size-size.result
 uniform c =
     record {
       checked = c.requires;
@@ -30,14 +30,14 @@ returns-in_err-sizes_verdict c =
 pub returns-in_err-room_verdict : goal.returns-in_err-room_verdict
 returns-in_err-room_verdict c =
     early-as (λ x. answered x c.args.out.now) c.from_residual-in_err-room_verdict.ensures
-    (outcome-stops _ _ _ (room-is _ _ (uniform (goal.at.returns-in_err-room_verdict c).In_ok-sizes_verdict) c.count-count.ensures _ c.in_err-room_verdict.ensures))
+    (outcome-stops _ _ _ (room-is _ _ (uniform (goal.at.returns-in_err-room_verdict c).In_ok-sizes_verdict) c.count.ensures _ c.in_err-room_verdict.ensures))
 
 pub put_file-requires : goal.put_file-requires
 put_file-requires c =
-    (uniform (goal.at.put_file-requires c).In_ok-sizes_verdict, fits _ _ (uniform (goal.at.put_file-requires c).In_ok-sizes_verdict) c.count-count.ensures _ c.in_ok-room_verdict.ensures)
+    (uniform (goal.at.put_file-requires c).In_ok-sizes_verdict, fits _ _ (uniform (goal.at.put_file-requires c).In_ok-sizes_verdict) c.count.ensures _ c.in_ok-room_verdict.ensures)
 
 pub returns : goal.returns
 returns c =
-    let n = c.count-count.ensures in
+    let n = c.count.ensures in
     outcome-done _ (room-is _ _ (uniform (goal.at.returns c).In_ok-sizes_verdict) n _ c.in_ok-room_verdict.ensures)
     c.put_file.ensures.0 c.put_file.ensures.1

@@ -20,9 +20,6 @@ loop-n-preserved c =
     let h = c.requires in
     going-goes _ _ _ h.0 c.loop-n.invariant h.1 (omega arith) c.put_piece.ensures
 
-pub shape_of-out : goal.shape_of-out
-shape_of-out c = c.loop-n.invariant.long
-
 pub returns : goal.returns
 returns c =
     let h = c.requires in

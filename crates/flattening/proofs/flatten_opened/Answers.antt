@@ -1,62 +1,70 @@
 -- `flattening::flatten_opened` meets its contract. Assumes nothing.
 use native.Mathlib.Omega.{arith}
 use mathlib.Core.List.{List}
-use mathlib.Core.Path.{◌≡◌, sym, ap, ◌∙◌}
+use mathlib.Core.Path.{◌≡◌, sym, ap, ◌∙◌, subst}
 use lib.ListN.{length}
-use Rattle.std.specs.Prelude.{Ok}
-use Rattle.format.specs.Answers.{updated}
+use Rattle.std.specs.Prelude.{Ok, IfOk}
+use Rattle.std.specs.Result.{ForOk}
+use Rattle.format.specs.Answers.{answered}
+use Rattle.format.specs.Refusals.{Answer}
 use Rattle.format.specs.Flattening.{Written, flatten_verdict}
-use Rattle.format.proofs.Chains.{stops, goes, by}
+use Rattle.format.proofs.Chains.{early-as, stops, goes}
 use Rattle.format.proofs.Flattening.{flattenable, flatten-created}
-use Rattle.opening.specs.Answers.{contents, outcome}
-use Rattle.pairs.specs.Pairs.{Pair}
+use Rattle.opening.specs.declared.image.Image.{Image}
 use Rattle.flattening.proofs.Stages.{flatten-stops, rest-is, none}
 use Rattle.flattening.proofs.Whole.{count-is}
 use Rattle.flattening.proofs.flatten_opened.Goals as goal
-use Rattle.flattening.proofs.flatten_opened.Goals.{In_default, In_default-w}
+use Rattle.flattening.proofs.flatten_opened.Goals.{Start, In_ok-sizes_verdict, After-open-opened}
 
-pub pair_verdict-v-requires : goal.pair_verdict-v-requires
-pair_verdict-v-requires c = (c.requires.0, c.requires.1, sym c.open-p.ensures)
+-- the parent, where it opens, is what was lent
+lent : (c : After-open-opened) → ForOk c.open-opened.result (λ (image : Image). image.bytes.now ≡ c.args.parent.now)
+lent c image e =
+    ap (λ s. s.now) (subst (λ (q : Answer Image). IfOk q (λ (i : Image). i.bytes ≡ c.args.parent)) e c.open-opened.ensures.bytes)
 
-pub returns-in-Refuses : goal.returns-in-Refuses
-unfolding updated
-returns-in-Refuses c =
-    flatten-stops _ _ _ _ _ _ _ _ _ (stops _ (by c.in-Refuses.is c.pair_verdict-v.ensures) ∙ sym (rest-is _ _ _ _ c.requires.2 _ c.requires.0 c.requires.1))
+pub pair_verdict-requires : goal.pair_verdict-requires
+pair_verdict-requires c = (c.requires.0, sym c.open-opened.ensures.opens, lent (goal.at.pair_verdict-requires c).After-open-opened)
+
+pub returns-in_err-pair_verdict : goal.returns-in_err-pair_verdict
+returns-in_err-pair_verdict c =
+    early-as (λ x. answered x c.args.buffer.now) c.from_residual.ensures
+    (flatten-stops _ _ _ _ _ _ _ _ _ (stops _ c.in_err-pair_verdict.ensures ∙ sym (rest-is _ _ _ _ c.requires.1 _ c.args.child.opens c.requires.0)))
 
 -- all sectors of the pair have passed
-pair : (c : In_default)
-    → (let a = c.args in
-    Pair a.child.now a.parent.now (contents a.t) (outcome c.open-p.result))
-pair c =
-    record { opens = c.requires.0; first = c.requires.1; opens_parent = sym c.open-p.ensures; passes = sym (by c.in_default.is c.pair_verdict-v.ensures) }
+pub invariant_of-pair : goal.invariant_of-pair
+invariant_of-pair c = record {
+  first = c.requires.0;
+  opens = sym c.open-opened.ensures.opens;
+  lent = lent (goal.at.invariant_of-pair c).After-open-opened;
+  passes = sym c.in_ok-pair_verdict.ensures;
+}
 
-pub size_of-size-requires : goal.size_of-size-requires
-size_of-size-requires c = pair (goal.at.size_of-size-requires c).In_default
+pub sizes_verdict-requires : goal.sizes_verdict-requires
+sizes_verdict-requires c = (c.size-size.ensures, c.count_written-sectors.ensures)
 
-pub count_written-sectors-requires : goal.count_written-sectors-requires
-count_written-sectors-requires c = pair (goal.at.count_written-sectors-requires c).In_default
-
-pub sizes_verdict-w-requires : goal.sizes_verdict-w-requires
-sizes_verdict-w-requires c = (pair (goal.at.sizes_verdict-w-requires c).In_default, c.size_of-size.ensures, c.count_written-sectors.ensures)
-
-pub returns-in-Refuses-w : goal.returns-in-Refuses-w
-unfolding updated
-returns-in-Refuses-w c =
-    flatten-stops _ _ _ _ _ _ _ _ _
-    (goes (by c.in_default.is c.pair_verdict-v.ensures) (by c.in-Refuses-w.is c.sizes_verdict-w.ensures) ∙ sym (rest-is _ _ _ _ c.requires.2 _ c.requires.0 c.requires.1))
+pub returns-in_err-sizes_verdict : goal.returns-in_err-sizes_verdict
+returns-in_err-sizes_verdict c =
+    early-as (λ x. answered x c.args.buffer.now) c.from_residual-in_err-sizes_verdict.ensures
+    (flatten-stops _ _ _ _ _ _ _ _ _
+    (goes c.in_ok-pair_verdict.ensures c.in_err-sizes_verdict.ensures ∙ sym (rest-is _ _ _ _ c.requires.1 _ c.args.child.opens c.requires.0)))
 
 -- all checks but 35 have
-checked : (c : In_default-w)
+checked : (c : In_ok-sizes_verdict)
     → (let a = c.args in
-    flatten_verdict a.buffer.now a.child.now a.parent.now a.application.now ≡ Ok tt)
+    flatten_verdict a.buffer.now a.child.bytes.now a.parent.now a.application.now ≡ Ok tt)
 checked c =
-    rest-is _ _ _ _ c.requires.2 _ c.requires.0 c.requires.1 ∙ sym (goes (by c.in_default.is c.pair_verdict-v.ensures) (by c.in_default-w.is c.sizes_verdict-w.ensures))
+    rest-is _ _ _ _ c.requires.1 _ c.args.child.opens c.requires.0 ∙ sym (goes c.in_ok-pair_verdict.ensures c.in_ok-sizes_verdict.ensures)
 
 pub returns-then-sectors-eq0 : goal.returns-then-sectors-eq0
 returns-then-sectors-eq0 c =
     let n = none _ (sym c.count_written-sectors.ensures ∙ omega (arith, c.if-sectors-eq0.true)) in
-    (rw (c.count.ensures, count-is _ _ c.requires.0) at c.create.ensures) ∙ sym (flatten-created _ _ _ _ _ _ _ _ _ ((flattenable _ _ _ _).0 (checked (goal.at.returns-then-sectors-eq0 c).In_default-w)) n)
+    (rw (c.count.ensures, count-is _ _ c.args.child.opens) at c.create.ensures) ∙ sym (flatten-created _ _ _ _ _ _ _ _ _ ((flattenable _ _ _ _).0 (checked (goal.at.returns-then-sectors-eq0 c).In_ok-sizes_verdict)) n)
 
 pub flatten_some-requires : goal.flatten_some-requires
-flatten_some-requires c =
-    (pair (goal.at.flatten_some-requires c).In_default, checked (goal.at.flatten_some-requires c).In_default-w, c.size_of-size.ensures, λ z. absurd (omega (arith, ap (λ (l : List Written). length l) z, c.count_written-sectors.ensures, c.if-sectors-eq0.false)), c.count_written-sectors.ensures)
+flatten_some-requires c = (
+  record {
+    checked = checked (goal.at.flatten_some-requires c).In_ok-sizes_verdict;
+    size_is = c.size-size.ensures;
+    any = λ z. absurd (omega (arith, ap (λ (l : List Written). length l) z, c.count_written-sectors.ensures, c.if-sectors-eq0.false));
+  },
+  c.count_written-sectors.ensures,
+)

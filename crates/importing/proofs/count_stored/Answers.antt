@@ -11,20 +11,20 @@ use Rattle.importing.proofs.count_stored.Goals as goal
 pub loop-k-init : goal.loop-k-init
 loop-k-init c = (omega arith, λ block. counting-starts block _)
 
-pub is_new-new-requires : goal.is_new-new-requires
-is_new-new-requires c = omega (arith, sector-inside c.requires c.loop-k-test.true)
+pub is_new-requires : goal.is_new-requires
+is_new-requires c = omega (arith, sector-inside c.requires c.loop-k-test.true)
 
 pub overflow_add-stored : goal.overflow_add-stored
 overflow_add-stored c =
     omega (arith, c.loop-k.invariant.1 0, items-few 0 (sector_of c.args.size c.args.file.now) c.loop-k.k, c.requires.few)
 
-pub loop-k-preserved-then-new : goal.loop-k-preserved-then-new
-loop-k-preserved-then-new c =
-    (omega arith, λ block. file-new c.requires block _ c.loop-k-test.true (c.loop-k.invariant.1 block) (sym c.if-new.true ∙ c.is_new-new.ensures))
-
 pub loop-k-preserved : goal.loop-k-preserved
 loop-k-preserved c =
-    (omega arith, λ block. file-old c.requires block _ c.loop-k-test.true (c.loop-k.invariant.1 block) (sym c.if-new.false ∙ c.is_new-new.ensures))
+    (omega arith, λ block. file-new c.requires block _ c.loop-k-test.true (c.loop-k.invariant.1 block) (sym c.if-not-is_new.false ∙ c.is_new.ensures))
+
+pub loop-k-preserved-then-not-is_new : goal.loop-k-preserved-then-not-is_new
+loop-k-preserved-then-not-is_new c =
+    (omega arith, λ block. file-old c.requires block _ c.loop-k-test.true (c.loop-k.invariant.1 block) (sym c.if-not-is_new.true ∙ c.is_new.ensures))
 
 pub returns : goal.returns
 returns c block =

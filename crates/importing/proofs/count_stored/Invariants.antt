@@ -1,6 +1,6 @@
 -- `importing::count_stored` meets its contract. The invariant: those of the first k sectors are counted. Assumes nothing.
 use mathlib.Core.Path.{◌≡◌}
-use Prim.Native.Nat.{ℕ, ◌-◌, ◌≤◌}
+use Prim.Native.Nat.{ℕ, ◌≤◌}
 use lib.ListN.{length}
 use Rattle.planning.specs.Plans.{sector_of}
 use Rattle.composing.specs.Composes.{stored_of}
@@ -8,6 +8,3 @@ use Rattle.importing.proofs.count_stored.Given as goal
 
 abbrev pub invariant-loop-k : goal.invariant-loop-k
 invariant-loop-k l = (l.k ≤ l.count) × ((block : ℕ) → l.stored ≡ length (stored_of block (sector_of l.size l.file) l.k).items)
-
-abbrev pub decreases-loop-k : goal.decreases-loop-k
-decreases-loop-k l = l.count - l.k

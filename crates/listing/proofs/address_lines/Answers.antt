@@ -13,12 +13,6 @@ loop-n-init c = (refl, writes-none _ _ (omega arith), tt)
 pub address-address-requires : goal.address-address-requires
 address-address-requires c = let f = few _ _ c.args.image.opens in omega arith
 
-pub locate_near-near-requires : goal.locate_near-near-requires
-locate_near-near-requires c = c.loop-n.invariant.2
-
-pub line-next-requires : goal.line-next-requires
-line-next-requires c = let w = c.loop-n.invariant.1.place in omega arith
-
 pub loop-n-preserved : goal.loop-n-preserved
 loop-n-preserved c =
     let l = c.loop-n.invariant in

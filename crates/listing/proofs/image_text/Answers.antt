@@ -1,6 +1,5 @@
 -- `listing::image_text` meets its contract. Assumes nothing.
 use mathlib.Core.Path.{◌≡◌}
-use native.Mathlib.Omega.{arith}
 use Rattle.std.specs.Prelude.{Ok}
 use Rattle.format.specs.Opening.{opening, range_of}
 use Rattle.format.proofs.Answers.{count-refused, count-opened}
@@ -13,9 +12,6 @@ use Rattle.listing.proofs.image_text.Goals.{In-Ok}
 opens : (c : In-Ok) → Ok (held c.in-Ok.image) ≡ opening c.args.s.now
 unfolding outcome_of
 opens c = c.in-Ok.ensures.opens
-
-pub address_lines-requires : goal.address_lines-requires
-address_lines-requires c = let w = c.head-next.ensures.place in omega arith
 
 pub returns-in-Err : goal.returns-in-Err
 unfolding outcome_of

@@ -11,6 +11,3 @@ returns-then-input-gt65536 c =
 pub returns : goal.returns
 returns c =
     rw (listing-image _ c.if-input-gt65536.false) (writes-prints (omega (arith, c.image_text.ensures.1)) c.image_text.ensures.0)
-
-pub image_text-requires : goal.image_text-requires
-image_text-requires c = c.if-input-gt65536.false
