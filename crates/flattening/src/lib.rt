@@ -20,7 +20,7 @@ ghost use Rattle.composing.specs.Composes.{stored_of, layout_of, filled, Lays};
 ghost use Rattle.flattening.specs.Flattens.{Ready};
 
 use composing::Layout;
-use format::{ByteOffset, EntryNumber};
+use format::{ByteOffset, Check, EntryNumber};
 pub use format::{Placed, Refusal};
 use opening::Image;
 use pairs::Pair;
@@ -99,8 +99,7 @@ fn flatten_tight<'a, 'b, 'c>(
     let index = at.index;
     let length = buffer.len() as u64;
     if length < end {
-        let place = ByteOffset(0);
-        return Err(Refusal { number: 35, place });
+        return Err(Refusal::of(Check::NoRoom));
     }
     records::put_image(
         buffer,
