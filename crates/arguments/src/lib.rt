@@ -11,7 +11,7 @@ ghost use Rattle.format.specs.Committing.{rising, arguments_verdict};
 ghost use Rattle.format.specs.Importing.{import_verdict};
 ghost use Rattle.format.specs.Flattening.{lent_verdict};
 
-use format::{APPLICATION_LENGTH, ByteOffset, CREATED_ENTRIES, Check, Refusal};
+use format::{APPLICATION_LENGTH, CREATED_ENTRIES, Check, Refusal};
 
 const LONGEST_BUFFER: u64 = 4294967296;
 

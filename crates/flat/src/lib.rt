@@ -17,8 +17,8 @@ ghost use Rattle.search.specs.Found.{Checked};
 ghost use Rattle.flat.specs.Exports.{Uniform};
 
 use fields::{clear, copy, part};
-use format::{ByteOffset, Check, EntryNumber};
-pub use format::{Flat, Placed, Refusal};
+use format::EntryNumber;
+pub use format::{Check, Flat, Placed, Refusal};
 // an import, with its contract
 pub use importing::import;
 use opening::Image;

@@ -20,8 +20,8 @@ ghost use Rattle.composing.specs.Composes.{stored_of, layout_of, filled, Lays};
 ghost use Rattle.flattening.specs.Flattens.{Ready};
 
 use composing::Layout;
-use format::{ByteOffset, Check, EntryNumber};
-pub use format::{Placed, Refusal};
+use format::{ByteOffset, EntryNumber};
+pub use format::{Check, Placed, Refusal};
 use opening::Image;
 use pairs::Pair;
 

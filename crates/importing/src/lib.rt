@@ -13,7 +13,7 @@ ghost use Rattle.composing.specs.Composes.{stored_of, filled, Lays};
 ghost use Rattle.importing.specs.Imports.{Files};
 
 use composing::Layout;
-use format::{ByteOffset, Check, Placed, Refusal};
+use format::{Check, Placed, Refusal};
 
 // How many of the first `count` sectors of the file are stored, wherever the block will be.
 fn count_stored(file: &[u8], count: u64, size: u64) -> u64

@@ -11,8 +11,7 @@ ghost use Rattle.format.specs.Overlaying.{from_parent, in_image, read_over, loca
 ghost use Rattle.format.specs.Answers.{bytes_read};
 
 use fields::part;
-use format::Check;
-pub use format::{Refusal, SectorAddress, Sourced};
+pub use format::{Check, Refusal, SectorAddress, Sourced};
 
 // Where the parent's sector at address a lies, or the refusal that the pair gives for its own.
 fn locate_parent(parent: &[u8], a: SectorAddress) -> Result<Sourced, Refusal>

@@ -18,7 +18,7 @@ ghost use Rattle.pairs.specs.Pairs.{entry_answer, EntryChecked, held_below};
 ghost use Rattle.pairs.specs.Sectors.{sector_of, written_in};
 
 use fields::part;
-use format::{ByteOffset, Check, EntryNumber, Refusal, SectorAddress};
+use format::{Check, EntryNumber, Refusal, SectorAddress};
 use opening::Image;
 
 mod pair; // the pair: the two images, all of whose sectors were checked
