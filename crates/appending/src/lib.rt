@@ -20,7 +20,7 @@ ghost use Rattle.format.specs.Facts.{block_length_for, block_entry};
 ghost use Rattle.appending.specs.Appends.{Passed, layout_for, Data, Fits};
 
 use fields::{get, part};
-use format::{ByteOffset, INDEX_OFFSET, Placed, Refusal};
+use format::{ByteOffset, Check, INDEX_OFFSET, Placed, Refusal};
 use opening::{Image, Opened};
 use planning::Planned;
 
@@ -151,8 +151,7 @@ fn append(
     let index = at.index;
     let length = buf.len() as u64;
     if length < end {
-        let place = ByteOffset(0);
-        return Err(Refusal { number: 35, place });
+        return Err(Refusal::of(Check::NoRoom));
     }
     put_all(buf, used, t, addresses, size, sectors, time, plan, at);
     Ok(Placed { used: end, index })

@@ -11,7 +11,7 @@ ghost use Rattle.format.specs.Committing.{rising, arguments_verdict};
 ghost use Rattle.format.specs.Importing.{import_verdict};
 ghost use Rattle.format.specs.Flattening.{lent_verdict};
 
-use format::{APPLICATION_LENGTH, ByteOffset, CREATED_ENTRIES, Refusal};
+use format::{APPLICATION_LENGTH, CREATED_ENTRIES, Check, Refusal};
 
 const LONGEST_BUFFER: u64 = 4294967296;
 
@@ -39,19 +39,18 @@ fn name_refused(application: &[u8]) -> bool
 pub fn create_verdict(buffer: &[u8], count: u64, application: &[u8]) -> Result<(), Refusal>
     ensures { result ≡ create_verdict buffer.now count application.now }
 {
-    let place = ByteOffset(0);
     let length = buffer.len() as u64;
     if LONGEST_BUFFER < length {
-        return Err(Refusal { number: 31, place });
+        return Err(Refusal::of(Check::BufferTooLong));
     }
     if count_refused(count) {
-        return Err(Refusal { number: 30, place });
+        return Err(Refusal::of(Check::SizeRefused));
     }
     if name_refused(application) {
-        return Err(Refusal { number: 33, place });
+        return Err(Refusal::of(Check::LengthMismatch));
     }
     if length < CREATED_LENGTH + 8 * count {
-        return Err(Refusal { number: 35, place });
+        return Err(Refusal::of(Check::NoRoom));
     }
     Ok(())
 }
@@ -60,13 +59,12 @@ pub fn create_verdict(buffer: &[u8], count: u64, application: &[u8]) -> Result<(
 pub fn buffer_verdict(buffer: &[u8], used: u64) -> Result<(), Refusal>
     ensures { result ≡ buffer_verdict buffer.now used }
 {
-    let place = ByteOffset(0);
     let length = buffer.len() as u64;
     if LONGEST_BUFFER < length {
-        return Err(Refusal { number: 31, place });
+        return Err(Refusal::of(Check::BufferTooLong));
     }
     if length < used {
-        return Err(Refusal { number: 32, place });
+        return Err(Refusal::of(Check::UsedPastBuffer));
     }
     Ok(())
 }
@@ -110,18 +108,17 @@ pub fn commit_verdict(
     ensures { result ≡ arguments_verdict buffer.now used addresses.now size sectors.now }
 {
     buffer_verdict(buffer, used)?;
-    let place = ByteOffset(0);
     let count = addresses.len() as u64;
     if size_refused(size, count) {
-        return Err(Refusal { number: 30, place });
+        return Err(Refusal::of(Check::SizeRefused));
     }
     if sectors.len() as u64 != count * size {
-        return Err(Refusal { number: 33, place });
+        return Err(Refusal::of(Check::LengthMismatch));
     }
     if is_rising(addresses) {
         return Ok(());
     }
-    Err(Refusal { number: 34, place })
+    Err(Refusal::of(Check::AddressesNotRising))
 }
 
 // An import's sector size and the length of its file: check 30.
@@ -149,19 +146,18 @@ pub fn import_verdict(
 ) -> Result<(), Refusal>
     ensures { result ≡ import_verdict buffer.now file.now size application.now }
 {
-    let place = ByteOffset(0);
     if LONGEST_BUFFER < buffer.len() as u64 {
-        return Err(Refusal { number: 31, place });
+        return Err(Refusal::of(Check::BufferTooLong));
     }
     let length = file.len() as u64;
     if file_refused(size, length) {
-        return Err(Refusal { number: 30, place });
+        return Err(Refusal::of(Check::SizeRefused));
     }
     if length % size != 0 {
-        return Err(Refusal { number: 42, place });
+        return Err(Refusal::of(Check::PartialSector));
     }
     if name_refused(application) {
-        return Err(Refusal { number: 33, place });
+        return Err(Refusal::of(Check::LengthMismatch));
     }
     Ok(())
 }
@@ -170,12 +166,11 @@ pub fn import_verdict(
 pub fn lent_verdict(buffer: &[u8], application: &[u8]) -> Result<(), Refusal>
     ensures { result ≡ lent_verdict buffer.now application.now }
 {
-    let place = ByteOffset(0);
     if LONGEST_BUFFER < buffer.len() as u64 {
-        return Err(Refusal { number: 31, place });
+        return Err(Refusal::of(Check::BufferTooLong));
     }
     if name_refused(application) {
-        return Err(Refusal { number: 33, place });
+        return Err(Refusal::of(Check::LengthMismatch));
     }
     Ok(())
 }

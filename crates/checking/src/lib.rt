@@ -18,7 +18,7 @@ ghost use Rattle.opening.specs.Images.{held};
 ghost use Rattle.checking.specs.Checked.{leaves, in_scope, looked_at, indexed, form_verdict, entry_form, Formed, damaged, FirstLeft, FirstOn, FirstWithin, FirstRefused, FirstOfAll};
 
 use fields::{get, part};
-use format::{ByteOffset, EntryNumber, INDEX_OFFSET, Pointer, Refusal, SectorAddress};
+use format::{ByteOffset, Check, EntryNumber, INDEX_OFFSET, Pointer, Refusal, SectorAddress};
 use opening::{Image, Opened};
 
 // The first table entry that is refused, and how; their number where none is.
@@ -117,7 +117,7 @@ fn form_verdict<'a>(
         sectors::block_verdict(s, b)?;
         return sectors::number_verdict(s, p);
     }
-    Err(Refusal { number: 22, place })
+    Err(Refusal::at(Check::BlockNotIndexed, place))
 }
 
 // Table entry n, whose number is e, which is written and encodes p, but for its block's checksums: 73, then checks 22 to 26.
@@ -133,8 +133,7 @@ fn entry_form<'a>(
 {
     let t = image.found;
     if t.is_unknown(e) {
-        let place = ByteOffset(0);
-        return Err(Refusal { number: 73, place });
+        return Err(Refusal::of(Check::UnknownStatus));
     }
     form_verdict(image, t.entry_place(n), p, known)
 }
@@ -202,10 +201,7 @@ fn first_into<'a, 'b>(image: Image<'a>, scope: Scope<'b>, b: ByteOffset, first: 
         if block.0 == b.0 {
             return First {
                 number: here,
-                verdict: Err(Refusal {
-                    number: 27,
-                    place: b,
-                }),
+                verdict: Err(Refusal::at(Check::BlockChecksum, b)),
             };
         }
     }
@@ -284,10 +280,9 @@ pub fn first_unwritten<'a>(image: Image<'a>, first: First) -> First
     for n in 0..limit.0 {
         let here = EntryNumber(n);
         if image.found.is_unwritten(image.table_entry(here)) {
-            let place = ByteOffset(0);
             return First {
                 number: here,
-                verdict: Err(Refusal { number: 21, place }),
+                verdict: Err(Refusal::of(Check::NotWritten)),
             };
         }
     }
@@ -308,8 +303,7 @@ pub fn disc_verdict<'a, 'b>(image: Image<'a>, addresses: &'b [i64]) -> Result<()
 {
     image.found.kind_verdict()?;
     if any_outside(image.found, addresses) {
-        let place = ByteOffset(0);
-        return Err(Refusal { number: 20, place });
+        return Err(Refusal::of(Check::AddressOutside));
     }
     sectors_verdict(image)
 }

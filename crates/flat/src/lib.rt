@@ -17,8 +17,8 @@ ghost use Rattle.search.specs.Found.{Checked};
 ghost use Rattle.flat.specs.Exports.{Uniform};
 
 use fields::{clear, copy, part};
-use format::{ByteOffset, EntryNumber};
-pub use format::{Flat, Placed, Refusal, Stamp};
+use format::EntryNumber;
+pub use format::{Check, Flat, Placed, Refusal, Stamp};
 // an import, with its contract
 pub use importing::import;
 use opening::Image;
@@ -46,8 +46,7 @@ fn sizes_verdict<'a>(image: Image<'a>, size: u64) -> Result<(), Refusal>
     for n in 0..image.found.count() {
         if let Some(p) = search::slot_at(image, EntryNumber(n)) {
             if p.size != size {
-                let place = ByteOffset(0);
-                return Err(Refusal { number: 40, place });
+                return Err(Refusal::of(Check::SizesDiffer));
             }
         }
     }
@@ -63,8 +62,7 @@ fn room_verdict(out: &[u8], count: u64, size: u64) -> Result<(), Refusal>
     }
     let length = out.len() as u64;
     if length / size < count {
-        let place = ByteOffset(0);
-        return Err(Refusal { number: 41, place });
+        return Err(Refusal::of(Check::FileBufferTooShort));
     }
     Ok(())
 }
@@ -141,8 +139,7 @@ fn export_at<'a, 'b>(image: Image<'a>, out: &'b mut [u8]) -> Result<Flat, Refusa
     checking::sectors_verdict(image)?;
     let filled = count_gaps(image);
     if is_blank(image.found.count(), filled) {
-        let place = ByteOffset(0);
-        return Err(Refusal { number: 21, place });
+        return Err(Refusal::of(Check::NotWritten));
     }
     let length = export_file(image, out)?;
     Ok(Flat { length, filled })

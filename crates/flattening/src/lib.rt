@@ -21,7 +21,7 @@ ghost use Rattle.flattening.specs.Flattens.{Ready};
 
 use composing::Layout;
 use format::{ByteOffset, EntryNumber};
-pub use format::{Placed, Refusal, Stamp};
+pub use format::{Check, Placed, Refusal, Stamp};
 use opening::Image;
 use pairs::Pair;
 
@@ -88,8 +88,7 @@ fn flatten_tight<'a, 'b, 'c>(
     let index = at.index;
     let length = buffer.len() as u64;
     if length < end {
-        let place = ByteOffset(0);
-        return Err(Refusal { number: 35, place });
+        return Err(Refusal::of(Check::NoRoom));
     }
     records::put_image(buffer, count, stamp);
     put_entries(buffer, pair, at);

@@ -1,6 +1,7 @@
 pub mod Tests
 pub mod Lists
 pub mod Refusals
+pub mod Checks
 pub mod Layouts
 pub mod Opening
 pub mod Reading

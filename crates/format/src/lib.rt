@@ -3,6 +3,10 @@
 
 #![tactic(auto)]
 
+ghost use Rattle.std.specs.Prelude.{◌≡◌, ◌↔◌, IsTrue};
+ghost use Rattle.format.specs.Refusals.{refusal};
+ghost use Rattle.format.specs.Checks.{number_of};
+
 // A place in an image.
 #[derive(Clone, Copy)]
 pub struct ByteOffset(pub u64);
@@ -26,11 +30,86 @@ pub enum TableKind {
     Second,
 }
 
-// Why a call is refused: the number of document 01, and the byte offset in the image of what it is about, 0 where there is none.
+// What a call refuses: document 01's checks, each with its number there.
+#[derive(Clone, Copy, PartialEq, Eq)]
+pub enum Check {
+    HeaderCutOff = 1,
+    UnknownIdentifier = 2,
+    UnknownVersion = 3,
+    IndexOutside = 4,
+    NotAnIndex = 5,
+    IndexChecksum = 6,
+    EntryOutside = 7,
+    EntryMismatch = 8,
+    NoTable = 9,
+    SeveralTables = 10,
+    TableOutside = 11,
+    TableMalformed = 12,
+    TableCompressed = 13,
+    TableChecksum = 14,
+    AddressOutside = 20,
+    NotWritten = 21,
+    BlockNotIndexed = 22,
+    BlockOutside = 23,
+    BlockCompressed = 24,
+    BlockMalformed = 25,
+    ItemOutside = 26,
+    BlockChecksum = 27,
+    SizeRefused = 30,
+    BufferTooLong = 31,
+    UsedPastBuffer = 32,
+    LengthMismatch = 33,
+    AddressesNotRising = 34,
+    NoRoom = 35,
+    SizesDiffer = 40,
+    FileBufferTooShort = 41,
+    PartialSector = 42,
+    SeveralLevels = 70,
+    UnknownSizeType = 71,
+    AddressesExceedBlocks = 72,
+    UnknownStatus = 73,
+    SecondKind = 74,
+}
+
+impl Check {
+    // Its number in document 01.
+    pub fn number(self) -> u32
+        ensures { result ≡ number_of self }
+    {
+        self as u32
+    }
+}
+
+// Why a call is refused: the number of a check, with 100 added where it refuses the parent of a pair, and the byte offset in the image of what it is about, 0
+// where there is none.
 #[derive(Clone, Copy)]
 pub struct Refusal {
     pub number: u32,
     pub place: ByteOffset,
+}
+
+impl Refusal {
+    // By this check, at this place.
+    pub fn at(check: Check, place: ByteOffset) -> Refusal
+        ensures { result ≡ refusal (number_of check) place.0 }
+    {
+        let number = check.number();
+        Refusal { number, place }
+    }
+
+    // By this check, with no place.
+    pub fn of(check: Check) -> Refusal
+        ensures { result ≡ refusal (number_of check) 0 }
+    {
+        Refusal::at(check, ByteOffset(0))
+    }
+
+    // Whether this check refuses, and not in the parent of a pair.
+    pub fn is(self, check: Check) -> bool
+        ensures { IsTrue result ↔ self.number ≡ number_of check }
+    {
+        self.number == check.number()
+    }
 }
 
 // An entry of an index. Its fields of four bytes are u64, as every number that is read from an image.

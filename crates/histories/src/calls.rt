@@ -74,28 +74,18 @@ const LISTS: [[u64; 6]; 18] = [
     [5, 0, 1, 2, 3, 4],
 ];
 
-// The answer to a row whose numbers are past the bounds here; 01 has no such refusal.
-fn no_call() -> Result<Placed, Refusal> {
-    let place = ByteOffset(0);
-    Err(Refusal { number: 0, place })
-}
-
-// Creates. The application is bytes of 7, its version 1.2, mediaType 3.
-fn create(buffer: &mut [u8], row: &[u64; 5]) -> Result<Placed, Refusal> {
-    let n = row[2] as usize;
+// Creates. The application is bytes of 7, its version 1.2, mediaType 3. As below, a row whose numbers are past the bounds here makes no call.
+fn create(buffer: &mut [u8], row: &[u64; 5]) -> Option<Result<Placed, Refusal>> {
     let application = [7u8; 65];
-    if 65 < n {
-        return no_call();
-    }
     let stamp = Stamp {
-        application: &application[0..n],
+        application: application.get(0..row[2] as usize)?,
         major: 1,
         minor: 2,
         media_type: 3,
         created: row[3],
         written: row[4],
     };
-    aaru::create(buffer, row[1], stamp)
+    Some(aaru::create(buffer, row[1], stamp))
 }
 
 // Commits at the addresses of a list.
@@ -104,46 +94,44 @@ fn commit_at(
     row: &[u64; 5],
     list: &[u64; 6],
     sectors: &[u8],
-) -> Result<Placed, Refusal> {
+) -> Option<Result<Placed, Refusal>> {
     let first = address(list[1]);
     let second = address(list[2]);
     let third = address(list[3]);
     let fourth = address(list[4]);
     let fifth = address(list[5]);
     let addresses = [first.0, second.0, third.0, fourth.0, fifth.0];
-    let n = list[0] as usize;
-    if 5 < n {
-        return no_call();
-    }
-    aaru::commit(buffer, row[1], &addresses[0..n], row[3], sectors, row[4])
+    let named = addresses.get(0..list[0] as usize)?;
+    Some(aaru::commit(buffer, row[1], named, row[3], sectors, row[4]))
 }
 
-fn commit(buffer: &mut [u8], row: &[u64; 5], sectors: &[u8]) -> Result<Placed, Refusal> {
-    let which = row[2] as usize;
-    if 17 < which {
-        return no_call();
-    }
-    let list = LISTS[which];
-    commit_at(buffer, row, &list, sectors)
+fn commit(
+    buffer: &mut [u8],
+    row: &[u64; 5],
+    sectors: &[u8],
+) -> Option<Result<Placed, Refusal>> {
+    let list = LISTS.get(row[2] as usize)?;
+    commit_at(buffer, row, list, sectors)
 }
 
-fn commit_many(buffer: &mut [u8], row: &[u64; 5], sectors: &[u8]) -> Result<Placed, Refusal> {
-    let n = row[2] as usize;
+fn commit_many(
+    buffer: &mut [u8],
+    row: &[u64; 5],
+    sectors: &[u8],
+) -> Option<Result<Placed, Refusal>> {
     let addresses = [0i64; 65537];
-    if 65537 < n {
-        return no_call();
-    }
-    aaru::commit(buffer, row[1], &addresses[0..n], row[3], sectors, row[4])
+    let named = addresses.get(0..row[2] as usize)?;
+    Some(aaru::commit(buffer, row[1], named, row[3], sectors, row[4]))
 }
 
 // Makes the call of a row.
-fn make(buffer: &mut [u8], row: &[u64; 5], sectors: &[u8]) -> Result<Placed, Refusal> {
+fn make(buffer: &mut [u8], row: &[u64; 5], sectors: &[u8]) -> Option<Result<Placed, Refusal>> {
     let word = row[0];
     if word == CREATE {
         return create(buffer, row);
     }
     if word == ROLLBACK {
-        return aaru::rollback(buffer, row[1], ByteOffset(row[2]), row[3]);
+        return Some(aaru::rollback(buffer, row[1], ByteOffset(row[2]), row[3]));
     }
     if word == COMMIT {
         return commit(buffer, row, sectors);
@@ -177,11 +165,12 @@ fn report(
     before: &mut [u8; 1200],
     buffer: &[u8; 1200],
     row: &[u64; 5],
-    answer: Result<Placed, Refusal>,
+    answer: Option<Result<Placed, Refusal>>,
 ) -> io::Result<()> {
     match answer {
-        Err(r) => refused(rt, r)?,
-        Ok(p) => {
+        None => text(rt, b"no call")?,
+        Some(Err(r)) => refused(rt, r)?,
+        Some(Ok(p)) => {
             let index = p.index;
             number(rt, b"used ", p.used)?;
             number(rt, b", index ", index.0)?;
@@ -203,9 +192,9 @@ fn make_within(
     limit: usize,
     row: &[u64; 5],
     sectors: &[u8],
-) -> Result<Placed, Refusal> {
+) -> Option<Result<Placed, Refusal>> {
     if buffer.len() < limit {
-        return no_call();
+        return None;
     }
     make(&mut buffer[0..limit], row, sectors)
 }

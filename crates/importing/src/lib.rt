@@ -13,7 +13,7 @@ ghost use Rattle.composing.specs.Composes.{stored_of, filled, Lays};
 ghost use Rattle.importing.specs.Imports.{Files};
 
 use composing::Layout;
-use format::{ByteOffset, Placed, Refusal, Stamp};
+use format::{Check, Placed, Refusal, Stamp};
 
 // How many of the first `count` sectors of the file are stored, wherever the block will be.
 fn count_stored(file: &[u8], count: u64, size: u64) -> u64
@@ -63,8 +63,7 @@ pub fn import<'a, 'b, 'c>(
     let index = at.index;
     let length = buffer.len() as u64;
     if length < end {
-        let place = ByteOffset(0);
-        return Err(Refusal { number: 35, place });
+        return Err(Refusal::of(Check::NoRoom));
     }
     records::put_image(buffer, count, stamp);
     put_entries(buffer, file, count, size, at);

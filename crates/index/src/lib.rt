@@ -14,7 +14,7 @@ mod lent; // an index as it lies in an image, and its entries
 
 use crc64::checksum;
 use fields::{get, part, put, room, spells};
-use format::{ByteOffset, Entry, HEADER_LENGTH, IMAGE_MAJOR, Refusal};
+use format::{ByteOffset, Check, Entry, HEADER_LENGTH, IMAGE_MAJOR, Refusal};
 pub use lent::Index;
 
 // The tables among the index entries seen so far.
@@ -43,15 +43,14 @@ fn unknown(s: &[u8]) -> bool
 pub fn header_verdict(s: &[u8]) -> Result<(), Refusal>
     ensures { result ≡ header_verdict s.now }
 {
-    let place = ByteOffset(0);
     if (s.len() as u64) < HEADER_LENGTH {
-        return Err(Refusal { number: 1, place });
+        return Err(Refusal::of(Check::HeaderCutOff));
     }
     if unknown(s) {
-        return Err(Refusal { number: 2, place });
+        return Err(Refusal::of(Check::UnknownIdentifier));
     }
     if get(s, IMAGE_MAJOR, 1) != 2 {
-        return Err(Refusal { number: 3, place });
+        return Err(Refusal::of(Check::UnknownVersion));
     }
     Ok(())
 }
@@ -60,23 +59,22 @@ pub fn header_verdict(s: &[u8]) -> Result<(), Refusal>
 pub fn index_verdict(s: &[u8], o: ByteOffset) -> Result<(), Refusal>
     ensures { result ≡ index_verdict s.now o.0 }
 {
-    let place = o;
     let index = o.0;
     if index < HEADER_LENGTH {
-        return Err(Refusal { number: 4, place });
+        return Err(Refusal::at(Check::IndexOutside, o));
     }
     if room(s, index) < 20 {
-        return Err(Refusal { number: 4, place });
+        return Err(Refusal::at(Check::IndexOutside, o));
     }
     if !spells(s, index, b"IDX2") {
-        return Err(Refusal { number: 5, place });
+        return Err(Refusal::at(Check::NotAnIndex, o));
     }
     let entries = get(s, index + 4, 8);
     if room(s, index + 20) / 16 < entries {
-        return Err(Refusal { number: 4, place });
+        return Err(Refusal::at(Check::IndexOutside, o));
     }
     if checksum(part(s, index + 20, 16 * entries)) != get(s, index + 12, 8) {
-        return Err(Refusal { number: 6, place });
+        return Err(Refusal::at(Check::IndexChecksum, o));
     }
     Ok(())
 }
@@ -102,17 +100,16 @@ fn entry_verdict(s: &[u8], p: ByteOffset, e: Entry) -> Result<(), Refusal>
     requires { e ≡ entry_at s.now p.0 }
     ensures { result ≡ entry_verdict s.now p.0 }
 {
-    let place = p;
     let offset = e.offset;
     let at = offset.0;
     if at < HEADER_LENGTH {
-        return Err(Refusal { number: 7, place });
+        return Err(Refusal::at(Check::EntryOutside, p));
     }
     if room(s, at) < 4 {
-        return Err(Refusal { number: 7, place });
+        return Err(Refusal::at(Check::EntryOutside, p));
     }
     if get(s, at, 4) != e.blockType {
-        return Err(Refusal { number: 8, place });
+        return Err(Refusal::at(Check::EntryMismatch, p));
     }
     Ok(())
 }
@@ -175,10 +172,9 @@ pub fn one_table<'a>(index: Index<'a>) -> Result<ByteOffset, Refusal>
         entry_verdict(index.bytes, index.place(i), e)?;
         seen = with_entry(seen, e);
     }
-    let place = index.at;
     match seen {
-        Tables::None => Err(Refusal { number: 9, place }),
+        Tables::None => Err(Refusal::at(Check::NoTable, index.at)),
         Tables::One(t) => Ok(t),
-        Tables::More => Err(Refusal { number: 10, place }),
+        Tables::More => Err(Refusal::at(Check::SeveralTables, index.at)),
     }
 }

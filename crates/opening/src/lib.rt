@@ -15,7 +15,7 @@ ghost use Rattle.opening.specs.Images.{outcome_of};
 
 use fields::{get, magnitude};
 use format::{
-    AddressRange, ByteOffset, EntryNumber, INDEX_OFFSET, Pointer, Refusal, SECOND_ENTRY,
+    AddressRange, ByteOffset, Check, EntryNumber, INDEX_OFFSET, Pointer, Refusal, SECOND_ENTRY,
     SECOND_HEADER, SectorAddress, TABLE_ENTRY, TABLE_HEADER, TableKind,
 };
 use index::Index;
@@ -94,10 +94,7 @@ impl Opened {
         ensures { result ≡ row (is_second (contents self).kind) (refusal 74 0) }
     {
         if tables::is_second(self.kind) {
-            return Err(Refusal {
-                number: 74,
-                place: ByteOffset(0),
-            });
+            return Err(Refusal::of(Check::SecondKind));
         }
         Ok(())
     }

@@ -11,7 +11,7 @@ ghost use Rattle.format.specs.Overlaying.{from_parent, in_image, read_over, loca
 ghost use Rattle.format.specs.Answers.{bytes_read};
 
 use fields::part;
-pub use format::{Refusal, SectorAddress, Sourced};
+pub use format::{Check, Refusal, SectorAddress, Sourced};
 
 // Where the parent's sector at address a lies, or the refusal that the pair gives for its own.
 fn locate_parent(parent: &[u8], a: SectorAddress) -> Result<Sourced, Refusal>
@@ -28,7 +28,7 @@ pub fn locate_over(child: &[u8], parent: &[u8], a: SectorAddress) -> Result<Sour
     match sectors::locate_in(child, a) {
         Ok(place) => Ok(Sourced { image: 0, place }),
         Err(r) => {
-            if r.number == 21 {
+            if r.is(Check::NotWritten) {
                 return locate_parent(parent, a);
             }
             Err(r)

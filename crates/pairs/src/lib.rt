@@ -18,7 +18,7 @@ ghost use Rattle.pairs.specs.Pairs.{entry_answer, EntryChecked, held_below};
 ghost use Rattle.pairs.specs.Sectors.{sector_of, written_in};
 
 use fields::part;
-use format::{ByteOffset, EntryNumber, Refusal, SectorAddress};
+use format::{Check, EntryNumber, Refusal, SectorAddress};
 use opening::Image;
 
 mod pair; // the pair: the two images, all of whose sectors were checked
@@ -31,24 +31,12 @@ pub fn parent_refusal(r: Refusal) -> Refusal
     requires { r.number ≤ 73 }
     ensures { result ≡ parent_refusal r }
 {
-    let number = r.number;
-    let none = ByteOffset(0);
-    if number == 20 {
-        return Refusal {
-            number: 21,
-            place: none,
-        };
+    if r.is(Check::AddressOutside) || r.is(Check::NotWritten) {
+        return Refusal::of(Check::NotWritten);
     }
-    if number == 21 {
-        return Refusal {
-            number: 21,
-            place: none,
-        };
-    }
-    let place = r.place;
     Refusal {
-        number: 100 + number,
-        place,
+        number: 100 + r.number,
+        place: r.place,
     }
 }
 
@@ -149,12 +137,11 @@ impl<'a> Pair<'a> {
         requires { (size ≡ size_of (written_in self)) × (written ≡ length (written_in self)) }
         ensures { result ≡ sizes_verdict (count_of self.entry.child.bytes.now) (written_in self.entry) }
     {
-        let place = ByteOffset(0);
         if self.any_other(size) {
-            return Err(Refusal { number: 40, place });
+            return Err(Refusal::of(Check::SizesDiffer));
         }
         if is_over(self.child.found.count(), size, written) {
-            return Err(Refusal { number: 30, place });
+            return Err(Refusal::of(Check::SizeRefused));
         }
         Ok(())
     }

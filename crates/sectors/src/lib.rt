@@ -16,7 +16,7 @@ ghost use Rattle.sectors.specs.Found.{Known, is_known};
 
 use fields::{get, part, room};
 use format::{
-    ByteOffset, Entry, EntryNumber, INDEX_OFFSET, Place, Pointer, Refusal, SectorAddress,
+    ByteOffset, Check, Entry, EntryNumber, INDEX_OFFSET, Place, Pointer, Refusal, SectorAddress,
 };
 use index::{Index, entry, is_user_data};
 use opening::Image;
@@ -97,19 +97,18 @@ fn block_malformed(s: &[u8], b: ByteOffset) -> bool
 pub fn block_verdict(s: &[u8], b: ByteOffset) -> Result<(), Refusal>
     ensures { result ≡ block_verdict s.now b.0 }
 {
-    let place = b;
     let block = b.0;
     if room(s, block) < 36 {
-        return Err(Refusal { number: 23, place });
+        return Err(Refusal::at(Check::BlockOutside, b));
     }
     if get(s, block + 6, 2) != 0 {
-        return Err(Refusal { number: 24, place });
+        return Err(Refusal::at(Check::BlockCompressed, b));
     }
     if block_malformed(s, b) {
-        return Err(Refusal { number: 25, place });
+        return Err(Refusal::at(Check::BlockMalformed, b));
     }
     if room(s, block + 36) < get(s, block + 16, 4) {
-        return Err(Refusal { number: 23, place });
+        return Err(Refusal::at(Check::BlockOutside, b));
     }
     Ok(())
 }
@@ -125,7 +124,7 @@ pub fn number_verdict(s: &[u8], p: Pointer) -> Result<(), Refusal>
     let length = get(s, block + 16, 4);
     let size = get(s, block + 8, 4);
     if length / size <= item.0 {
-        return Err(Refusal { number: 26, place });
+        return Err(Refusal::at(Check::ItemOutside, p.block));
     }
     Ok(())
 }
@@ -144,7 +143,7 @@ fn item_verdict(s: &[u8], p: Pointer) -> Result<(), Refusal>
         get(s, block + 20, 8),
         get(s, block + 28, 8),
     ) {
-        return Err(Refusal { number: 27, place });
+        return Err(Refusal::at(Check::BlockChecksum, p.block));
     }
     Ok(())
 }
@@ -177,7 +176,7 @@ fn pointer_verdict<'a>(
     if is_indexed(image.index(), b) {
         return item_verdict(s, p);
     }
-    Err(Refusal { number: 22, place })
+    Err(Refusal::at(Check::BlockNotIndexed, place))
 }
 
 // The sector of table entry n: checks 21 to 27, 73. Its table entry is read once; of the block that is known only the
@@ -186,14 +185,13 @@ fn find<'a>(image: Image<'a>, n: EntryNumber, known: Option<ByteOffset>) -> Resu
     requires { (n.0 < (held image).count) × Known image.bytes.now known }
     ensures { result ≡ answer (sector_verdict image.entry.bytes.now (entries image.entry.bytes.now (index_offset image.entry.bytes.now)) (held image.entry) n.0) (pointer_at image.entry.bytes.now (held image.entry) n.0) }
 {
-    let place = ByteOffset(0);
     let t = image.found;
     let e = image.table_entry(n);
     if t.is_unwritten(e) {
-        return Err(Refusal { number: 21, place });
+        return Err(Refusal::of(Check::NotWritten));
     }
     if t.is_unknown(e) {
-        return Err(Refusal { number: 73, place });
+        return Err(Refusal::of(Check::UnknownStatus));
     }
     let p = t.decoded(e);
     pointer_verdict(image, t.entry_place(n), p, known)?;
@@ -211,10 +209,7 @@ fn find_address<'a>(
 {
     match image.found.entry_number(a) {
         Some(n) => find(image, n, known),
-        None => Err(Refusal {
-            number: 20,
-            place: ByteOffset(0),
-        }),
+        None => Err(Refusal::of(Check::AddressOutside)),
     }
 }
 

@@ -16,7 +16,7 @@ ghost use Rattle.tables.specs.Places.{IsLayout};
 use crc64::checksum;
 use fields::{get, get_short, part, room, spells};
 use format::{
-    ByteOffset, ItemNumber, Pointer, Refusal, SECOND_ENTRY, SECOND_HEADER, TABLE_ENTRY,
+    ByteOffset, Check, ItemNumber, Pointer, Refusal, SECOND_ENTRY, SECOND_HEADER, TABLE_ENTRY,
     TABLE_HEADER, TableKind,
 };
 
@@ -101,21 +101,20 @@ fn second_verdict(s: &[u8], t: ByteOffset) -> Result<(), Refusal>
     requires { t.0 + 82 ≤ length s.now }
     ensures { result ≡ extent_verdict s.now Second t.0 }
 {
-    let place = ByteOffset(0);
     let table = t.0;
     if get(s, table + 8, 1) != 1 {
-        return Err(Refusal { number: 70, place });
+        return Err(Refusal::of(Check::SeveralLevels));
     }
     if get(s, table + 41, 1) != 0 {
-        return Err(Refusal { number: 71, place });
+        return Err(Refusal::of(Check::UnknownSizeType));
     }
     let blocks = get(s, table + 20, 8);
     let negative = get(s, table + 18, 2);
     if blocks < negative {
-        return Err(Refusal { number: 72, place });
+        return Err(Refusal::of(Check::AddressesExceedBlocks));
     }
     if blocks - negative < get(s, table + 28, 2) {
-        return Err(Refusal { number: 72, place });
+        return Err(Refusal::of(Check::AddressesExceedBlocks));
     }
     Ok(())
 }
@@ -174,18 +173,17 @@ fn payload_verdict(s: &[u8], kind: TableKind, t: ByteOffset) -> Result<(), Refus
     ensures { result ≡ payload_verdict s.now kind t.0 }
 {
     let l = layout_of(kind);
-    let place = t;
     let table = t.0;
     let length = get(s, table + (l.entries + 16), 8);
     if room(s, table + l.header) < length {
-        return Err(Refusal { number: 11, place });
+        return Err(Refusal::at(Check::TableOutside, t));
     }
     if sums_differ(
         part(s, table + l.header, length),
         get(s, table + (l.entries + 24), 8),
         get(s, table + (l.entries + 32), 8),
     ) {
-        return Err(Refusal { number: 14, place });
+        return Err(Refusal::at(Check::TableChecksum, t));
     }
     Ok(())
 }
@@ -195,17 +193,16 @@ pub fn table_verdict(s: &[u8], kind: TableKind, t: ByteOffset) -> Result<(), Ref
     ensures { result ≡ table_verdict s.now kind t.0 }
 {
     let l = layout_of(kind);
-    let place = t;
     let table = t.0;
     if room(s, table) < l.header {
-        return Err(Refusal { number: 11, place });
+        return Err(Refusal::at(Check::TableOutside, t));
     }
     if get(s, table + 6, 2) != 0 {
-        return Err(Refusal { number: 13, place });
+        return Err(Refusal::at(Check::TableCompressed, t));
     }
     extent_verdict(s, kind, t)?;
     if table_malformed(s, kind, t) {
-        return Err(Refusal { number: 12, place });
+        return Err(Refusal::at(Check::TableMalformed, t));
     }
     payload_verdict(s, kind, t)
 }

@@ -25,8 +25,9 @@ lay_out-at-requires c =
 pub returns-then-length-end : goal.returns-then-length-end
 unfolding part
 returns-then-length-end c =
-    refused-35 c.requires (rw c.part.ensures at c.plan-plan.ensures) _
-    (rw c.part.ensures at c.lay_out-at.ensures) (omega arith)
+    rw c.of.ensures
+    (refused-35 c.requires (rw c.part.ensures at c.plan-plan.ensures) _
+    (rw c.part.ensures at c.lay_out-at.ensures) (omega arith))
 
 pub put_all-requires : goal.put_all-requires
 unfolding part

@@ -7,11 +7,11 @@ use Rattle.arguments.proofs.buffer_verdict.Goals as goal
 
 pub returns-then-length-gt-LONGEST_BUFFER : goal.returns-then-length-gt-LONGEST_BUFFER
 unfolding buffer_verdict
-returns-then-length-gt-LONGEST_BUFFER c = stop _ (below_true _ _ (omega arith))
+returns-then-length-gt-LONGEST_BUFFER c = rw c.of.ensures (stop _ (below_true _ _ (omega arith)))
 
 pub returns-then-length-used : goal.returns-then-length-used
 unfolding buffer_verdict
-returns-then-length-used c = on _ (below-iff.1 (omega arith)) (stop-last (below_true _ _ (omega arith)))
+returns-then-length-used c = rw c.of-then-length-used.ensures (on _ (below-iff.1 (omega arith)) (stop-last (below_true _ _ (omega arith))))
 
 pub returns : goal.returns
 unfolding buffer_verdict

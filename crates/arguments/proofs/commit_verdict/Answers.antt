@@ -29,7 +29,7 @@ returns-in_err-buffer_verdict c = early c.from_residual.ensures (stops _ c.in_er
 
 pub returns-then-size_refused : goal.returns-then-size_refused
 unfolding arguments_verdict
-returns-then-size_refused c = goes (passes (goal.at.returns-then-size_refused c).In_ok-buffer_verdict) (stop _ (by c.size_refused.ensures c.if-size_refused.true))
+returns-then-size_refused c = rw c.of.ensures (goes (passes (goal.at.returns-then-size_refused c).In_ok-buffer_verdict) (stop _ (by c.size_refused.ensures c.if-size_refused.true)))
 
 pub overflow_mul-count : goal.overflow_mul-count
 overflow_mul-count c = let k = sized (goal.at.overflow_mul-count c).Else-size_refused in omega (arith, mul-le-mul k.1.1 k.1.0)
@@ -37,8 +37,9 @@ overflow_mul-count c = let k = sized (goal.at.overflow_mul-count c).Else-size_re
 pub returns-then-sectors-count : goal.returns-then-sectors-count
 unfolding arguments_verdict
 returns-then-sectors-count c =
-    goes (passes (goal.at.returns-then-sectors-count c).In_ok-buffer_verdict)
-    (on _ (by c.size_refused.ensures c.if-size_refused.false) (stop _ (differs_true _ _ (λ e. omega arith))))
+    rw c.of-then-sectors-count.ensures
+    (goes (passes (goal.at.returns-then-sectors-count c).In_ok-buffer_verdict)
+    (on _ (by c.size_refused.ensures c.if-size_refused.false) (stop _ (differs_true _ _ (λ e. omega arith)))))
 
 pub returns-then-is_rising : goal.returns-then-is_rising
 unfolding arguments_verdict
@@ -50,6 +51,7 @@ returns-then-is_rising c =
 pub returns : goal.returns
 unfolding arguments_verdict
 returns c =
-    goes (passes (goal.at.returns c).In_ok-buffer_verdict)
+    rw c.of-2.ensures
+    (goes (passes (goal.at.returns c).In_ok-buffer_verdict)
     (on _ (by c.size_refused.ensures c.if-size_refused.false)
-    (on _ (differs-iff.1 (omega arith)) (stop-last (ap not (by c.is_rising.ensures c.if-is_rising.false)))))
+    (on _ (differs-iff.1 (omega arith)) (stop-last (ap not (by c.is_rising.ensures c.if-is_rising.false))))))

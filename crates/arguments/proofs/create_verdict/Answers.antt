@@ -14,16 +14,16 @@ few c = ((or-iff same-iff below-iff).0 (by c.count_refused.ensures c.if-count_re
 
 pub returns-then-length-gt-LONGEST_BUFFER : goal.returns-then-length-gt-LONGEST_BUFFER
 unfolding create_verdict
-returns-then-length-gt-LONGEST_BUFFER c = stop _ (below_true _ _ (omega arith))
+returns-then-length-gt-LONGEST_BUFFER c = rw c.of.ensures (stop _ (below_true _ _ (omega arith)))
 
 pub returns-then-count_refused : goal.returns-then-count_refused
 unfolding create_verdict
-returns-then-count_refused c = on _ (below-iff.1 (omega arith)) (stop _ (by c.count_refused.ensures c.if-count_refused.true))
+returns-then-count_refused c = rw c.of-then-count_refused.ensures (on _ (below-iff.1 (omega arith)) (stop _ (by c.count_refused.ensures c.if-count_refused.true)))
 
 pub returns-then-name_refused : goal.returns-then-name_refused
 unfolding create_verdict
 returns-then-name_refused c =
-    on _ (below-iff.1 (omega arith)) (on _ (by c.count_refused.ensures c.if-count_refused.false) (stop _ (by c.name_refused.ensures c.if-name_refused.true)))
+    rw c.of-then-name_refused.ensures (on _ (below-iff.1 (omega arith)) (on _ (by c.count_refused.ensures c.if-count_refused.false) (stop _ (by c.name_refused.ensures c.if-name_refused.true))))
 
 pub overflow_mul-count : goal.overflow_mul-count
 overflow_mul-count c = omega (arith, few (goal.at.overflow_mul-count c).Else-count_refused)
@@ -34,8 +34,9 @@ overflow_add-count c = omega (arith, few (goal.at.overflow_add-count c).Else-cou
 pub returns-then-length-count : goal.returns-then-length-count
 unfolding create_verdict created_used created_index_at
 returns-then-length-count c =
-    on _ (below-iff.1 (omega arith)) (on _ (by c.count_refused.ensures c.if-count_refused.false)
-    (on _ (by c.name_refused.ensures c.if-name_refused.false) (stop-last (below_true _ _ (omega arith)))))
+    rw c.of-then-length-count.ensures
+    (on _ (below-iff.1 (omega arith)) (on _ (by c.count_refused.ensures c.if-count_refused.false)
+    (on _ (by c.name_refused.ensures c.if-name_refused.false) (stop-last (below_true _ _ (omega arith))))))
 
 pub returns : goal.returns
 unfolding create_verdict created_used created_index_at

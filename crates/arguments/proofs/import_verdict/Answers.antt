@@ -13,11 +13,11 @@ some c = ((or-iff same-iff (or-iff below-iff (or-iff same-iff below-iff))).0 (by
 
 pub returns-then-buffer-gt-LONGEST_BUFFER : goal.returns-then-buffer-gt-LONGEST_BUFFER
 unfolding import_verdict
-returns-then-buffer-gt-LONGEST_BUFFER c = stop _ (below_true _ _ (omega arith))
+returns-then-buffer-gt-LONGEST_BUFFER c = rw c.of.ensures (stop _ (below_true _ _ (omega arith)))
 
 pub returns-then-file_refused : goal.returns-then-file_refused
 unfolding import_verdict
-returns-then-file_refused c = on _ (below-iff.1 (omega arith)) (stop _ (by c.file_refused.ensures c.if-file_refused.true))
+returns-then-file_refused c = rw c.of-then-file_refused.ensures (on _ (below-iff.1 (omega arith)) (stop _ (by c.file_refused.ensures c.if-file_refused.true)))
 
 pub nonzero_rem-length : goal.nonzero_rem-length
 nonzero_rem-length c = omega (arith, some (goal.at.nonzero_rem-length c).Else-file_refused)
@@ -25,13 +25,14 @@ nonzero_rem-length c = omega (arith, some (goal.at.nonzero_rem-length c).Else-fi
 pub returns-then-length-size-ne0 : goal.returns-then-length-size-ne0
 unfolding import_verdict
 returns-then-length-size-ne0 c =
-    on _ (below-iff.1 (omega arith)) (on _ (by c.file_refused.ensures c.if-file_refused.false) (stop _ (differs_true _ _ c.if-length-size-ne0.true)))
+    rw c.of-then-length-size-ne0.ensures (on _ (below-iff.1 (omega arith)) (on _ (by c.file_refused.ensures c.if-file_refused.false) (stop _ (differs_true _ _ c.if-length-size-ne0.true))))
 
 pub returns-then-name_refused : goal.returns-then-name_refused
 unfolding import_verdict
 returns-then-name_refused c =
-    on _ (below-iff.1 (omega arith)) (on _ (by c.file_refused.ensures c.if-file_refused.false)
-    (on _ (differs-iff.1 c.if-length-size-ne0.false) (stop-last (by c.name_refused.ensures c.if-name_refused.true))))
+    rw c.of-then-name_refused.ensures
+    (on _ (below-iff.1 (omega arith)) (on _ (by c.file_refused.ensures c.if-file_refused.false)
+    (on _ (differs-iff.1 c.if-length-size-ne0.false) (stop-last (by c.name_refused.ensures c.if-name_refused.true)))))
 
 pub returns : goal.returns
 unfolding import_verdict

@@ -9,8 +9,9 @@ returns-in_err-kind_verdict c = early c.from_residual.ensures (stops _ c.in_err-
 
 pub returns-then-any_outside : goal.returns-then-any_outside
 returns-then-any_outside c =
-    goes c.in_ok-kind_verdict.ensures (stop _ (by c.any_outside.ensures c.if-any_outside.true))
-    ∙ sym (disc-opened _ _ _ c.args.image.opens)
+    rw c.of.ensures
+    (goes c.in_ok-kind_verdict.ensures (stop _ (by c.any_outside.ensures c.if-any_outside.true))
+    ∙ sym (disc-opened _ _ _ c.args.image.opens))
 
 pub returns : goal.returns
 returns c =

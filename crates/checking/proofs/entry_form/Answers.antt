@@ -15,7 +15,7 @@ unknown c = status-is _ _ _ c.requires.1 c.is_unknown.ensures
 
 pub returns-then-is_unknown : goal.returns-then-is_unknown
 unfolding entry_form
-returns-then-is_unknown c = stop _ (by (unknown (goal.at.returns-then-is_unknown c).After-is_unknown) c.if-is_unknown.true)
+returns-then-is_unknown c = rw c.of.ensures (stop _ (by (unknown (goal.at.returns-then-is_unknown c).After-is_unknown) c.if-is_unknown.true))
 
 pub entry_place-requires : goal.entry_place-requires
 entry_place-requires c = let k = entry-inside _ _ c.args.image.opens c.args.n.0 c.requires.0 in omega arith

@@ -40,9 +40,10 @@ block-is c = ap (λ (q : Pointer). q.block.0) (pointer_is _ _ _ c.table_entry-e.
 
 pub returns-then-block-b : goal.returns-then-block-b
 returns-then-block-b c left h f =
-    found _ _ _ _ _ c.requires.1 h f _ (omega arith)
+    rw c.at.ensures
+    (found _ _ _ _ _ c.requires.1 h f _ (omega arith)
     (by (looks (goal.at.returns-then-block-b c).After-is_looked_at) c.if-not-is_looked_at.false, by (block-is (goal.at.returns-then-block-b c).After-decoded-p) c.if-block-b.true)
-    c.loop-a.invariant.1
+    c.loop-a.invariant.1)
 
 pub loop-a-preserved : goal.loop-a-preserved
 loop-a-preserved c =

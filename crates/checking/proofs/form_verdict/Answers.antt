@@ -44,4 +44,4 @@ returns-then-is_indexed c =
 
 pub returns : goal.returns
 unfolding form_verdict
-returns c = stop _ (ap not (rw (c.index.ensures.bytes, c.index.ensures.at) at (by c.is_indexed.ensures c.if-is_indexed.false)))
+returns c = rw c.at.ensures (stop _ (ap not (rw (c.index.ensures.bytes, c.index.ensures.at) at (by c.is_indexed.ensures c.if-is_indexed.false))))

@@ -7,7 +7,7 @@ pub returns-then-size-eq0 : goal.returns-then-size-eq0
 returns-then-size-eq0 c = room-none _ _ _ (omega arith)
 
 pub returns-then-length-size : goal.returns-then-length-size
-returns-then-length-size c = room-short _ _ _ (omega arith) (omega arith)
+returns-then-length-size c = rw c.of.ensures (room-short _ _ _ (omega arith) (omega arith))
 
 pub returns : goal.returns
 returns c = room-enough _ _ _ (omega arith) (omega arith)

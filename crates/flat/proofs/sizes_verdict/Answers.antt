@@ -8,8 +8,9 @@ use Rattle.flat.proofs.sizes_verdict.Goals.{in-Some+else-p-size, in_default}
 
 pub returns-then-p-size : goal.returns-then-p-size
 returns-then-p-size c =
-    sym (refused-at _ _ _ _ (omega arith) c.loop-n.invariant
-    (size-other _ _ _ c.in-Some.ensures c.requires.1 c.if-p-size.true))
+    rw c.of.ensures
+    (sym (refused-at _ _ _ _ (omega arith) c.loop-n.invariant
+    (size-other _ _ _ c.in-Some.ensures c.requires.1 c.if-p-size.true)))
 
 pub loop-n-preserved : goal.loop-n-preserved
 loop-n-preserved c =

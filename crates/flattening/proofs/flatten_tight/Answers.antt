@@ -21,7 +21,7 @@ planned c =
 
 pub returns-then-length-end : goal.returns-then-length-end
 returns-then-length-end c =
-    flat-full c.requires _ _ _ _ _ (planned (goal.at.returns-then-length-end c).After-lay_out-at) (omega arith)
+    rw c.of.ensures (flat-full c.requires _ _ _ _ _ (planned (goal.at.returns-then-length-end c).After-lay_out-at) (omega arith))
 
 pub put_image-requires : goal.put_image-requires
 put_image-requires c =

@@ -7,16 +7,16 @@ use Rattle.index.proofs.entry_verdict.Goals as goal
 
 pub returns-then-at-lt-HEADER_LENGTH : goal.returns-then-at-lt-HEADER_LENGTH
 unfolding entry_verdict
-returns-then-at-lt-HEADER_LENGTH c = rw (← c.requires) (stop _ (or-true-left _ _ (below_true _ _ (omega arith))))
+returns-then-at-lt-HEADER_LENGTH c = rw (c.at.ensures, ← c.requires) (stop _ (or-true-left _ _ (below_true _ _ (omega arith))))
 
 pub returns-then-room-lt4 : goal.returns-then-room-lt4
 unfolding entry_verdict
-returns-then-room-lt4 c = rw (← c.requires) (stop _ (or_true_right _ _ (below_true _ _ (omega arith))))
+returns-then-room-lt4 c = rw (c.at-then-room-lt4.ensures, ← c.requires) (stop _ (or_true_right _ _ (below_true _ _ (omega arith))))
 
 pub returns-then-get-e : goal.returns-then-get-e
 unfolding entry_verdict
 returns-then-get-e c =
-    rw (← c.requires) (on _ ((or-iff below-iff below-iff).1 (omega arith, omega arith)) (stop-last (differs_true _ _ (λ e. omega arith))))
+    rw (c.at-then-get-e.ensures, ← c.requires) (on _ ((or-iff below-iff below-iff).1 (omega arith, omega arith)) (stop-last (differs_true _ _ (λ e. omega arith))))
 
 pub returns : goal.returns
 unfolding entry_verdict

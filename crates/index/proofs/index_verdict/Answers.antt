@@ -11,27 +11,29 @@ use Rattle.index.proofs.index_verdict.Goals as goal
 
 pub returns-then-index-lt-HEADER_LENGTH : goal.returns-then-index-lt-HEADER_LENGTH
 unfolding index_verdict
-returns-then-index-lt-HEADER_LENGTH c = stop _ (or-true-left _ _ (below_true _ _ (omega arith)))
+returns-then-index-lt-HEADER_LENGTH c = rw c.at.ensures (stop _ (or-true-left _ _ (below_true _ _ (omega arith))))
 
 pub returns-then-room-lt20 : goal.returns-then-room-lt20
 unfolding index_verdict
-returns-then-room-lt20 c = stop _ (or_true_right _ _ (below_true _ _ (omega arith)))
+returns-then-room-lt20 c = rw c.at-then-room-lt20.ensures (stop _ (or_true_right _ _ (below_true _ _ (omega arith))))
 
 pub returns-then-not-spells : goal.returns-then-not-spells
 unfolding index_verdict
-returns-then-not-spells c = on _ ((or-iff below-iff below-iff).1 (omega arith, omega arith)) (stop _ (by (lacks-not _ _ _ c.spells.ensures) (ap not c.if-not-spells.true)))
+returns-then-not-spells c = rw c.at-then-not-spells.ensures (on _ ((or-iff below-iff below-iff).1 (omega arith, omega arith)) (stop _ (by (lacks-not _ _ _ c.spells.ensures) (ap not c.if-not-spells.true))))
 
 pub returns-then-room-entries : goal.returns-then-room-entries
 unfolding index_verdict entry_count
 returns-then-room-entries c =
-    on _ ((or-iff below-iff below-iff).1 (omega arith, omega arith))
-    (on _ (by (lacks-not _ _ _ c.spells.ensures) (ap not c.if-not-spells.false)) (stop _ (below_true _ _ (omega arith))))
+    rw c.at-then-room-entries.ensures
+    (on _ ((or-iff below-iff below-iff).1 (omega arith, omega arith))
+    (on _ (by (lacks-not _ _ _ c.spells.ensures) (ap not c.if-not-spells.false)) (stop _ (below_true _ _ (omega arith)))))
 
 pub returns-then-checksum-get : goal.returns-then-checksum-get
 unfolding index_verdict entry_count
 returns-then-checksum-get c =
-    on _ ((or-iff below-iff below-iff).1 (omega arith, omega arith))
-    (on _ (by (lacks-not _ _ _ c.spells.ensures) (ap not c.if-not-spells.false)) (on _ (below-iff.1 (omega arith)) (stop-last (differs_true _ _ (λ e. c.if-checksum-get.true (cc))))))
+    rw c.at-then-checksum-get.ensures
+    (on _ ((or-iff below-iff below-iff).1 (omega arith, omega arith))
+    (on _ (by (lacks-not _ _ _ c.spells.ensures) (ap not c.if-not-spells.false)) (on _ (below-iff.1 (omega arith)) (stop-last (differs_true _ _ (λ e. c.if-checksum-get.true (cc)))))))
 
 pub returns : goal.returns
 unfolding index_verdict entry_count

@@ -42,7 +42,7 @@ pub returns-in-None : goal.returns-in-None
 unfolding only_one
 returns-in-None c =
     let l = c.loop-i.invariant in
-    answers _ _ (verdict-done _ _ _ l.0 (omega arith)) (one_none _ _ _ _ _ l.1 (omega arith) c.in-None.is)
+    rw c.at.ensures (answers _ _ (verdict-done _ _ _ l.0 (omega arith)) (one_none _ _ _ _ _ l.1 (omega arith) c.in-None.is))
 
 pub returns-in-One : goal.returns-in-One
 unfolding only_one
@@ -54,4 +54,4 @@ pub returns-in-More : goal.returns-in-More
 unfolding only_one
 returns-in-More c =
     let l = c.loop-i.invariant in
-    answers _ _ (verdict-done _ _ _ l.0 (omega arith)) (one-many _ _ _ _ _ l.1 (omega arith) c.in-More.is)
+    rw c.at-in-More.ensures (answers _ _ (verdict-done _ _ _ l.0 (omega arith)) (one-many _ _ _ _ _ l.1 (omega arith) c.in-More.is))

@@ -21,11 +21,11 @@ pointer c = pointer_is _ _ _ c.table_entry-e.ensures c.decoded-p.ensures
 
 pub returns-then-is_unwritten : goal.returns-then-is_unwritten
 unfolding sector_verdict
-returns-then-is_unwritten c = refuses _ (stop _ (by (unwritten (goal.at.returns-then-is_unwritten c).After-is_unwritten) c.if-is_unwritten.true))
+returns-then-is_unwritten c = rw c.of.ensures (refuses _ (stop _ (by (unwritten (goal.at.returns-then-is_unwritten c).After-is_unwritten) c.if-is_unwritten.true)))
 
 pub returns-then-is_unknown : goal.returns-then-is_unknown
 unfolding sector_verdict
-returns-then-is_unknown c = refuses _ (on _ (by (unwritten (goal.at.returns-then-is_unknown c).After-is_unwritten) c.if-is_unwritten.false) (stop _ (by (unknown (goal.at.returns-then-is_unknown c).After-is_unknown) c.if-is_unknown.true)))
+returns-then-is_unknown c = rw c.of-then-is_unknown.ensures (refuses _ (on _ (by (unwritten (goal.at.returns-then-is_unknown c).After-is_unwritten) c.if-is_unwritten.false) (stop _ (by (unknown (goal.at.returns-then-is_unknown c).After-is_unknown) c.if-is_unknown.true))))
 
 pub decoded-p-requires : goal.decoded-p-requires
 decoded-p-requires c = decodes _ _ c.args.image.opens

@@ -21,4 +21,4 @@ pub returns-in-None : goal.returns-in-None
 unfolding address_verdict IsNumbered
 returns-in-None c =
     let q = subst (IsNumbered _ _) c.in-None.is c.entry_number.ensures in
-    refuses _ (stop _ q)
+    rw c.of.ensures (refuses _ (stop _ q))

@@ -65,8 +65,9 @@ get-requires-2 c = let k = ok (goal.at.get-requires-2 c).In_ok-block_verdict in 
 pub returns-then-sums_differ : goal.returns-then-sums_differ
 unfolding item_verdict
 returns-then-sums_differ c =
-    goes (passes (goal.at.returns-then-sums_differ c).In_ok-block_verdict)
-    (goes c.in_ok-number_verdict.ensures (stop-last (by (sums (goal.at.returns-then-sums_differ c).After-sums_differ) c.if-sums_differ.true)))
+    rw c.at.ensures
+    (goes (passes (goal.at.returns-then-sums_differ c).In_ok-block_verdict)
+    (goes c.in_ok-number_verdict.ensures (stop-last (by (sums (goal.at.returns-then-sums_differ c).After-sums_differ) c.if-sums_differ.true))))
 
 pub returns : goal.returns
 unfolding item_verdict

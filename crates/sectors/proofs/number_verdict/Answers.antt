@@ -9,8 +9,9 @@ nonzero_div-length c = let k = c.requires.size in omega arith
 
 pub returns-then-length-size : goal.returns-then-length-size
 returns-then-length-size c =
-    rw (← c.get-length.ensures, ← c.get-size.ensures)
-    (stop-last (at_least-true _ _ (omega arith)))
+    rw c.at.ensures
+    (rw (← c.get-length.ensures, ← c.get-size.ensures)
+    (stop-last (at_least-true _ _ (omega arith))))
 
 pub returns : goal.returns
 returns c =

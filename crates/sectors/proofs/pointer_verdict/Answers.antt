@@ -26,4 +26,4 @@ returns-then-is_indexed c =
 
 pub returns : goal.returns
 unfolding pointer_verdict
-returns c = stop _ (ap not (rw (c.index.ensures.bytes, c.index.ensures.at) at (by c.is_indexed.ensures c.if-is_indexed.false)))
+returns c = rw c.at.ensures (stop _ (ap not (rw (c.index.ensures.bytes, c.index.ensures.at) at (by c.is_indexed.ensures c.if-is_indexed.false))))

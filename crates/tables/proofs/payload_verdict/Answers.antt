@@ -26,11 +26,11 @@ sums c =
 
 pub returns-then-room-length : goal.returns-then-room-length
 unfolding payload_verdict
-returns-then-room-length c = let e = long (goal.at.returns-then-room-length c).After-get-length in stop _ (below_true _ _ (omega arith))
+returns-then-room-length c = rw c.at.ensures (let e = long (goal.at.returns-then-room-length c).After-get-length in stop _ (below_true _ _ (omega arith)))
 
 pub returns-then-sums_differ : goal.returns-then-sums_differ
 unfolding payload_verdict
-returns-then-sums_differ c = let e = long (goal.at.returns-then-sums_differ c).After-get-length in on _ (below-iff.1 (omega arith)) (stop-last (by (sums (goal.at.returns-then-sums_differ c).After-sums_differ) c.if-sums_differ.true))
+returns-then-sums_differ c = rw c.at-then-sums_differ.ensures (let e = long (goal.at.returns-then-sums_differ c).After-get-length in on _ (below-iff.1 (omega arith)) (stop-last (by (sums (goal.at.returns-then-sums_differ c).After-sums_differ) c.if-sums_differ.true)))
 
 pub returns : goal.returns
 unfolding payload_verdict

@@ -7,11 +7,11 @@ use Rattle.tables.proofs.table_verdict.Goals as goal
 
 pub returns-then-room-l : goal.returns-then-room-l
 unfolding table_verdict
-returns-then-room-l c = stop _ (below_true _ _ (omega arith))
+returns-then-room-l c = rw c.at.ensures (stop _ (below_true _ _ (omega arith)))
 
 pub returns-then-get-ne0 : goal.returns-then-get-ne0
 unfolding table_verdict
-returns-then-get-ne0 c = on _ (below-iff.1 (omega arith)) (stop _ (differs_true _ _ (λ e. omega arith)))
+returns-then-get-ne0 c = rw c.at-then-get-ne0.ensures (on _ (below-iff.1 (omega arith)) (stop _ (differs_true _ _ (λ e. omega arith))))
 
 pub returns-in_err-extent_verdict : goal.returns-in_err-extent_verdict
 unfolding table_verdict
@@ -22,9 +22,10 @@ returns-in_err-extent_verdict c =
 pub returns-then-table_malformed : goal.returns-then-table_malformed
 unfolding table_verdict
 returns-then-table_malformed c =
-    on _ (below-iff.1 (omega arith))
+    rw c.at-then-table_malformed.ensures
+    (on _ (below-iff.1 (omega arith))
     (on _ (differs-iff.1 (omega arith))
-    (goes c.in_ok-extent_verdict.ensures (stop _ (by c.table_malformed.ensures c.if-table_malformed.true))))
+    (goes c.in_ok-extent_verdict.ensures (stop _ (by c.table_malformed.ensures c.if-table_malformed.true)))))
 
 pub returns : goal.returns
 unfolding table_verdict
