@@ -54,7 +54,7 @@ pub fn ask(
 ) -> io::Result<()> {
     print!(rt; "{name}: ")?;
     match question {
-        Question::Disc(used) => disc(rt, &buffer[0..used.min(LENGTH)])?,
+        Question::Disc(used) => disc(rt, &buffer[..used.min(LENGTH)])?,
         Question::Table(place) => table(rt, buffer, place)?,
         Question::Bytes(at, n) => {
             if let Some(bytes) = buffer.get(at..at.saturating_add(n)) {

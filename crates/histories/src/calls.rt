@@ -39,7 +39,7 @@ fn create(
     written: u64,
 ) -> Result<Placed, Refusal> {
     let application = [7u8; 65];
-    let application = &application[0..n.min(65)];
+    let application = &application[..n.min(65)];
     aaru::create(buffer, count, application, 1, 2, 3, created, written)
 }
 
@@ -116,6 +116,6 @@ pub fn make_within(
     }
     print!(rt; ": ")?;
     let before = *buffer;
-    let answer = make(&mut buffer[0..limit.min(LENGTH)], call, sectors);
+    let answer = make(&mut buffer[..limit.min(LENGTH)], call, sectors);
     report(rt, &before, buffer, call, answer)
 }

@@ -26,6 +26,7 @@ const BLANK: [u8; LENGTH] = [0xee; LENGTH];
 // Runs a script. Its calls are handed the whole buffer at first.
 pub fn run(rt: &impl Print, steps: &[Step]) -> io::Result<()> {
     let mut buffer = BLANK;
+    // beside the whole buffer, since what lies behind the limit has to stay too
     let mut limit = LENGTH;
     for step in steps {
         match *step {
