@@ -2,7 +2,7 @@
 // letters, as rows have them; and how a program reads standard input.
 #![tactic(auto)]
 
-ghost use Rattle.std.specs.Prelude.{◌≡◌, ◌⊎◌, ◌++◌, ◌∷◌, []};
+ghost use Rattle.std.specs.Prelude.{◌≡◌, ◌⊎◌, ◌++◌, ◌∷◌, [], ◌==◌, false, All};
 
 use format::{AddressRange, Place, Placed, Refusal};
 use std::fmt;
@@ -78,7 +78,8 @@ impl Display for Hex<'_> {
 
 // The first line of a text, and what stands below it: nothing where no newline ends the line.
 pub fn split_line(text: &[u8]) -> (&[u8], &[u8])
-    ensures { (text.now ≡ result.0.now ++ (10 ∷ result.1.now)) ⊎ ((text.now ≡ result.0.now) × (result.1.now ≡ [])) }
+    ensures line { All (λ byte. (byte == 10) ≡ false) result.0.now }
+    ensures parts { (text.now ≡ result.0.now ++ (10 ∷ result.1.now)) ⊎ ((text.now ≡ result.0.now) × (result.1.now ≡ [])) }
 {
     match text.iter().position(|byte| *byte == b'\n') {
         Some(end) => (&text[..end], &text[end + 1..]),
