@@ -1,41 +1,33 @@
 // The discs that the cases read, as document 01 and 2/13 lay them out, in a buffer of 512 bytes. Their checksums are numbers here, and
 // don't come from the code that is tested.
-ghost use Rattle.std.specs.Prelude.{◌+◌, ◌≤◌};
-
 use printing::letters::{AARUFRMT, DBLK, DDT, DDT2, IDX2};
+use printing::set;
 
-// Where the header is.
-pub const HEADER: u64 = 0;
+// The widths of a record's fields, where it starts, and the fields' numbers.
+#[derive(Clone, Copy)]
+pub struct Record(&'static [u64], u64, &'static [u64]);
 
-// The kinds of records, and below the widths of their fields: the header's identifier and name, the rest of the header, an index
-// of two entries, a table of three entries and a data block of two items.
-const ID: u64 = 0;
+// Records that are written one after another.
+pub type Disc = &'static [&'static [Record]];
 
-const HD: u64 = 1;
+// The widths of the fields of the records: the header's identifier and name, the rest of the header, an index of two entries, a table
+// of three entries and a data block of two items.
+const ID: &[u64] = &[8, 8, 8, 8, 8, 8, 8, 8, 8];
 
-const IX: u64 = 2;
+const HD: &[u64] = &[1, 1, 1, 1, 4, 8, 8, 8];
 
-const TB: u64 = 3;
+const IX: &[u64] = &[4, 8, 8, 4, 4, 8, 4, 4, 8];
 
-const DB: u64 = 4;
+const TB: &[u64] = &[4, 2, 2, 1, 8, 8, 8, 8, 8, 8, 8, 8];
+
+const DB: &[u64] = &[4, 2, 2, 4, 4, 4, 8, 8, 4, 4];
 
 // Of a table of the second kind: its header up to `start`, the rest of it, and five entries.
-const TH: u64 = 5;
+const TH: &[u64] = &[4, 2, 2, 1, 1, 8, 2, 8, 2, 8];
 
-const TS: u64 = 6;
+const TS: &[u64] = &[1, 1, 1, 1, 8, 8, 8, 8, 8];
 
-const TE: u64 = 7;
-
-const WIDTHS: [[u64; 13]; 8] = [
-    [8, 8, 8, 8, 8, 8, 8, 8, 8, 0, 0, 0, 0],
-    [1, 1, 1, 1, 4, 8, 8, 8, 0, 0, 0, 0, 0],
-    [4, 8, 8, 4, 4, 8, 4, 4, 8, 0, 0, 0, 0],
-    [4, 2, 2, 1, 8, 8, 8, 8, 8, 8, 8, 8, 0],
-    [4, 2, 2, 4, 4, 4, 8, 8, 4, 4, 0, 0, 0],
-    [4, 2, 2, 1, 1, 8, 2, 8, 2, 8, 0, 0, 0],
-    [1, 1, 1, 1, 8, 8, 8, 8, 8, 0, 0, 0, 0],
-    [4, 4, 4, 4, 4, 0, 0, 0, 0, 0, 0, 0, 0],
-];
+const TE: &[u64] = &[4, 4, 4, 4, 4];
 
 // The sectors' bytes.
 const AAAA: u64 = 0x4141_4141;
@@ -72,134 +64,88 @@ const I6: u64 = 0x40ae_3ad8_e2cf_c69a;
 
 const T6: u64 = 0x7977_783a_9519_389d;
 
-// A disc is rows of a record's kind, its place and its numbers. What of the header no read looks at is what `format`'s worked
-// disc has.
+// What of the header no read looks at is what `format`'s worked disc has.
 // P1: table 104, index 177, used 213. Its index has one entry: the zeros of the second lie past the end.
-const P1: [[u64; 15]; 4] = [
-    [ID, 0, AARUFRMT, S7, S7, S7, S7, S7, S7, S7, S7, 0, 0, 0, 0],
-    [HD, 72, 2, 0, 1, 2, 3, 177, 4, 5, 0, 0, 0, 0, 0],
-    [TB, 104, DDT, 1, 0, 0, 3, 24, 24, T1, T1, 0, 0, 0, 0],
-    [IX, 177, IDX2, 1, I1, DDT, 1, 104, 0, 0, 0, 0, 0, 0, 0],
+const CREATED: &[Record] = &[
+    Record(ID, 0, &[AARUFRMT, S7, S7, S7, S7, S7, S7, S7, S7]),
+    Record(HD, 72, &[2, 0, 1, 2, 3, 177, 4, 5]),
+    Record(TB, 104, &[DDT, 1, 0, 0, 3, 24, 24, T1, T1, 0, 0, 0]),
+    Record(IX, 177, &[IDX2, 1, I1, DDT, 1, 104, 0, 0, 0]),
 ];
 
 // P2, what is written over P1: block 213, table 257, index 330, used 382, shift 1, entries 426, 0, 427.
-const P2: [[u64; 15]; 4] = [
-    [HD, 72, 2, 0, 1, 2, 3, 330, 4, 6, 0, 0, 0, 0, 0],
-    [DB, 213, DBLK, 1, 0, 4, 8, 8, AB, AB, AAAA, BBBB, 0, 0, 0],
-    [TB, 257, DDT, 1, 0, 1, 3, 24, 24, T2, T2, 426, 0, 427, 0],
-    [IX, 330, IDX2, 2, I2, DDT, 1, 257, DBLK, 1, 213, 0, 0, 0, 0],
+const COMMITTED: &[Record] = &[
+    Record(HD, 72, &[2, 0, 1, 2, 3, 330, 4, 6]),
+    Record(DB, 213, &[DBLK, 1, 0, 4, 8, 8, AB, AB, AAAA, BBBB]),
+    Record(TB, 257, &[DDT, 1, 0, 1, 3, 24, 24, T2, T2, 426, 0, 427]),
+    Record(IX, 330, &[IDX2, 2, I2, DDT, 1, 257, DBLK, 1, 213]),
 ];
 
 // P3, what is written over P2: no block, table 382, index 455, used 507, entries 426, 426, 427.
-const P3: [[u64; 15]; 3] = [
-    [HD, 72, 2, 0, 1, 2, 3, 455, 4, 7, 0, 0, 0, 0, 0],
-    [TB, 382, DDT, 1, 0, 1, 3, 24, 24, T3, T3, 426, 426, 427, 0],
-    [IX, 455, IDX2, 2, I3, DDT, 1, 382, DBLK, 1, 213, 0, 0, 0, 0],
+const COMMITTED_AGAIN: &[Record] = &[
+    Record(HD, 72, &[2, 0, 1, 2, 3, 455, 4, 7]),
+    Record(TB, 382, &[DDT, 1, 0, 1, 3, 24, 24, T3, T3, 426, 426, 427]),
+    Record(IX, 455, &[IDX2, 2, I3, DDT, 1, 382, DBLK, 1, 213]),
 ];
+
+pub const P1: Disc = &[CREATED];
+
+pub const P2: Disc = &[CREATED, COMMITTED];
+
+pub const P3: Disc = &[CREATED, COMMITTED, COMMITTED_AGAIN];
 
 // P2's sectors in 273 bytes: index 104, block 156, and the table last, at 200, where the image's end can cut it short.
-const TABLE_LAST: [[u64; 15]; 5] = [
-    [ID, 0, AARUFRMT, S7, S7, S7, S7, S7, S7, S7, S7, 0, 0, 0, 0],
-    [HD, 72, 2, 0, 1, 2, 3, 104, 4, 5, 0, 0, 0, 0, 0],
-    [IX, 104, IDX2, 2, I4, DDT, 1, 200, DBLK, 1, 156, 0, 0, 0, 0],
-    [DB, 156, DBLK, 1, 0, 4, 8, 8, AB, AB, AAAA, BBBB, 0, 0, 0],
-    [TB, 200, DDT, 1, 0, 1, 3, 24, 24, T4, T4, 312, 0, 313, 0],
-];
+pub const TABLE_LAST: Disc = &[&[
+    Record(ID, 0, &[AARUFRMT, S7, S7, S7, S7, S7, S7, S7, S7]),
+    Record(HD, 72, &[2, 0, 1, 2, 3, 104, 4, 5]),
+    Record(IX, 104, &[IDX2, 2, I4, DDT, 1, 200, DBLK, 1, 156]),
+    Record(DB, 156, &[DBLK, 1, 0, 4, 8, 8, AB, AB, AAAA, BBBB]),
+    Record(TB, 200, &[DDT, 1, 0, 1, 3, 24, 24, T4, T4, 312, 0, 313]),
+]];
 
 // The same in another order: index 104, table 156, and the block last, at 229.
-const BLOCK_LAST: [[u64; 15]; 5] = [
-    [ID, 0, AARUFRMT, S7, S7, S7, S7, S7, S7, S7, S7, 0, 0, 0, 0],
-    [HD, 72, 2, 0, 1, 2, 3, 104, 4, 5, 0, 0, 0, 0, 0],
-    [IX, 104, IDX2, 2, I5, DDT, 1, 156, DBLK, 1, 229, 0, 0, 0, 0],
-    [TB, 156, DDT, 1, 0, 1, 3, 24, 24, T5, T5, 458, 0, 459, 0],
-    [DB, 229, DBLK, 1, 0, 4, 8, 8, AB, AB, AAAA, BBBB, 0, 0, 0],
-];
+pub const BLOCK_LAST: Disc = &[&[
+    Record(ID, 0, &[AARUFRMT, S7, S7, S7, S7, S7, S7, S7, S7]),
+    Record(HD, 72, &[2, 0, 1, 2, 3, 104, 4, 5]),
+    Record(IX, 104, &[IDX2, 2, I5, DDT, 1, 156, DBLK, 1, 229]),
+    Record(TB, 156, &[DDT, 1, 0, 1, 3, 24, 24, T5, T5, 458, 0, 459]),
+    Record(DB, 229, &[DBLK, 1, 0, 4, 8, 8, AB, AB, AAAA, BBBB]),
+]];
 
 // A table of the second kind (11/13): index 104, block 156, and the table last, at 200; negative 1, blocks 5, overflow 1, alignment 2, dataShift 1. What
 // is not looked at is 9. Its entries are for address -1, item 1 of the block at 39 x 4; 0, not dumped; 1, item 0; 2, a status of 2; 3, item 1 of a block
 // at 40 x 4, which no index entry names.
-const SECOND: [[u64; 15]; 7] = [
-    [ID, 0, AARUFRMT, S7, S7, S7, S7, S7, S7, S7, S7, 0, 0, 0, 0],
-    [HD, 72, 2, 0, 1, 2, 3, 104, 4, 5, 0, 0, 0, 0, 0],
-    [IX, 104, IDX2, 2, I6, DDT2, 1, 200, DBLK, 1, 156, 0, 0, 0, 0],
-    [DB, 156, DBLK, 1, 0, 4, 8, 8, AB, AB, AAAA, BBBB, 0, 0, 0],
-    [TH, 200, DDT2, 1, 0, 1, 9, 9, 1, 5, 1, 9, 0, 0, 0],
-    [TS, 238, 2, 1, 9, 0, 5, 20, 20, T6, T6, 0, 0, 0, 0],
-    [
+pub const SECOND: Disc = &[&[
+    Record(ID, 0, &[AARUFRMT, S7, S7, S7, S7, S7, S7, S7, S7]),
+    Record(HD, 72, &[2, 0, 1, 2, 3, 104, 4, 5]),
+    Record(IX, 104, &[IDX2, 2, I6, DDT2, 1, 200, DBLK, 1, 156]),
+    Record(DB, 156, &[DBLK, 1, 0, 4, 8, 8, AB, AB, AAAA, BBBB]),
+    Record(TH, 200, &[DDT2, 1, 0, 1, 9, 9, 1, 5, 1, 9]),
+    Record(TS, 238, &[2, 1, 9, 0, 5, 20, 20, T6, T6]),
+    Record(
         TE,
         282,
-        0x1000_004f,
-        0x4e,
-        0x1000_004e,
-        0x2000_004e,
-        0x1000_0051,
-        0,
-        0,
-        0,
-        0,
-        0,
-        0,
-        0,
-        0,
-    ],
-];
+        &[0x1000_004f, 0x4e, 0x1000_004e, 0x2000_004e, 0x1000_0051],
+    ),
+]];
 
-// Writes a field of the record that starts there: 01's "at", the width and the number.
-pub fn set(image: &mut [u8; 512], start: u64, at: u64, width: u64, number: u64)
-    requires { start + at + width ≤ 512 }
-{
-    fields::put(image, start + at, width, number);
-}
-
-// Writes a record's fields one after another. One that is wider than 8 bytes, or that starts in the buffer's last 7, is left out.
-fn record(image: &mut [u8; 512], widths: &[u64; 13], row: &[u64; 15]) {
-    let mut at = row[1];
-    // an iteration for each field
-    for i in 0..13 {
-        let width = widths[i];
-        if at <= 504 {
-            if width <= 8 {
-                fields::put(image, at, width, row[i + 2]);
-                at += width;
-            }
-        }
+// Writes a record's fields one after another.
+fn write(image: &mut [u8], record: Record) {
+    let Record(widths, start, numbers) = record;
+    let mut at = start;
+    for (width, number) in widths.iter().zip(numbers) {
+        set(image, at, *width, *number);
+        at = at.saturating_add(*width);
     }
 }
 
-// Writes records.
-fn records(image: &mut [u8; 512], rows: &[[u64; 15]]) {
-    // an iteration for each record
-    for row in rows {
-        let kind = row[0] as usize;
-        if kind < 8 {
-            let widths = WIDTHS[kind];
-            record(image, &widths, row);
+// The disc's image, and zeros behind it.
+pub fn laid(disc: Disc) -> [u8; 512] {
+    let mut image = [0u8; 512];
+    for records in disc {
+        for record in *records {
+            write(&mut image, *record);
         }
     }
-}
-
-pub fn p1(image: &mut [u8; 512]) {
-    records(image, &P1);
-}
-
-pub fn p2(image: &mut [u8; 512]) {
-    p1(image);
-    records(image, &P2);
-}
-
-pub fn p3(image: &mut [u8; 512]) {
-    p2(image);
-    records(image, &P3);
-}
-
-pub fn table_last(image: &mut [u8; 512]) {
-    records(image, &TABLE_LAST);
-}
-
-pub fn block_last(image: &mut [u8; 512]) {
-    records(image, &BLOCK_LAST);
-}
-
-pub fn second(image: &mut [u8; 512]) {
-    records(image, &SECOND);
+    image
 }

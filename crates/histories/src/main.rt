@@ -4,9 +4,9 @@
 
 use std::io;
 
-mod script; // cases as rows of numbers
-mod calls; // rows that create, commit and roll back
-mod asks; // rows that read
+mod script; // cases as steps
+mod calls; // steps that create, commit and roll back
+mod asks; // steps that read
 mod worked_disc; // P1 to P8
 mod buffers; // buffers that are full, and short ones
 mod order; // each call's order of checks
@@ -17,15 +17,22 @@ mod second; // a table of the second kind
 mod damage; // two blocks, one of them damaged
 
 // All 64 bits one: the largest number of 8 bytes.
-const ONES: u64 = 0xffff_ffff_ffff_ffff;
+const ONES: u64 = u64::MAX;
 
 fn main(rt: HostRuntime) -> io::Result<()> {
-    worked_disc::all(&rt)?;
-    buffers::all(&rt)?;
-    order::all(&rt)?;
-    takes::all(&rt)?;
-    sharing::all(&rt)?;
-    strange::all(&rt)?;
-    damage::all(&rt)?;
-    second::all(&rt)
+    for scripts in [
+        worked_disc::SCRIPTS,
+        buffers::SCRIPTS,
+        order::SCRIPTS,
+        takes::SCRIPTS,
+        sharing::SCRIPTS,
+        strange::SCRIPTS,
+        damage::SCRIPTS,
+        second::SCRIPTS,
+    ] {
+        for steps in scripts {
+            script::run(&rt, steps)?;
+        }
+    }
+    Ok(())
 }

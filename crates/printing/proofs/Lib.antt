@@ -1,1 +1,2 @@
 mod InPlace
+pub mod Fits

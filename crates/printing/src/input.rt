@@ -1,7 +1,8 @@
-// How a program reads a whole file on standard input.
+// How a program reads a whole file on standard input, and answers it.
 ghost use Rattle.std.specs.Prelude.{◌≡◌, ◌+◌, ◌<◌, ◌≤◌, length, take, drop, IfOk};
 ghost use Rattle.std.specs.Io.KnownBytes.{Consumes, IsAtEnd};
 
+use std::convert::AsSlice;
 use std::io;
 use std::io::Read;
 
@@ -32,4 +33,20 @@ fn read_at<R: Read>(input: &mut R, buf: &mut [u8], at: usize) -> io::Result<usiz
     ensures end { IfOk result (λ n. n ≡ 0 → IsAtEnd (R.remaining input.new)) }
 {
     input.read(&mut buf[at..])
+}
+
+// A whole program: prints what `f` makes of standard input, which is the front of `out`, as long as `f` says.
+pub fn answer_input<T: AsSlice<u8>, F: FnOnce(&[u8], &mut T) -> usize>(
+    rt: &HostRuntime,
+    out: &mut T,
+    f: F,
+) -> io::Result<()>
+    requires callable { F.IsAlwaysCallable f }
+    requires within { (input : _) (lent : _) (n : _) (after : _) → F.post f input lent n after → n ≤ length (T.items after.now) }
+{
+    // one byte more than the longest input, so that a longer one is seen to be longer
+    let mut input = [0u8; 65537];
+    let n = read_full(&mut rt.stdin(), &mut input)?;
+    let m = f(&input[..n], out);
+    rt.write_all(&out.as_slice()[..m])
 }

@@ -1,121 +1,106 @@
-// Internal: what the programs that run cases print, on standard output; letters, as their rows of numbers have them; and how a program
-// reads standard input.
+// Internal: what the programs that run cases share. What they print of the library's answers; what their rows write into a buffer, and
+// letters, as rows have them; and how a program reads standard input.
 #![tactic(auto)]
 
-ghost use Rattle.std.specs.Prelude.{◌≤◌, length, IfOk};
+ghost use Rattle.std.specs.Prelude.{◌≡◌, ◌⊎◌, ◌++◌, ◌∷◌, [], ◌==◌, false, All};
 
-use format::{AddressRange, Place, Refusal, SectorAddress};
-use std::io;
+use format::{AddressRange, Place, Placed, Refusal};
+use std::fmt;
+use std::fmt::Display;
 
 pub mod input;
 pub mod letters;
 
-pub fn text(rt: &impl Print, s: &[u8]) -> io::Result<()> {
-    rt.write_all(s)
-}
+// What is printed of a value.
+#[derive(Clone, Copy)]
+pub struct Shown<T>(pub T);
 
-// A word and a number.
-pub fn number(rt: &impl Print, word: &[u8], n: u64) -> io::Result<()> {
-    text(rt, word)?;
-    print!(rt; "{n}")
-}
-
-// A number of 64 bits, in hexadecimal.
-pub fn hex(rt: &impl Print, n: u64) -> io::Result<()> {
-    print!(rt; "{n:016x}")
-}
-
-// A byte, in hexadecimal.
-pub fn byte(rt: &impl Print, x: u8) -> io::Result<()> {
-    print!(rt; "{x:02x}")
-}
-
-// Bytes, in hexadecimal.
-pub fn bytes(rt: &impl Print, s: &[u8]) -> io::Result<()> {
-    for x in s {
-        byte(rt, *x)?;
+// The number and the place.
+impl Display for Shown<Refusal> {
+    fn fmt<W: fmt::Write>(&self, f: &mut fmt::Formatter<W>) -> fmt::Result {
+        let Refusal { number, place } = self.0;
+        write!(f, "refused {number} at {}", place.0)
     }
-    Ok(())
-}
-
-// A refusal: its number and its place.
-pub fn refused(rt: &impl Print, r: Refusal) -> io::Result<()> {
-    number(rt, b"refused ", r.number as u64)?;
-    let place = r.place;
-    number(rt, b" at ", place.0)
-}
-
-// A whole number, with a minus where it is negative.
-pub fn signed(rt: &impl Print, x: i64) -> io::Result<()> {
-    print!(rt; "{x}")
-}
-
-// An address from 2^63 on stands for minus what it is above that, in rows of numbers.
-pub const MINUS: u64 = 0x8000_0000_0000_0000;
-
-// The address that a number of a row stands for; negative ones have at most two bytes.
-pub fn address(n: u64) -> SectorAddress {
-    if n < MINUS {
-        return SectorAddress(n as i64);
-    }
-    SectorAddress(-((n % 65536) as i64))
 }
 
 // How many sectors there are, and the lowest address where it is not 0.
-pub fn range(rt: &impl Print, s: AddressRange) -> io::Result<()> {
-    number(rt, b"sectors ", s.count)?;
-    let lowest = s.lowest;
-    if lowest.0 != 0 {
-        text(rt, b" from ")?;
-        signed(rt, lowest.0)?;
-    }
-    Ok(())
-}
-
-// A sector count, or the refusal.
-pub fn counted(rt: &impl Print, answer: Result<AddressRange, Refusal>) -> io::Result<()> {
-    match answer {
-        Ok(s) => range(rt, s),
-        Err(r) => refused(rt, r),
-    }
-}
-
-// A sector's place and size, or the refusal.
-pub fn located(rt: &impl Print, answer: Result<Place, Refusal>) -> io::Result<()> {
-    match answer {
-        Ok(p) => {
-            let start = p.start;
-            number(rt, b"", start.0)?;
-            number(rt, b" ", p.size)
+impl Display for Shown<AddressRange> {
+    fn fmt<W: fmt::Write>(&self, f: &mut fmt::Formatter<W>) -> fmt::Result {
+        let AddressRange { count, lowest } = self.0;
+        match lowest.0 {
+            0 => write!(f, "sectors {count}"),
+            address => write!(f, "sectors {count} from {address}"),
         }
-        Err(r) => refused(rt, r),
     }
 }
 
-// Where the line that starts there ends: at its newline, or at the end of the lines.
-pub fn line_end(lines: &[u8], start: usize) -> usize
-    requires { start ≤ length lines.now }
-    ensures { (start ≤ result) × (result ≤ length lines.now) }
-{
-    let rest = &lines[start..];
-    // at most a step for each byte of the line
-    start + rest.iter().position(|b| *b == b'\n').unwrap_or(rest.len())
+// Where a sector lies, and its size.
+impl Display for Shown<Place> {
+    fn fmt<W: fmt::Write>(&self, f: &mut fmt::Formatter<W>) -> fmt::Result {
+        let Place { start, size } = self.0;
+        write!(f, "{} {size}", start.0)
+    }
 }
 
-// Where the line after the one that ends there starts.
-pub fn next_line(lines: &[u8], end: usize) -> usize
-    requires { end ≤ length lines.now }
-    ensures { result ≤ length lines.now }
-{
-    (end + 1).min(lines.len())
+// How many bytes an image has, and where its index is.
+impl Display for Shown<Placed> {
+    fn fmt<W: fmt::Write>(&self, f: &mut fmt::Formatter<W>) -> fmt::Result {
+        let Placed { used, index } = self.0;
+        write!(f, "used {used}, index {}", index.0)
+    }
 }
 
-// Prints the line that starts there, and says where the next one does.
-pub fn line(rt: &impl Print, lines: &[u8], start: usize) -> io::Result<usize>
-    requires { start ≤ length lines.now }
-    ensures { IfOk result (λ next. next ≤ length lines.now) }
+// An answer of the library.
+impl<T: Copy> Display for Shown<Result<T, Refusal>>
+where
+    Shown<T>: Display,
 {
-    let end = line_end(lines, start);
-    text(rt, &lines[start..end])?;
-    Ok(next_line(lines, end))
+    fn fmt<W: fmt::Write>(&self, f: &mut fmt::Formatter<W>) -> fmt::Result {
+        match self.0 {
+            Ok(x) => write!(f, "{}", Shown(x)),
+            Err(r) => write!(f, "{}", Shown(r)),
+        }
+    }
+}
+
+// Bytes, in hexadecimal.
+#[derive(Clone, Copy)]
+pub struct Hex<'a>(pub &'a [u8]);
+
+impl Display for Hex<'_> {
+    fn fmt<W: fmt::Write>(&self, f: &mut fmt::Formatter<W>) -> fmt::Result {
+        for byte in self.0 {
+            write!(f, "{byte:02x}")?;
+        }
+        Ok(())
+    }
+}
+
+// The first line of a text, and what stands below it: nothing where no newline ends the line.
+pub fn split_line(text: &[u8]) -> (&[u8], &[u8])
+    ensures line { All (λ byte. (byte == 10) ≡ false) result.0.now }
+    ensures parts { (text.now ≡ result.0.now ++ (10 ∷ result.1.now)) ⊎ ((text.now ≡ result.0.now) × (result.1.now ≡ [])) }
+{
+    match text.iter().position(|byte| *byte == b'\n') {
+        Some(end) => (&text[..end], &text[end + 1..]),
+        None => (text, b""),
+    }
+}
+
+// Writes the `width` lowest bytes of a number at `at`, the lowest first. What lies past the end is left out.
+pub fn set(buffer: &mut [u8], at: u64, width: u64, number: u64) {
+    let field = buffer.iter_mut().skip(at as usize);
+    for (byte, new) in field.zip(number.to_le_bytes().iter().take(width as usize)) {
+        *byte = *new;
+    }
+}
+
+// Writes the checksum of the n bytes from `start` at `at`; none where they lie past the end.
+pub fn seal(buffer: &mut [u8], at: u64, start: u64, n: u64) {
+    if let Some(rest) = buffer.get(start as usize..) {
+        if let Some(bytes) = rest.get(..n as usize) {
+            let crc = crc64::checksum(bytes);
+            set(buffer, at, 8, crc);
+        }
+    }
 }
