@@ -1,6 +1,6 @@
 // The calls, and the lines that say what they answer and whether they wrote what document 01 allows and nothing else.
 use super::script::LENGTH;
-use aaru::{ByteOffset, Placed, Refusal};
+use aaru::{ByteOffset, Placed, Refusal, Stamp};
 use printing::{Shown, split_line};
 use std::io;
 
@@ -39,8 +39,15 @@ fn create(
     written: u64,
 ) -> Result<Placed, Refusal> {
     let application = [7u8; 65];
-    let application = &application[..n.min(65)];
-    aaru::create(buffer, count, application, 1, 2, 3, created, written)
+    let stamp = Stamp {
+        application: &application[..n.min(65)],
+        major: 1,
+        minor: 2,
+        media_type: 3,
+        created,
+        written,
+    };
+    aaru::create(buffer, count, stamp)
 }
 
 fn commit_many(
