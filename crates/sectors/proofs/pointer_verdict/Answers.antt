@@ -9,7 +9,6 @@ use Rattle.sectors.proofs.Known.{known-block, known-verdict}
 use Rattle.sectors.proofs.pointer_verdict.Goals as goal
 use Rattle.sectors.proofs.pointer_verdict.Goals.{Then-is_known}
 
-
 known : (c : Then-is_known) → Intact c.args.image.bytes.now c.args.p.block.0
 known c = known-block (Intact _) _ _ c.requires (by c.is_known.ensures c.if-is_known.true)
 
