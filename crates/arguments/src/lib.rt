@@ -11,7 +11,9 @@ ghost use Rattle.format.specs.Committing.{rising, arguments_verdict};
 ghost use Rattle.format.specs.Importing.{import_verdict};
 ghost use Rattle.format.specs.Flattening.{lent_verdict};
 
-use format::{APPLICATION_LENGTH, CREATED_ENTRIES, Check, Refusal};
+use format::{
+    APPLICATION_LENGTH, CREATED_ENTRIES, Check, LARGEST_SIZE, MOST_ADDRESSES, MOST_SECTORS, Refusal,
+};
 
 const LONGEST_BUFFER: u64 = 4294967296;
 
@@ -19,13 +21,11 @@ const LONGEST_BUFFER: u64 = 4294967296;
 const CREATED_LENGTH: u64 = CREATED_ENTRIES + 20 + 16;
 
 // A new image's sector count: check 30.
+#[tactic(auto, using(format::proofs::Tests::either_test))]
 fn count_refused(count: u64) -> bool
     ensures { result ≡ (same count 0 or below most_sectors count) }
 {
-    if count == 0 {
-        return true;
-    }
-    1048576 < count
+    count == 0 || MOST_SECTORS < count
 }
 
 // The application's name: check 33.
@@ -70,16 +70,11 @@ pub fn buffer_verdict(buffer: &[u8], used: u64) -> Result<(), Refusal>
 }
 
 // A commit's sector size and number of addresses: check 30.
+#[tactic(auto, using(format::proofs::Tests::either_test))]
 fn size_refused(size: u64, count: u64) -> bool
     ensures { result ≡ (same size 0 or below largest_size size or below most_addresses count) }
 {
-    if size == 0 {
-        return true;
-    }
-    if 65536 < size {
-        return true;
-    }
-    65536 < count
+    size == 0 || LARGEST_SIZE < size || MOST_ADDRESSES < count
 }
 
 // Whether the addresses are strictly rising.
@@ -122,19 +117,11 @@ pub fn commit_verdict(
 }
 
 // An import's sector size and the length of its file: check 30.
+#[tactic(auto, using(format::proofs::Tests::either_test))]
 fn file_refused(size: u64, length: u64) -> bool
     ensures { result ≡ (same size 0 or below largest_size size or same length 0 or below (most_addresses * size) length) }
 {
-    if size == 0 {
-        return true;
-    }
-    if 65536 < size {
-        return true;
-    }
-    if length == 0 {
-        return true;
-    }
-    65536 * size < length
+    size == 0 || LARGEST_SIZE < size || length == 0 || MOST_ADDRESSES * size < length
 }
 
 // An import's arguments: 31, 30, 42, 33.

@@ -5,7 +5,7 @@ use mathlib.Core.Logic.Iff
 use mathlib.Core.Logic.{inl, ◌↔◌}
 use mathlib.Core.Path.{◌≡◌, refl, sym, ap, ◌∙◌}
 use Prim.Native.Nat.{ℕ, ◌/◌, ◌<◌}
-use Rattle.std.specs.Prelude.{Ok, Err, is_err}
+use Rattle.std.specs.Prelude.{Ok, Err, is_ok}
 use Rattle.format.specs.declared.Pointer.{Pointer}
 use Rattle.format.specs.Refusals.{refusal, ◌then◌, Verdict}
 use Rattle.format.specs.Layouts.{sector_size, block_length}
@@ -31,20 +31,20 @@ unfolding entry_form
 entry-form-ok img t n e = let k = ((then-iff (row-iff (refusal 73 0) Iff.rfl) (form-ok img (table_entry_at t n) (pointer_at img t n))).0 e).1 in (k.0, k.1.0)
 
 -- ---- a damaged block
-passed : (v : Verdict) → is_err v ≡ false → v ≡ Ok tt
+passed : (v : Verdict) → is_ok v ≡ true → v ≡ Ok tt
 passed (Ok tt) e = refl
-passed (Err r) e = absurd (true≢false e)
+passed (Err r) e = absurd (true≢false (sym e))
 
-refused : (v : Verdict) (d : Bool) → is_err v ≡ true → false ≡ only_after v d
+refused : (v : Verdict) (d : Bool) → is_ok v ≡ false → false ≡ only_after v d
 unfolding only_after
-refused (Ok tt) d e = absurd (true≢false (sym e))
+refused (Ok tt) d e = absurd (true≢false e)
 refused (Err r) d e = refl
 
 module _ (img : List ℕ) (b : ℕ) where
-  pub well_formed : is_err (block_verdict img b) ≡ false → BlockOk img b
+  pub well_formed : is_ok (block_verdict img b) ≡ true → BlockOk img b
   well_formed e = (block-ok img b).0 (passed _ e)
 
-  pub damaged-refused : is_err (block_verdict img b) ≡ true → false ≡ damaged img b
+  pub damaged-refused : is_ok (block_verdict img b) ≡ false → false ≡ damaged img b
   unfolding damaged
   damaged-refused e = refused (block_verdict img b) (wrong_sum img b) e
 

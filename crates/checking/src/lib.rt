@@ -65,13 +65,7 @@ fn is_left<'a>(c: Child<'a>, t: Opened, n: EntryNumber) -> bool
     let u = child.found;
     match u.entry_number(t.address(n)) {
         None => false,
-        Some(m) => {
-            let limit = c.limit;
-            if m.0 < limit.0 {
-                return u.is_unwritten(child.table_entry(m));
-            }
-            false
-        }
+        Some(m) => m < c.limit && u.is_unwritten(child.table_entry(m)),
     }
 }
 
@@ -87,14 +81,12 @@ fn is_in_scope<'a>(scope: Scope<'a>, t: Opened, n: EntryNumber) -> bool
 }
 
 // Whether table entry n, whose number is e, is looked at: it is written and in the scope.
+#[tactic(auto, using(format::proofs::Tests::each_test))]
 fn is_looked_at<'a>(scope: Scope<'a>, t: Opened, n: EntryNumber, e: u64) -> bool
     requires { n.0 < 2 ^ 63 }
     ensures { result ≡ (not (unwritten (contents t).kind e) and in_scope scope.entry (contents t) n.0) }
 {
-    if t.is_unwritten(e) {
-        return false;
-    }
-    is_in_scope(scope, t, n)
+    !t.is_unwritten(e) && is_in_scope(scope, t, n)
 }
 
 // What p, whose table entry stands at `place`, points to, but for the block's checksums: checks 22 to 26. Of the block that is known only
@@ -171,15 +163,13 @@ fn first_form<'a, 'b>(image: Image<'a>, scope: Scope<'b>) -> First
 fn is_damaged(s: &[u8], b: ByteOffset) -> bool
     ensures { result ≡ damaged s.now b.0 }
 {
-    if sectors::block_verdict(s, b).is_err() {
-        return false;
-    }
     let block = b.0;
-    tables::sums_differ(
-        part(s, block + 36, get(s, block + 16, 4)),
-        get(s, block + 20, 8),
-        get(s, block + 28, 8),
-    )
+    sectors::block_verdict(s, b).is_ok()
+        && tables::sums_differ(
+            part(s, block + 36, get(s, block + 16, 4)),
+            get(s, block + 20, 8),
+            get(s, block + 28, 8),
+        )
 }
 
 // The first table entry of the scope below `first` that points into the damaged block at b, with 27; `first` where there is none.
@@ -188,17 +178,14 @@ fn first_into<'a, 'b>(image: Image<'a>, scope: Scope<'b>, b: ByteOffset, first: 
     ensures { (left : List ℕ) → has b.0 left ≡ false → FirstLeft image.entry.bytes.now (held image.entry) (looked_at image.entry.bytes.now (held image.entry) scope.entry) (b.0 ∷ left) first → FirstLeft image.entry.bytes.now (held image.entry) (looked_at image.entry.bytes.now (held image.entry) scope.entry) left result }
 {
     let t = image.found;
-    let limit = first.number;
     // an iteration for each entry below, up to the first that points into the block
-    for a in 0..limit.0 {
+    for a in 0..first.number.0 {
         let here = EntryNumber(a);
         let e = image.table_entry(here);
         if !is_looked_at(scope, t, here, e) {
             continue;
         }
-        let p = t.decoded(e);
-        let block = p.block;
-        if block.0 == b.0 {
+        if t.decoded(e).block == b {
             return First {
                 number: here,
                 verdict: Err(Refusal::at(Check::BlockChecksum, b)),
@@ -275,9 +262,8 @@ pub fn first_unwritten<'a>(image: Image<'a>, first: First) -> First
     requires { FirstRefused image.bytes.now (held image) first }
     ensures { FirstOfAll image.entry.bytes.now (held image.entry) result }
 {
-    let limit = first.number;
     // an iteration for each entry below, up to the first that is not written
-    for n in 0..limit.0 {
+    for n in 0..first.number.0 {
         let here = EntryNumber(n);
         if image.found.is_unwritten(image.table_entry(here)) {
             return First {

@@ -7,6 +7,7 @@ use mathlib.Core.Path.{◌≡◌, refl, sym, ap, ◌∙◌}
 use Prim.Native.Nat.{ℕ, ◌≤◌, ◌<◌}
 use lib.Dec.{T}
 use borrow.Author.Tests.{ltb-true, ltb-false, leb-false, eqb-true, eqb-false, not-false, lt-ltb, le-ltb, le-leb, lt-leb, eq-eqb, ne_eqb}
+use Rattle.std.specs.Prelude.{nat_eq, nat_lt, nat_le}
 use Rattle.format.specs.Tests.{same, differs, below, at_least, ◌or◌, ◌and◌, choose}
 
 pub on-or-off : (b : Bool) → (b ≡ true) ⊎ (b ≡ false)
@@ -54,6 +55,40 @@ module _ (a b : ℕ) where
   pub differs_true : a ≢ b → differs a b ≡ true
   unfolding differs
   differs_true h = ap not (ne_eqb a b h)
+
+  -- a no from a fact
+  pub below_false : b ≤ a → below a b ≡ false
+  unfolding below
+  below_false h = le-ltb a b h
+
+  pub at_least-false : a < b → at_least a b ≡ false
+  unfolding at_least
+  at_least-false h = lt-leb b a h
+
+  pub same_false : a ≢ b → same a b ≡ false
+  unfolding same
+  same_false h = ne_eqb a b h
+
+  pub differs_false : a ≡ b → differs a b ≡ false
+  unfolding differs
+  differs_false h = ap not (eq-eqb a b h)
+
+  -- the code's tests
+  pub below_is : below a b ≡ nat_lt a b
+  unfolding below
+  below_is = refl
+
+  pub at_least_is : at_least a b ≡ nat_le b a
+  unfolding at_least
+  at_least_is = refl
+
+  pub same_is : same a b ≡ nat_eq a b
+  unfolding same
+  same_is = refl
+
+  pub differs_is : differs a b ≡ not (nat_eq a b)
+  unfolding differs
+  differs_is = refl
 
 module _ {a b : ℕ} where
   pub below-iff : (below a b ≡ false) ↔ (b ≤ a)
@@ -116,6 +151,29 @@ and-on false b h = absurd (never h refl)
 pub and-true : (a b : Bool) → a ≡ true → b ≡ true → (a and b) ≡ true
 unfolding ◌and◌
 and-true a b p q = rw (p, q)
+
+pub and-rest : {a : Bool} (b : Bool) → a ≡ true → (a and b) ≡ b
+unfolding ◌and◌
+and-rest b p = rw p
+
+pub and-left : {b : Bool} (a : Bool) → b ≡ true → (a and b) ≡ a
+unfolding ◌and◌
+and-left true p = p
+and-left false p = refl
+
+pub and-false-left : (a b : Bool) → a ≡ false → (a and b) ≡ false
+unfolding ◌and◌
+and-false-left a b p = rw p
+
+pub and_false_right : (a b : Bool) → b ≡ false → (a and b) ≡ false
+unfolding ◌and◌
+and_false_right true b p = p
+and_false_right false b p = refl
+
+-- what tests joined by `||` or `&&` in the code answer, for a function's proof to find
+pub ruleset either_test = (same_is, differs_is, below_is, at_least_is, same_true, same_false, differs_true, differs_false, below_true, below_false, at_least-true, at_least-false, or-true-left, or_true_right, or-rest)
+
+pub ruleset each_test = (same_is, differs_is, below_is, at_least_is, same_true, same_false, differs_true, differs_false, below_true, below_false, at_least-true, at_least-false, and-false-left, and_false_right, and-rest, and-left)
 
 -- ---- a choice
 pub choose-true : {A : Type 0} (b : Bool) (x y : A) → b ≡ true → choose b x y ≡ x

@@ -8,23 +8,23 @@ ghost use Rattle.format.specs.Refusals.{refusal};
 ghost use Rattle.format.specs.Checks.{number_of};
 
 // A place in an image.
-#[derive(Clone, Copy)]
+#[derive(Clone, Copy, PartialEq, Eq, PartialOrd, Ord)]
 pub struct ByteOffset(pub u64);
 
 // Which item of a data block.
-#[derive(Clone, Copy)]
+#[derive(Clone, Copy, PartialEq, Eq, PartialOrd, Ord)]
 pub struct ItemNumber(pub u64);
 
 // Which sector of a disc. 11/13: "Addresses become signed".
-#[derive(Clone, Copy)]
+#[derive(Clone, Copy, PartialEq, Eq, PartialOrd, Ord)]
 pub struct SectorAddress(pub i64);
 
 // Which entry of a disc's table: "the entry number is address + `negative`".
-#[derive(Clone, Copy)]
+#[derive(Clone, Copy, PartialEq, Eq, PartialOrd, Ord)]
 pub struct EntryNumber(pub u64);
 
 // The two kinds of table: 'DDT*' and 'DDT2' (11/13).
-#[derive(Clone, Copy)]
+#[derive(Clone, Copy, PartialEq, Eq)]
 pub enum TableKind {
     First,
     Second,
@@ -173,6 +173,13 @@ pub struct Flat {
     pub length: u64,
     pub filled: u64,
 }
+
+// The bounds of check 30: how many sectors a disc may have, the largest size of a sector, and how many addresses a commit may have.
+pub const MOST_SECTORS: u64 = 1048576;
+
+pub const LARGEST_SIZE: u64 = 65536;
+
+pub const MOST_ADDRESSES: u64 = 65536;
 
 // The header, as 2/13 has it: how many bytes it has, and where its fields stand. The identifier, at 0, has 8 bytes.
 pub const HEADER_LENGTH: u64 = 104;

@@ -26,17 +26,12 @@ enum Tables {
 }
 
 // The image begins with neither of the two identifiers that a header may have.
+#[tactic(auto, using(format::proofs::Tests::each_test), unfolding(format::specs::Opening::lacks))]
 fn unknown(s: &[u8]) -> bool
     requires { 8 ≤ length s.now }
     ensures { result ≡ (lacks s.now 0 AARUFRMT and lacks s.now 0 DICMFRMT) }
 {
-    if spells(s, 0, b"AARUFRMT") {
-        return false;
-    }
-    if spells(s, 0, b"DICMFRMT") {
-        return false;
-    }
-    true
+    !spells(s, 0, b"AARUFRMT") && !spells(s, 0, b"DICMFRMT")
 }
 
 // The header: checks 1 to 3.
@@ -100,8 +95,7 @@ fn entry_verdict(s: &[u8], p: ByteOffset, e: Entry) -> Result<(), Refusal>
     requires { e ≡ entry_at s.now p.0 }
     ensures { result ≡ entry_verdict s.now p.0 }
 {
-    let offset = e.offset;
-    let at = offset.0;
+    let at = e.offset.0;
     if at < HEADER_LENGTH {
         return Err(Refusal::at(Check::EntryOutside, p));
     }
@@ -124,26 +118,19 @@ pub fn is_type(e: Entry, letters: &[u8; 4]) -> bool
 }
 
 // The entry is for this kind of block, of user data.
+#[tactic(auto, using(format::proofs::Tests::each_test), unfolding(format::specs::Opening::is_user_data))]
 pub fn is_user_data(e: Entry, letters: &[u8; 4]) -> bool
     ensures { result ≡ is_user_data letters.now e }
 {
-    if !is_type(e, letters) {
-        return false;
-    }
-    if e.dataType != 1 {
-        return false;
-    }
-    true
+    is_type(e, letters) && e.dataType == 1
 }
 
 // The entry is for a table of either kind, of user data.
+#[tactic(auto, using(format::proofs::Tests::either_test), unfolding(format::specs::Opening::is_table))]
 fn is_table(e: Entry) -> bool
     ensures { result ≡ is_table e }
 {
-    if is_user_data(e, b"DDT*") {
-        return true;
-    }
-    is_user_data(e, b"DDT2")
+    is_user_data(e, b"DDT*") || is_user_data(e, b"DDT2")
 }
 
 // The tables seen so far, and one more entry.
@@ -151,9 +138,8 @@ fn with_entry(seen: Tables, e: Entry) -> Tables
     ensures { (o : ℕ) (l : List ℕ) → one_answer o (before result l) ≡ one_answer o (before seen (choose (is_table e) (e.offset.0 ∷ l) l)) }
 {
     if is_table(e) {
-        let offset = e.offset;
         return match seen {
-            Tables::None => Tables::One(offset),
+            Tables::None => Tables::One(e.offset),
             Tables::One(_) => Tables::More,
             Tables::More => Tables::More,
         };

@@ -22,9 +22,8 @@ fn kept_entry(e: Entry, table: ByteOffset) -> Entry
 {
     if index::is_user_data(e, b"DDT*") {
         return Entry {
-            blockType: e.blockType,
-            dataType: e.dataType,
             offset: table,
+            ..e
         };
     }
     e

@@ -29,8 +29,7 @@ pub fn pair_verdict<'a>(
     match opened {
         Err(r) => {
             let gap = checking::first_unwritten(child, own);
-            let here = gap.number;
-            if here.0 < limit.0 {
+            if gap.number < limit {
                 return Err(pairs::parent_refusal(r));
             }
             own.verdict

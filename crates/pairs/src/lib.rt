@@ -18,7 +18,9 @@ ghost use Rattle.pairs.specs.Pairs.{entry_answer, EntryChecked, held_below};
 ghost use Rattle.pairs.specs.Sectors.{sector_of, written_in};
 
 use fields::part;
-use format::{Check, EntryNumber, Refusal, SectorAddress};
+use format::{
+    Check, EntryNumber, LARGEST_SIZE, MOST_ADDRESSES, MOST_SECTORS, Refusal, SectorAddress,
+};
 use opening::Image;
 
 mod pair; // the pair: the two images, all of whose sectors were checked
@@ -52,15 +54,15 @@ fn entry_sector<'a>(image: Image<'a>, n: EntryNumber) -> &'a [u8]
         return part(s, 0, 0);
     }
     let place = sectors::place(s, t.decoded(e));
-    let start = place.start;
-    part(s, start.0, place.size)
+    part(s, place.start.0, place.size)
 }
 
 // Check 30 of a disc of so many addresses, of which so many have a sector, and of this size.
+#[tactic(auto, using(format::proofs::Tests::either_test))]
 fn is_over(count: u64, size: u64, written: u64) -> bool
     ensures { result ≡ (same count 0 or below most_sectors count or below largest_size size or below most_addresses written) }
 {
-    count == 0 || 1048576 < count || 65536 < size || 65536 < written
+    count == 0 || MOST_SECTORS < count || LARGEST_SIZE < size || MOST_ADDRESSES < written
 }
 
 impl<'a> Pair<'a> {

@@ -36,17 +36,12 @@ pub struct Near {
 }
 
 // The entry names a data block at b, of user data.
+#[tactic(auto, using(format::proofs::Tests::each_test))]
 fn names_block(e: Entry, b: ByteOffset) -> bool
     ensures { result ≡ (is_user_data DBLK e and same e.offset.0 b.0) }
 {
     // the offset first, in which most entries differ
-    let offset = e.offset;
-    if offset.0 == b.0 {
-        if is_user_data(e, b"DBLK") {
-            return true;
-        }
-    }
-    false
+    e.offset == b && is_user_data(e, b"DBLK")
 }
 
 // One of the `left` index entries from `first` on names a data block at b. At most one pass over them.
@@ -71,26 +66,15 @@ pub fn is_indexed<'a>(index: Index<'a>, b: ByteOffset) -> bool
 }
 
 // The block at b: check 25.
+#[tactic(auto, using(format::proofs::Tests::either_test), unfolding(format::specs::Reading::block_malformed))]
 fn block_malformed(s: &[u8], b: ByteOffset) -> bool
     requires { b.0 + 36 ≤ length s.now }
     ensures { result ≡ block_malformed s.now b.0 }
 {
     let block = b.0;
-    if get(s, block + 4, 2) != 1 {
-        return true;
-    }
     let size = get(s, block + 8, 4);
-    if size == 0 {
-        return true;
-    }
     let length = get(s, block + 16, 4);
-    if get(s, block + 12, 4) != length {
-        return true;
-    }
-    if length % size != 0 {
-        return true;
-    }
-    false
+    get(s, block + 4, 2) != 1 || size == 0 || get(s, block + 12, 4) != length || length % size != 0
 }
 
 // The block at b: checks 23 to 25, and 23 of its payload.
@@ -120,10 +104,9 @@ pub fn number_verdict(s: &[u8], p: Pointer) -> Result<(), Refusal>
 {
     let place = p.block;
     let block = place.0;
-    let item = p.item;
     let length = get(s, block + 16, 4);
     let size = get(s, block + 8, 4);
-    if length / size <= item.0 {
+    if length / size <= p.item.0 {
         return Err(Refusal::at(Check::ItemOutside, p.block));
     }
     Ok(())
@@ -149,13 +132,11 @@ fn item_verdict(s: &[u8], p: Pointer) -> Result<(), Refusal>
 }
 
 // b is the block that is known.
+#[tactic(auto, unfolding(crate::specs::Found::is_known, format::specs::Tests::same))]
 pub fn is_known(b: ByteOffset, known: Option<ByteOffset>) -> bool
     ensures { result ≡ is_known known b.0 }
 {
-    match known {
-        None => false,
-        Some(k) => b.0 == k.0,
-    }
+    known == Some(b)
 }
 
 // What p, whose table entry stands at `place`, points to: checks 22 to 27. Of the block that is known only the item's number is looked at.

@@ -21,17 +21,12 @@ use format::{
 };
 
 // Either of two stored checksums is not that of the payload. One pass over the payload.
+#[tactic(auto, using(format::proofs::Tests::either_test), unfolding(format::specs::Opening::sums_differ))]
 pub fn sums_differ(payload: &[u8], stored1: u64, stored2: u64) -> bool
     ensures { result ≡ sums_differ (crc_of payload.now) stored1 stored2 }
 {
     let sum = checksum(payload);
-    if sum != stored1 {
-        return true;
-    }
-    if sum != stored2 {
-        return true;
-    }
-    false
+    sum != stored1 || sum != stored2
 }
 
 // How many bytes the header of a kind of table and its entries have, and where in the header stand the shift and, 8 bytes each, `entries`, cmpLength,
@@ -130,41 +125,28 @@ fn extent_verdict(s: &[u8], kind: TableKind, t: ByteOffset) -> Result<(), Refusa
     }
 }
 
-// length is width x count exactly if it is a multiple of width with that quotient; so no product wraps.
+// length is width x count, which does not wrap.
+#[tactic(auto, using(format::proofs::Tests::either_test))]
 fn is_whole(length: u64, width: u64, count: u64) -> bool
-    requires { 0 < width }
     ensures { result ≡ same length (width * count) }
 {
-    if length % width != 0 {
-        return false;
-    }
-    length / width == count
+    width.checked_mul(count) == Some(length)
 }
 
 // The table at t: check 12.
+#[tactic(auto, using(format::proofs::Tests::either_test), unfolding(format::specs::Opening::table_malformed))]
 fn table_malformed(s: &[u8], kind: TableKind, t: ByteOffset) -> bool
     requires { t.0 + table_header_length_of kind ≤ length s.now }
     ensures { result ≡ table_malformed s.now kind t.0 }
 {
     let l = layout_of(kind);
     let table = t.0;
-    if get(s, table + 4, 2) != 1 {
-        return true;
-    }
-    if 32 < get(s, table + l.shift, 1) {
-        return true;
-    }
-    if 32 < alignment_at(s, kind, t) {
-        return true;
-    }
     let length = get(s, table + (l.entries + 16), 8);
-    if !is_whole(length, l.width, get(s, table + l.entries, 8)) {
-        return true;
-    }
-    if get(s, table + (l.entries + 8), 8) != length {
-        return true;
-    }
-    false
+    get(s, table + 4, 2) != 1
+        || 32 < get(s, table + l.shift, 1)
+        || 32 < alignment_at(s, kind, t)
+        || !is_whole(length, l.width, get(s, table + l.entries, 8))
+        || get(s, table + (l.entries + 8), 8) != length
 }
 
 // The payload of the table at t, whose header passed: checks 11 and 14. One pass over its entries for the checksum.
@@ -208,13 +190,11 @@ pub fn table_verdict(s: &[u8], kind: TableKind, t: ByteOffset) -> Result<(), Ref
 }
 
 // The table is of the second kind.
+#[tactic(auto, unfolding(format::specs::Writing::is_second))]
 pub fn is_second(kind: TableKind) -> bool
     ensures { result ≡ is_second kind }
 {
-    match kind {
-        TableKind::First => false,
-        TableKind::Second => true,
-    }
+    kind == TableKind::Second
 }
 
 // What a pointer means. 11/13: "Byte offset = pointer / 2^dataShift, whole part, times 2^blockAlignmentShift; item number = the remainder."

@@ -1,3 +1,5 @@
+use borrow.Author.Rules.{rules}
+use mathlib.Core.Logic.{◌≢◌}
 use native.Mathlib.Omega.{arith}
 use borrow.Author.Count.{below_more}
 use mathlib.Core.Path.{◌≡◌, ap, ◌∙◌}
@@ -12,7 +14,7 @@ use Rattle.checking.specs.Checked.{looked_at}
 use Rattle.checking.proofs.Looked.{found, stays}
 use Rattle.checking.proofs.Scopes.{looked-is}
 use Rattle.checking.proofs.first_into.Goals as goal
-use Rattle.checking.proofs.first_into.Goals.{After-decoded-p, After-is_looked_at}
+use Rattle.checking.proofs.first_into.Goals.{After-decoded, After-is_looked_at}
 
 pub loop-a-init : goal.loop-a-init
 loop-a-init c = (omega arith, λ i l. absurd (omega arith))
@@ -24,8 +26,8 @@ pub is_looked_at-requires : goal.is_looked_at-requires
 is_looked_at-requires c =
     let f = few _ _ c.args.image.opens in omega (arith, f, c.requires.0)
 
-pub decoded-p-requires : goal.decoded-p-requires
-decoded-p-requires c = decodes _ _ c.args.image.opens
+pub decoded-requires : goal.decoded-requires
+decoded-requires c = decodes _ _ c.args.image.opens
 
 -- whether it is looked at, and where it points
 looks : (c : After-is_looked_at)
@@ -33,21 +35,22 @@ looks : (c : After-is_looked_at)
     c.is_looked_at.result ≡ looked_at r.image.bytes.now (held r.image) r.scope c.loop-a.a
 looks c = looked-is _ _ _ _ c.table_entry-e.ensures c.is_looked_at.ensures
 
-block-is : (c : After-decoded-p)
+block-is : (c : After-decoded)
     → let r = c.args in
-    c.decoded-p.result.block.0 ≡ (pointer_at r.image.bytes.now (held r.image) c.loop-a.a).block.0
-block-is c = ap (λ (q : Pointer). q.block.0) (pointer_is _ _ _ c.table_entry-e.ensures c.decoded-p.ensures)
+    c.decoded.result.block.0 ≡ (pointer_at r.image.bytes.now (held r.image) c.loop-a.a).block.0
+block-is c = ap (λ (q : Pointer). q.block.0) (pointer_is _ _ _ c.table_entry-e.ensures c.decoded.ensures)
 
-pub returns-then-block-b : goal.returns-then-block-b
-returns-then-block-b c left h f =
+pub returns-then-eq : goal.returns-then-eq
+returns-then-eq c left h f =
     rw c.at.ensures
     (found _ _ _ _ _ c.requires.1 h f _ (omega arith)
-    (by (looks (goal.at.returns-then-block-b c).After-is_looked_at) c.if-not-is_looked_at.false, by (block-is (goal.at.returns-then-block-b c).After-decoded-p) c.if-block-b.true)
+    (by (looks (goal.at.returns-then-eq c).After-is_looked_at) c.if-not-is_looked_at.false, by (block-is (goal.at.returns-then-eq c).After-decoded) (search rules))
     c.loop-a.invariant.1)
 
 pub loop-a-preserved : goal.loop-a-preserved
 loop-a-preserved c =
-    (omega arith, below_more _ _ c.loop-a.invariant.1 (λ i. c.if-block-b.false (block-is (goal.at.loop-a-preserved c).After-decoded-p ∙ i.1)))
+    let elsewhere : c.decoded.result.block.0 ≢ c.args.b.0 = search rules in
+    (omega arith, below_more _ _ c.loop-a.invariant.1 (λ i. elsewhere (block-is (goal.at.loop-a-preserved c).After-decoded ∙ i.1)))
 
 pub loop-a-preserved-then-not-is_looked_at : goal.loop-a-preserved-then-not-is_looked_at
 loop-a-preserved-then-not-is_looked_at c = (

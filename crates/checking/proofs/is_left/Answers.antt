@@ -1,6 +1,7 @@
 -- `checking::is_left` meets its contract. Assumes nothing.
 use mathlib.Core.Bool.{false}
-use mathlib.Core.Path.{◌≡◌}
+use borrow.Author.Rules.{rules}
+use mathlib.Core.Path.{◌≡◌, ◌∙◌}
 use Prim.Native.Nat.{◌<◌}
 use Rattle.format.specs.Reading.{outside, entry_number}
 use Rattle.opening.specs.Answers.{IsNumbered}
@@ -22,14 +23,14 @@ pub table_entry-requires : goal.table_entry-requires
 table_entry-requires c =
     (there (goal.at.table_entry-requires c).In-Some).2
 
-pub returns-then-m-limit : goal.returns-then-m-limit
-returns-then-m-limit c =
-    left_is _ _ _ _ _ c.address.ensures (there (goal.at.returns-then-m-limit c).In-Some) c.if-m-limit.true c.table_entry.ensures c.is_unwritten.ensures
+pub returns-then-lt : goal.returns-then-lt
+returns-then-lt c =
+    left_is _ _ _ _ _ c.address.ensures (there (goal.at.returns-then-lt c).In-Some) (search rules) c.table_entry.ensures c.is_unwritten.ensures
 
 pub returns-in-None : goal.returns-in-None
 unfolding IsNumbered
 returns-in-None c = not_there _ _ _ _ _ c.address.ensures c.in-None.ensures
 
-pub returns-else-m-limit : goal.returns-else-m-limit
-returns-else-m-limit c =
-    past-limit _ _ _ _ _ c.address.ensures (there (goal.at.returns-else-m-limit c).In-Some) c.if-m-limit.false
+pub returns-else-lt : goal.returns-else-lt
+returns-else-lt c =
+    c.if-lt.false ∙ past-limit _ _ _ _ _ c.address.ensures (there (goal.at.returns-else-lt c).In-Some) (search rules)

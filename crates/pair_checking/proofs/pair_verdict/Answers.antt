@@ -1,4 +1,5 @@
 -- `pair_checking::pair_verdict` meets its contract. Assumes nothing.
+use borrow.Author.Rules.{rules}
 use mathlib.Core.Path.{◌≡◌, ap, ◌∙◌}
 use Rattle.std.specs.Prelude.{Ok, Err}
 use Rattle.format.specs.Opening.{opening}
@@ -29,10 +30,10 @@ left c = rw (c.requires.2 _ c.in-Ok.is) at c.first_left-other.ensures
 pub parent_refusal-requires : goal.parent_refusal-requires
 parent_refusal-requires c = (opening-added _ _ (unopened (goal.at.parent_refusal-requires c).In-Err)).2
 
-pub returns-then-here-limit : goal.returns-then-here-limit
-returns-then-here-limit c =
+pub returns-then-lt : goal.returns-then-lt
+returns-then-lt c =
     ap Err c.parent_refusal.ensures
-    ∙ gap-refused _ _ _ c.args.child.opens c.requires.0 c.first_refused-own.ensures _ (unopened (goal.at.returns-then-here-limit c).In-Err) c.first_unwritten-gap.ensures c.if-here-limit.true
+    ∙ gap-refused _ _ _ c.args.child.opens c.requires.0 c.first_refused-own.ensures _ (unopened (goal.at.returns-then-lt c).In-Err) c.first_unwritten-gap.ensures (search rules)
 
 pub map_err-requires : goal.map_err-requires
 map_err-requires c r e =
@@ -45,9 +46,9 @@ returns-in_err-map_err-in-Ok c =
     early c.from_residual.ensures
     (left-handed _ _ _ c.args.child.opens c.requires.0 c.first_refused-own.ensures _ (opens at.In-Ok) (left at.After-first_left-other) _ c.in_err-map_err-in-Ok.ensures.cases)
 
-pub returns-else-here-limit : goal.returns-else-here-limit
-returns-else-here-limit c =
-    no-gap-refused _ _ _ c.args.child.opens c.requires.0 c.first_refused-own.ensures _ (unopened (goal.at.returns-else-here-limit c).In-Err) c.first_unwritten-gap.ensures c.if-here-limit.false
+pub returns-else-lt : goal.returns-else-lt
+returns-else-lt c =
+    no-gap-refused _ _ _ c.args.child.opens c.requires.0 c.first_refused-own.ensures _ (unopened (goal.at.returns-else-lt c).In-Err) c.first_unwritten-gap.ensures (search rules)
 
 pub returns-in_ok-map_err-in-Ok : goal.returns-in_ok-map_err-in-Ok
 returns-in_ok-map_err-in-Ok c =
