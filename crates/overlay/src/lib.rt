@@ -51,13 +51,11 @@ pub fn read_over<'a>(child: &'a [u8], parent: &'a [u8], a: SectorAddress) -> &'a
     match locate_over(child, parent, a) {
         Err(_) => part(child, 0, 0),
         Ok(s) => {
-            let image = s.image;
             let place = s.place;
-            let start = place.start;
-            if image == 0 {
-                return part(child, start.0, place.size);
+            if s.image == 0 {
+                return part(child, place.start.0, place.size);
             }
-            part(parent, start.0, place.size)
+            part(parent, place.start.0, place.size)
         }
     }
 }

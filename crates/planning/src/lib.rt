@@ -43,11 +43,7 @@ pub fn is_next(t: Opened, addresses: &[i64], k: usize, n: EntryNumber) -> bool
     requires { (any_outside (contents t) addresses.now ≡ false) × (n.0 < 2 ^ 63) }
     ensures { result ≡ is_next (entry_numbers (contents t) addresses.now) k n.0 }
 {
-    if addresses.len() <= k {
-        return false;
-    }
-    let a = t.address(n);
-    addresses[k] == a.0
+    k < addresses.len() && addresses[k] == t.address(n).0
 }
 
 // The item number that table entry n has, 0 where it is not written. It is read once.
@@ -135,8 +131,7 @@ pub fn plan<'a, 'b>(image: Image<'a>, addresses: &'b [i64], size: u64, sectors: 
     // an iteration for each table entry of the disc
     for a in 0..image.found.count() {
         let l = look_at(image, addresses, size, sectors, k, EntryNumber(a), stored);
-        let item = l.item;
-        largest = largest.max(item.0);
+        largest = largest.max(l.item.0);
         stored = l.stored;
         k = l.k;
     }

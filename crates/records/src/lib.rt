@@ -89,10 +89,9 @@ pub fn put_entry(buf: &mut [u8], at: ByteOffset, e: Entry)
     ensures { buf.new ≡ overwrite buf.old at.0 (entry_bytes e) }
 {
     let p = at.0;
-    let offset = e.offset;
     put(buf, p, 4, e.blockType);
     put(buf, p + 4, 4, e.dataType);
-    put(buf, p + 8, 8, offset.0);
+    put(buf, p + 8, 8, e.offset.0);
 }
 
 // An index entry for user data in a block with this identifier.

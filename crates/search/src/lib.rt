@@ -41,8 +41,7 @@ pub fn on_disc<'a, 'b>(image: Image<'a>, sector: &'b [u8]) -> Option<EntryNumber
         if place.size != size as u64 {
             continue 'search;
         }
-        let offset = place.start;
-        let start = offset.0 as usize;
+        let start = place.start.0 as usize;
         let mut j: usize = 0;
         loop {
             if j == size {

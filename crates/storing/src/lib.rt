@@ -40,9 +40,7 @@ pub fn encode(shift: u64, p: Pointer) -> u64
     ensures { result ≡ encode shift p }
 {
     let unit = 1u64 << shift;
-    let block = p.block;
-    let item = p.item;
-    block.0 * unit + item.0
+    p.block.0 * unit + p.item.0
 }
 
 // A sector that the disc does not hold: found among the `stored` ones of the block at `block`, or stored there as the next.
