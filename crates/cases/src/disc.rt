@@ -10,8 +10,8 @@ pub struct Record(&'static [u64], u64, &'static [u64]);
 // Records that are written one after another.
 pub type Disc = &'static [&'static [Record]];
 
-// The widths of the fields of the records: the header's identifier and name, the rest of the header, an index of two entries, a table
-// of three entries and a data block of two items.
+// The widths of the fields of the header's identifier and name, the rest of the header, an index of two entries, a table of three
+// entries and a data block of two items.
 const ID: &[u64] = &[8, 8, 8, 8, 8, 8, 8, 8, 8];
 
 const HD: &[u64] = &[1, 1, 1, 1, 4, 8, 8, 8];

@@ -7,10 +7,10 @@ use std::io;
 
 #[derive(Clone, Copy)]
 pub enum Question {
-    // Of the image of so many bytes the sector count; then for each address, and the one after the last, the sector's place, size
-    // and bytes, or the refusal.
+    // The sector count of the image of so many bytes; then for each address, and the one after the last, the sector's place,
+    // size and bytes, or the refusal.
     Disc(usize),
-    // Of the table there the shift and the entries.
+    // The shift and the entries of the table there.
     Table(usize),
     // The bytes from there on, so many.
     Bytes(usize, usize),

@@ -1,4 +1,4 @@
-// The letters of identifiers, as rows have them: the first is the lowest byte.
+// The letters of identifiers, as the numbers that fields are set to: the first is the lowest byte.
 macro_rules! letters {
     ($four:literal) => {
         ($four[0] as u64)

@@ -1,5 +1,5 @@
-// Internal: what the programs that run cases share. What they print of the library's answers; what their rows write into a buffer, and
-// letters, as rows have them; and how a program reads standard input.
+// Internal: what the programs that run cases share, how they print the library's answers and write into a buffer; letters as
+// numbers; and how a program reads standard input and answers it.
 #![tactic(auto)]
 
 ghost use Rattle.std.specs.Prelude.{◌≡◌, ◌⊎◌, ◌++◌, ◌∷◌, [], ◌==◌, false, All};
