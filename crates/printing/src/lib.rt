@@ -2,8 +2,11 @@
 // numbers; and how a program reads standard input and answers it.
 #![tactic(auto)]
 
-ghost use Rattle.std.specs.Prelude.{◌≡◌, ◌⊎◌, ◌++◌, ◌∷◌, [], ◌==◌, false, All};
+ghost use Rattle.std.specs.Prelude.{◌≡◌, ◌⊎◌, ◌+◌, ◌≤◌, ◌++◌, ◌∷◌, [], ◌==◌, false, All, length};
+ghost use Rattle.fields.specs.Bytes.{part, to_le, overwrite};
+ghost use Rattle.crc64.specs.Crc.{crc_of};
 
+use fields::{part, put, room};
 use format::{AddressRange, Place, Placed, Refusal};
 use std::fmt;
 use std::fmt::Display;
@@ -87,20 +90,21 @@ pub fn split_line(text: &[u8]) -> (&[u8], &[u8])
     }
 }
 
-// Writes the `width` lowest bytes of a number at `at`, the lowest first. What lies past the end is left out.
-pub fn set(buffer: &mut [u8], at: u64, width: u64, number: u64) {
-    let field = buffer.iter_mut().skip(at as usize);
-    for (byte, new) in field.zip(number.to_le_bytes().iter().take(width as usize)) {
-        *byte = *new;
+// Writes the `width` lowest bytes of a number at `at`, the lowest first; nothing where they lie past the end.
+pub fn set(buffer: &mut [u8], at: u64, width: u64, number: u64)
+    ensures { at + width ≤ length buffer.old → width ≤ 8 → buffer.new ≡ overwrite buffer.old at (to_le width number) }
+{
+    if width <= room(buffer, at) && width <= 8 && at <= buffer.len() as u64 {
+        put(buffer, at, width, number);
     }
 }
 
-// Writes the checksum of the n bytes from `start` at `at`; none where they lie past the end.
-pub fn seal(buffer: &mut [u8], at: u64, start: u64, n: u64) {
-    if let Some(rest) = buffer.get(start as usize..) {
-        if let Some(bytes) = rest.get(..n as usize) {
-            let crc = crc64::checksum(bytes);
-            set(buffer, at, 8, crc);
-        }
+// Writes the checksum of the n bytes from `start` at `at`; nothing where either lies past the end.
+pub fn seal(buffer: &mut [u8], at: u64, start: u64, n: u64)
+    ensures { at + 8 ≤ length buffer.old → start + n ≤ length buffer.old → buffer.new ≡ overwrite buffer.old at (to_le 8 (crc_of (part buffer.old start n))) }
+{
+    if n <= room(buffer, start) && start <= buffer.len() as u64 {
+        let crc = crc64::checksum(part(buffer, start, n));
+        set(buffer, at, 8, crc);
     }
 }
