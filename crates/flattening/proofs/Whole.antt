@@ -51,7 +51,7 @@ module _ {buffer application : List ℕ} {pair : Pair} {size : ℕ} (q : Ready b
   child = pair.child.bytes.now
 
   abbrev parent : List ℕ
-  parent = pair.parent.now
+  parent = pair.parent.bytes.now
 
   abbrev count : ℕ
   count = (held pair.child).count

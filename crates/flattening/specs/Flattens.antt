@@ -6,6 +6,6 @@ use Rattle.pairs.specs.Sectors.{written_in}
 
 -- a pair that has sectors, of this size, all of whose checks but 35 have passed
 pub record Ready (buffer : List ℕ) (pair : Pair) (application : List ℕ) (size : ℕ) : Type 0 where
-  pub checked : flatten_verdict buffer pair.child.bytes.now pair.parent.now application ≡ Ok tt
+  pub checked : flatten_verdict buffer pair.child.bytes.now pair.parent.bytes.now application ≡ Ok tt
   pub size_is : size ≡ size_of (written_in pair)
   pub any : written_in pair ≢ []

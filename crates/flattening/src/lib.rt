@@ -23,7 +23,7 @@ use composing::Layout;
 use format::{ByteOffset, EntryNumber};
 pub use format::{Check, Placed, Refusal, Stamp};
 use opening::Image;
-use pairs::Pair;
+use pairs::{Pair, Parent};
 
 // How many of the pair's sectors are stored, wherever the block will be.
 fn count_stored<'a>(pair: Pair<'a>) -> u64
@@ -79,7 +79,7 @@ fn flatten_tight<'a, 'b, 'c>(
     stamp: Stamp<'c>,
 ) -> Result<Placed, Refusal>
     requires { Ready buffer.old pair stamp.application.now size }
-    ensures { answered result buffer.new ≡ flatten buffer.old pair.entry.child.bytes.now pair.entry.parent.now stamp.entry.application.now stamp.entry.major stamp.entry.minor stamp.entry.media_type stamp.entry.created stamp.entry.written }
+    ensures { answered result buffer.new ≡ flatten buffer.old pair.entry.child.bytes.now pair.entry.parent.bytes.now stamp.entry.application.now stamp.entry.major stamp.entry.minor stamp.entry.media_type stamp.entry.created stamp.entry.written }
 {
     let count = pair.child.found.count();
     let stored = count_stored(pair);
@@ -107,7 +107,7 @@ fn flatten_roomy<'a, 'b, 'c>(
 ) -> Result<Placed, Refusal>
     requires { Ready buffer.old pair stamp.application.now size
         × (most ≡ layout_of (held pair.child).count size (length (written_in pair))) × (most.end ≤ length buffer.old) }
-    ensures { answered result buffer.new ≡ flatten buffer.old pair.entry.child.bytes.now pair.entry.parent.now stamp.entry.application.now stamp.entry.major stamp.entry.minor stamp.entry.media_type stamp.entry.created stamp.entry.written }
+    ensures { answered result buffer.new ≡ flatten buffer.old pair.entry.child.bytes.now pair.entry.parent.bytes.now stamp.entry.application.now stamp.entry.major stamp.entry.minor stamp.entry.media_type stamp.entry.created stamp.entry.written }
 {
     let count = pair.child.found.count();
     records::put_image(buffer, count, stamp);
@@ -129,7 +129,7 @@ fn flatten_some<'a, 'b, 'c>(
     stamp: Stamp<'c>,
 ) -> Result<Placed, Refusal>
     requires { Ready buffer.old pair stamp.application.now size × (sectors ≡ length (written_in pair)) }
-    ensures { answered result buffer.new ≡ flatten buffer.old pair.entry.child.bytes.now pair.entry.parent.now stamp.entry.application.now stamp.entry.major stamp.entry.minor stamp.entry.media_type stamp.entry.created stamp.entry.written }
+    ensures { answered result buffer.new ≡ flatten buffer.old pair.entry.child.bytes.now pair.entry.parent.bytes.now stamp.entry.application.now stamp.entry.major stamp.entry.minor stamp.entry.media_type stamp.entry.created stamp.entry.written }
 {
     let most = composing::lay_out(pair.child.found.count(), size, sectors);
     let length = buffer.len() as u64;
@@ -150,12 +150,12 @@ fn flatten_opened<'a, 'b, 'c>(
     ensures { answered result buffer.new ≡ flatten buffer.old child.entry.bytes.now parent.now stamp.entry.application.now stamp.entry.major stamp.entry.minor stamp.entry.media_type stamp.entry.created stamp.entry.written }
 {
     let opened = opening::open(parent);
-    pair_checking::pair_verdict(child, parent, opened)?;
-    let pair = Pair {
-        child,
-        parent,
+    let parent = Parent {
+        bytes: parent,
         opened,
     };
+    pair_checking::pair_verdict(child, parent)?;
+    let pair = Pair { child, parent };
     let size = pair.size();
     let sectors = pair.count_written();
     pair.sizes_verdict(size, sectors)?;

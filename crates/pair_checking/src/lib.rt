@@ -5,28 +5,23 @@
 #![tactic(auto)]
 
 ghost use Rattle.std.specs.Prelude.{◌≡◌};
-ghost use Rattle.std.specs.Result.{ForOk};
 ghost use Rattle.format.specs.declared.TableKind.TheVariants.{First};
-ghost use Rattle.format.specs.Opening.{opening};
 ghost use Rattle.format.specs.Flattening.{pair_verdict};
-ghost use Rattle.opening.specs.Images.{held, outcome_of};
+ghost use Rattle.opening.specs.Images.{held};
 
 use format::Refusal;
 use opening::Image;
+use pairs::Parent;
 
 // All sectors of the pair: the first refusal other than 21. It is the child's first one, unless the parent refuses a sector at a lower address that the
 // child has not written. As both tables rise with the addresses, the parent's first one is that of the lowest such address.
-pub fn pair_verdict<'a>(
-    child: Image<'a>,
-    parent: &'a [u8],
-    opened: Result<Image<'a>, Refusal>,
-) -> Result<(), Refusal>
-    requires { ((held child).kind ≡ First) × (opening parent.now ≡ outcome_of opened) × ForOk opened (λ image. image.bytes.now ≡ parent.now) }
-    ensures { result ≡ pair_verdict child.entry.bytes.now parent.now }
+pub fn pair_verdict<'a>(child: Image<'a>, parent: Parent<'a>) -> Result<(), Refusal>
+    requires { (held child).kind ≡ First }
+    ensures { result ≡ pair_verdict child.entry.bytes.now parent.entry.bytes.now }
 {
     let own = checking::first_refused(child);
     let limit = own.number;
-    match opened {
+    match parent.opened {
         Err(r) => {
             let gap = checking::first_unwritten(child, own);
             if gap.number < limit {

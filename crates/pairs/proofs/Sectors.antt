@@ -168,7 +168,7 @@ module _ (pair : Pair) (n : ℕ) (h : n < (held pair.child).count) where
   child = pair.child.bytes.now
 
   abbrev parent : List ℕ
-  parent = pair.parent.now
+  parent = pair.parent.bytes.now
 
   abbrev t : Opened
   t = held pair.child

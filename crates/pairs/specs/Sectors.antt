@@ -6,8 +6,8 @@ use Rattle.pairs.specs.Pairs.{sector_at}
 
 -- its sector at address n of the child, empty where it has none
 abbrev pub sector_of : Pair → ℕ → List ℕ
-sector_of pair = sector_at pair.child.bytes.now pair.parent.now
+sector_of pair = sector_at pair.child.bytes.now pair.parent.bytes.now
 
 -- the sectors that it has, by rising address
 abbrev pub written_in : Pair → List Written
-written_in pair = written_of pair.child.bytes.now pair.parent.now
+written_in pair = written_of pair.child.bytes.now pair.parent.bytes.now

@@ -25,7 +25,7 @@ use opening::Image;
 
 mod pair; // the pair: the two images, all of whose sectors were checked
 
-pub use pair::Pair;
+pub use pair::{Pair, Parent};
 
 // A refusal of the parent, as the pair gives it: 20 and 21 as 21, any other with 100 added. A read's are at most 73, so that the sum is no larger number's.
 #[tactic(auto, using(crate::proofs::ParentRefusal::parent_numbers))]
@@ -68,14 +68,14 @@ fn is_over(count: u64, size: u64, written: u64) -> bool
 impl<'a> Pair<'a> {
     // The parent's sector at address a, empty where it has none: it does not open, or the address is outside or not written.
     fn parent_sector(self, a: SectorAddress) -> &'a [u8]
-        requires { other_than_21 (verdict_of (from_parent (read self.parent.now a.0))) ≡ Ok tt }
-        ensures { result.now ≡ bytes_read (from_parent (read self.entry.parent.now a.0)) }
+        requires { other_than_21 (verdict_of (from_parent (read self.parent.bytes.now a.0))) ≡ Ok tt }
+        ensures { result.now ≡ bytes_read (from_parent (read self.entry.parent.bytes.now a.0)) }
     {
-        let Ok(image) = self.opened else {
-            return part(self.parent, 0, 0);
+        let Ok(image) = self.parent.opened else {
+            return part(self.parent.bytes, 0, 0);
         };
         match image.found.entry_number(a) {
-            None => part(self.parent, 0, 0),
+            None => part(self.parent.bytes, 0, 0),
             Some(n) => entry_sector(image, n),
         }
     }

@@ -9,14 +9,20 @@ ghost use Rattle.opening.specs.Images.{held, outcome_of};
 use format::Refusal;
 use opening::Image;
 
-// The child, with a table of the first kind, the parent's lent bytes, and what opening them answered. All sectors of the pair passed.
+// A parent: the lent bytes, and what opening them answered.
+#[derive(Clone, Copy)]
+pub struct Parent<'a> {
+    pub bytes: &'a [u8],
+    pub opened: Result<Image<'a>, Refusal>,
+    pub ghost opens: { opening bytes.now ≡ outcome_of opened },
+    pub ghost lent: { ForOk opened (λ image. image.bytes.now ≡ bytes.now) },
+}
+
+// The child, with a table of the first kind, and its parent. All sectors of the pair passed.
 #[derive(Clone, Copy)]
 pub struct Pair<'a> {
     pub child: Image<'a>,
-    pub parent: &'a [u8],
-    pub opened: Result<Image<'a>, Refusal>,
+    pub parent: Parent<'a>,
     pub ghost first: { (held child).kind ≡ First },
-    pub ghost opens: { opening parent.now ≡ outcome_of opened },
-    pub ghost lent: { ForOk opened (λ image. image.bytes.now ≡ parent.now) },
-    pub ghost passes: { pair_verdict child.bytes.now parent.now ≡ Ok tt },
+    pub ghost passes: { pair_verdict child.bytes.now parent.bytes.now ≡ Ok tt },
 }

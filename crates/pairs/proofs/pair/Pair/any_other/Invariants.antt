@@ -8,4 +8,4 @@ use Rattle.pairs.proofs.pair.Pair.any_other.Given as goal
 
 abbrev pub invariant-loop-n : goal.invariant-loop-n
 invariant-loop-n l =
-    any_other l.size (rest l.self.child.bytes.now l.self.parent.now (held l.self.child).count l.n) ≡ any_other l.size (written_in l.self)
+    any_other l.size (rest l.self.child.bytes.now l.self.parent.bytes.now (held l.self.child).count l.n) ≡ any_other l.size (written_in l.self)

@@ -10,4 +10,4 @@ use Rattle.pairs.proofs.pair.Pair.count_written.Given as goal
 abbrev pub invariant-loop-n : goal.invariant-loop-n
 invariant-loop-n l =
     (l.written ≤ l.n)
-    × (l.written + length (rest l.self.child.bytes.now l.self.parent.now (held l.self.child).count l.n) ≡ length (written_in l.self))
+    × (l.written + length (rest l.self.child.bytes.now l.self.parent.bytes.now (held l.self.child).count l.n) ≡ length (written_in l.self))

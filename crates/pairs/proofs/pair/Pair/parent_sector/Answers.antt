@@ -13,9 +13,9 @@ use Rattle.pairs.proofs.pair.Pair.parent_sector.Goals as goal
 use Rattle.pairs.proofs.pair.Pair.parent_sector.Goals.{In-Ok, In-Some}
 
 -- the parent opens so
-opens : (c : In-Ok) → opening c.args.self.parent.now ≡ Ok (held c.in-Ok.image)
+opens : (c : In-Ok) → opening c.args.self.parent.bytes.now ≡ Ok (held c.in-Ok.image)
 unfolding outcome_of
-opens c = c.args.self.opens ∙ ap outcome_of c.in-Ok.is
+opens c = c.args.self.parent.opens ∙ ap outcome_of c.in-Ok.is
 
 numbered : (c : In-Some)
     → let t = held c.in-Ok.image in
@@ -27,12 +27,12 @@ numbered c = c.in-Some.ensures
 
 pub returns-in_default : goal.returns-in_default
 unfolding part outcome_of
-returns-in_default c = c.part.ensures ∙ parent-unopened _ _ _ (c.args.self.opens ∙ ap outcome_of c.in_default.is)
+returns-in_default c = c.part.ensures ∙ parent-unopened _ _ _ (c.args.self.parent.opens ∙ ap outcome_of c.in_default.is)
 
 pub entry_sector-requires : goal.entry_sector-requires
 entry_sector-requires c =
     let at = goal.at.entry_sector-requires c in
-    parent-entry _ _ _ (opens at.In-Ok) _ (numbered at.In-Some) (c.args.self.lent _ c.in-Ok.is) c.requires
+    parent-entry _ _ _ (opens at.In-Ok) _ (numbered at.In-Some) (c.args.self.parent.lent _ c.in-Ok.is) c.requires
 
 pub returns-in-None : goal.returns-in-None
 unfolding part IsNumbered
@@ -42,4 +42,4 @@ returns-in-None c =
 pub returns-in-Some : goal.returns-in-Some
 returns-in-Some c =
     let at = goal.at.returns-in-Some c in
-    c.entry_sector.ensures ∙ parent-bytes _ _ _ (opens at.In-Ok) _ (numbered at.In-Some) (c.args.self.lent _ c.in-Ok.is)
+    c.entry_sector.ensures ∙ parent-bytes _ _ _ (opens at.In-Ok) _ (numbered at.In-Some) (c.args.self.parent.lent _ c.in-Ok.is)

@@ -7,4 +7,4 @@ use Rattle.pairs.proofs.Written.{rest}
 use Rattle.pairs.proofs.pair.Pair.size.Given as goal
 
 abbrev pub invariant-loop-n : goal.invariant-loop-n
-invariant-loop-n l = size_of (rest l.self.child.bytes.now l.self.parent.now (held l.self.child).count l.n) ≡ size_of (written_in l.self)
+invariant-loop-n l = size_of (rest l.self.child.bytes.now l.self.parent.bytes.now (held l.self.child).count l.n) ≡ size_of (written_in l.self)
