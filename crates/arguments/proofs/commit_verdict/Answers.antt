@@ -29,7 +29,9 @@ returns-in_err-buffer_verdict c = early c.from_residual.ensures (stops _ c.in_er
 
 pub returns-then-size_refused : goal.returns-then-size_refused
 unfolding arguments_verdict
-returns-then-size_refused c = rw c.of.ensures (goes (passes (goal.at.returns-then-size_refused c).In_ok-buffer_verdict) (stop _ (by c.size_refused.ensures c.if-size_refused.true)))
+returns-then-size_refused c =
+    rw c.of.ensures
+    (goes (passes (goal.at.returns-then-size_refused c).In_ok-buffer_verdict) (stop _ (by c.size_refused.ensures c.if-size_refused.true)))
 
 pub overflow_mul-count : goal.overflow_mul-count
 overflow_mul-count c = let k = sized (goal.at.overflow_mul-count c).Else-size_refused in omega (arith, mul-le-mul k.1.1 k.1.0)

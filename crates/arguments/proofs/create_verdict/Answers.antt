@@ -23,7 +23,8 @@ returns-then-count_refused c = rw c.of-then-count_refused.ensures (on _ (below-i
 pub returns-then-name_refused : goal.returns-then-name_refused
 unfolding create_verdict
 returns-then-name_refused c =
-    rw c.of-then-name_refused.ensures (on _ (below-iff.1 (omega arith)) (on _ (by c.count_refused.ensures c.if-count_refused.false) (stop _ (by c.name_refused.ensures c.if-name_refused.true))))
+    rw c.of-then-name_refused.ensures
+    (on _ (below-iff.1 (omega arith)) (on _ (by c.count_refused.ensures c.if-count_refused.false) (stop _ (by c.name_refused.ensures c.if-name_refused.true))))
 
 pub overflow_mul-count : goal.overflow_mul-count
 overflow_mul-count c = omega (arith, few (goal.at.overflow_mul-count c).Else-count_refused)

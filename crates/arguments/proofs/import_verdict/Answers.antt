@@ -25,7 +25,8 @@ nonzero_rem-length c = omega (arith, some (goal.at.nonzero_rem-length c).Else-fi
 pub returns-then-length-size-ne0 : goal.returns-then-length-size-ne0
 unfolding import_verdict
 returns-then-length-size-ne0 c =
-    rw c.of-then-length-size-ne0.ensures (on _ (below-iff.1 (omega arith)) (on _ (by c.file_refused.ensures c.if-file_refused.false) (stop _ (differs_true _ _ c.if-length-size-ne0.true))))
+    rw c.of-then-length-size-ne0.ensures
+    (on _ (below-iff.1 (omega arith)) (on _ (by c.file_refused.ensures c.if-file_refused.false) (stop _ (differs_true _ _ c.if-length-size-ne0.true))))
 
 pub returns-then-name_refused : goal.returns-then-name_refused
 unfolding import_verdict

@@ -22,7 +22,8 @@ gap c = written_is _ _ _ c.table_entry.ensures c.is_unwritten.ensures
 
 pub returns-then-is_unwritten : goal.returns-then-is_unwritten
 returns-then-is_unwritten c =
-    rw c.of.ensures (gap-first _ _ c.requires _ (omega arith) c.loop-n.invariant.1 (by (gap (goal.at.returns-then-is_unwritten c).After-is_unwritten) c.if-is_unwritten.true))
+    rw c.of.ensures
+    (gap-first _ _ c.requires _ (omega arith) c.loop-n.invariant.1 (by (gap (goal.at.returns-then-is_unwritten c).After-is_unwritten) c.if-is_unwritten.true))
 
 pub loop-n-preserved : goal.loop-n-preserved
 loop-n-preserved c =

@@ -32,7 +32,9 @@ returns-in_err-sectors_verdict c =
     (outcome-stops _ _ _ (stops _ c.in_err-sectors_verdict.ensures) ∙ export-opened _ _ c.args.image.opens _)
 
 pub returns-then-is_blank : goal.returns-then-is_blank
-returns-then-is_blank c = rw c.of.ensures (outcome-stops _ _ _ (goes (sectors (goal.at.returns-then-is_blank c).In_ok-sectors_verdict) (stop _ (by (blank (goal.at.returns-then-is_blank c).After-is_blank) c.if-is_blank.true))) ∙ export-opened _ _ c.args.image.opens _)
+returns-then-is_blank c =
+    rw c.of.ensures
+    (outcome-stops _ _ _ (goes (sectors (goal.at.returns-then-is_blank c).In_ok-sectors_verdict) (stop _ (by (blank (goal.at.returns-then-is_blank c).After-is_blank) c.if-is_blank.true))) ∙ export-opened _ _ c.args.image.opens _)
 
 pub export_file-requires : goal.export_file-requires
 export_file-requires c = (c.args.image.opens, sym (sectors (goal.at.export_file-requires c).In_ok-sectors_verdict))

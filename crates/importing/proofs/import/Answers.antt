@@ -43,7 +43,8 @@ planned c =
 pub returns-then-length-end : goal.returns-then-length-end
 returns-then-length-end c =
     let k = ok (goal.at.returns-then-length-end c).In_ok-import_verdict in
-    rw c.of.ensures (composed-full _ _ _ _ _ _ _ _ _ _ _ (composable k) (import-hands k) (planned (goal.at.returns-then-length-end c).After-lay_out-at) (omega arith) ∙ sym (import-composed _ _ _ _ _ _ _ _ _ k))
+    rw c.of.ensures
+    (composed-full _ _ _ _ _ _ _ _ _ _ _ (composable k) (import-hands k) (planned (goal.at.returns-then-length-end c).After-lay_out-at) (omega arith) ∙ sym (import-composed _ _ _ _ _ _ _ _ _ k))
 
 pub put_image-requires : goal.put_image-requires
 put_image-requires c =

@@ -19,7 +19,9 @@ returns-then-room-lt20 c = rw c.at-then-room-lt20.ensures (stop _ (or_true_right
 
 pub returns-then-not-spells : goal.returns-then-not-spells
 unfolding index_verdict
-returns-then-not-spells c = rw c.at-then-not-spells.ensures (on _ ((or-iff below-iff below-iff).1 (omega arith, omega arith)) (stop _ (by (lacks-not _ _ _ c.spells.ensures) (ap not c.if-not-spells.true))))
+returns-then-not-spells c =
+    rw c.at-then-not-spells.ensures
+    (on _ ((or-iff below-iff below-iff).1 (omega arith, omega arith)) (stop _ (by (lacks-not _ _ _ c.spells.ensures) (ap not c.if-not-spells.true))))
 
 pub returns-then-room-entries : goal.returns-then-room-entries
 unfolding index_verdict entry_count

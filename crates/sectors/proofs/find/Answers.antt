@@ -25,7 +25,9 @@ returns-then-is_unwritten c = rw c.of.ensures (refuses _ (stop _ (by (unwritten 
 
 pub returns-then-is_unknown : goal.returns-then-is_unknown
 unfolding sector_verdict
-returns-then-is_unknown c = rw c.of-then-is_unknown.ensures (refuses _ (on _ (by (unwritten (goal.at.returns-then-is_unknown c).After-is_unwritten) c.if-is_unwritten.false) (stop _ (by (unknown (goal.at.returns-then-is_unknown c).After-is_unknown) c.if-is_unknown.true))))
+returns-then-is_unknown c =
+    rw c.of-then-is_unknown.ensures
+    (refuses _ (on _ (by (unwritten (goal.at.returns-then-is_unknown c).After-is_unwritten) c.if-is_unwritten.false) (stop _ (by (unknown (goal.at.returns-then-is_unknown c).After-is_unknown) c.if-is_unknown.true))))
 
 pub decoded-p-requires : goal.decoded-p-requires
 decoded-p-requires c = decodes _ _ c.args.image.opens

@@ -30,7 +30,9 @@ returns-then-room-length c = rw c.at.ensures (let e = long (goal.at.returns-then
 
 pub returns-then-sums_differ : goal.returns-then-sums_differ
 unfolding payload_verdict
-returns-then-sums_differ c = rw c.at-then-sums_differ.ensures (let e = long (goal.at.returns-then-sums_differ c).After-get-length in on _ (below-iff.1 (omega arith)) (stop-last (by (sums (goal.at.returns-then-sums_differ c).After-sums_differ) c.if-sums_differ.true)))
+returns-then-sums_differ c =
+    rw c.at-then-sums_differ.ensures
+    (let e = long (goal.at.returns-then-sums_differ c).After-get-length in on _ (below-iff.1 (omega arith)) (stop-last (by (sums (goal.at.returns-then-sums_differ c).After-sums_differ) c.if-sums_differ.true)))
 
 pub returns : goal.returns
 unfolding payload_verdict

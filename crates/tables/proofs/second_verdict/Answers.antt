@@ -16,11 +16,15 @@ returns-then-get-ne0 c = rw c.of-then-get-ne0.ensures (on _ (differs-iff.1 (omeg
 
 pub returns-then-blocks-negative : goal.returns-then-blocks-negative
 unfolding extent_verdict table_negative
-returns-then-blocks-negative c = rw c.of-then-blocks-negative.ensures (on _ (differs-iff.1 (omega arith)) (on _ (differs-iff.1 (omega arith)) (stop-last (below_true _ _ (omega arith)))))
+returns-then-blocks-negative c =
+    rw c.of-then-blocks-negative.ensures
+    (on _ (differs-iff.1 (omega arith)) (on _ (differs-iff.1 (omega arith)) (stop-last (below_true _ _ (omega arith)))))
 
 pub returns-then-blocks-negative-2 : goal.returns-then-blocks-negative-2
 unfolding extent_verdict table_negative
-returns-then-blocks-negative-2 c = rw c.of-then-blocks-negative-2.ensures (on _ (differs-iff.1 (omega arith)) (on _ (differs-iff.1 (omega arith)) (stop-last (below_true _ _ (omega arith)))))
+returns-then-blocks-negative-2 c =
+    rw c.of-then-blocks-negative-2.ensures
+    (on _ (differs-iff.1 (omega arith)) (on _ (differs-iff.1 (omega arith)) (stop-last (below_true _ _ (omega arith)))))
 
 pub returns : goal.returns
 unfolding extent_verdict table_negative
