@@ -28,7 +28,8 @@ pub struct First {
     pub verdict: Result<(), Refusal>,
 }
 
-// Which table entries are looked at: all, or those of a parent whose addresses a child has not written.
+// Which table entries are looked at: all, or those of a parent whose addresses a child has not written. Two values, which the proofs go by; a closure would
+// have its answer equated with the same two definitions.
 #[derive(Clone, Copy)]
 enum Scope<'a> {
     All,

@@ -23,7 +23,7 @@ pub use format::{Check, Flat, Placed, Refusal, Stamp};
 pub use importing::import;
 use opening::Image;
 
-// The size of the lowest written sector; 0 where none is written.
+// The size of the lowest written sector; 0 where none is written, as `flat_size` has it.
 fn flat_size<'a>(image: Image<'a>) -> u64
     requires { Checked image.bytes.now (held image) }
     ensures { result ≡ flat_size image.entry.bytes.now (held image.entry) }

@@ -81,7 +81,7 @@ impl Check {
 }
 
 // Why a call is refused: the number of a check, with 100 added where it refuses the parent of a pair, and the byte offset in the image of what it is about, 0
-// where there is none.
+// where there is none. A number and a 0, as the definitions and the C interface have them (`refusal`, `PlaceFor`).
 #[derive(Clone, Copy)]
 pub struct Refusal {
     pub number: u32,
@@ -112,7 +112,7 @@ impl Refusal {
     }
 }
 
-// An entry of an index. Its fields of four bytes are u64, as every number that is read from an image.
+// An entry of an index. Its fields of four bytes are u64, as every number that is read from an image, and so the definitions have them (`is_type`).
 #[derive(Clone, Copy)]
 pub struct Entry {
     pub blockType: u64,
@@ -142,6 +142,7 @@ pub struct AddressRange {
 }
 
 // Where a sector of a disc over its parent (8/13) lies: in which image, 0 for the child and 1 for the parent, and where there.
+// A plain number, as `source_over` answers it and the C interface hands it out (`in_image`).
 #[derive(Clone, Copy)]
 pub struct Sourced {
     pub image: u64,

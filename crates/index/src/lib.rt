@@ -17,7 +17,7 @@ use fields::{get, part, put, room, spells};
 use format::{ByteOffset, Check, Entry, HEADER_LENGTH, IMAGE_MAJOR, Refusal};
 pub use lent::Index;
 
-// The tables among the index entries seen so far.
+// The tables among the index entries seen so far: three states, one more than an Option has.
 #[derive(Clone, Copy)]
 enum Tables {
     None,

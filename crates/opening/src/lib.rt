@@ -1,5 +1,5 @@
-// Internal: opening an image, checks 1 to 14 of document 01 and 70 to 72 of 11/13 (1 to 10 by `index`, the table's by `tables`), and 74; the opened image, which
-// nothing else makes; the entries of its table, and which of them an address has.
+// Internal: opening an image, checks 1 to 14 of document 01 and 70 to 72 of 11/13 (1 to 10 by `index`, the table's by `tables`), and 74; the opened image, of
+// which none is made otherwise; the entries of its table, and which of them an address has.
 //
 // Cost: the index is passed over twice, for its checksum and for its entries, and the table once, for its checksum.
 #![tactic(auto)]

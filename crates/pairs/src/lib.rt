@@ -92,7 +92,7 @@ impl<'a> Pair<'a> {
         self.parent_sector(self.child.found.address(n))
     }
 
-    // The size of the first sector that the pair has, 0 where it has none.
+    // The size of the first sector that the pair has, 0 where it has none, as `size_of` has it.
     pub fn size(self) -> u64
         ensures { result ≡ size_of (written_in self.entry) }
     {

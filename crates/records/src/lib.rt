@@ -41,6 +41,8 @@ fn put_sums(buf: &mut [u8], at: u64, width: u64, n: u64, sum: u64)
     put(buf, at + 2 * width + 8, 8, sum);
 }
 
+// The three headers below differ in which fields they have, not in a type or a size: one function over them would take the list of fields.
+
 // Writes the header of a data block at `at` whose sectors, `stored` of `size` bytes, stand after it. Where nothing is stored there is no block.
 pub fn seal_block(buf: &mut [u8], at: ByteOffset, size: u64, stored: u64)
     requires { at.0 + 36 + stored * size ≤ length buf.old }

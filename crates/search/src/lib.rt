@@ -33,7 +33,8 @@ pub fn on_disc<'a, 'b>(image: Image<'a>, sector: &'b [u8]) -> Option<EntryNumber
     let s = image.bytes;
     let size = sector.len();
     let mut found = None;
-    // an iteration for each table entry, up to the one that is found; within it at most one for each byte, up to the first that differs
+    // an iteration for each table entry, up to the one that is found; within it at most one for each byte, up to the first that differs (nested loops left
+    // by a label, the form that document 01 asks for here and in `among`)
     'search: for a in 0..image.found.count() {
         let Some(place) = slot_at(image, EntryNumber(a)) else {
             continue 'search;

@@ -248,7 +248,8 @@ pub fn locate_in(image: &[u8], a: SectorAddress) -> Result<Place, Refusal>
     locate(opened, a)
 }
 
-// The sector at address a: the part of the lent bytes that `locate` names, and the empty part exactly where it refuses.
+// The sector at address a: the part of the lent bytes that `locate` names, and the empty part exactly where it refuses,
+// which is what `bytes_read` says of a read.
 pub fn read<'a>(image: Image<'a>, a: SectorAddress) -> &'a [u8]
     ensures { result.now ≡ bytes_read (read image.entry.bytes.now a.0) }
 {
