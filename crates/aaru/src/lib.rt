@@ -11,9 +11,7 @@ ghost use Rattle.format.specs.RollingBack.{rollback};
 ghost use Rattle.format.specs.Answers.{bytes_read, answered};
 
 use format::CREATED_ENTRIES;
-pub use format::{
-    AddressRange, ByteOffset, Check, Place, Placed, Refusal, SectorAddress, Stamp,
-};
+pub use format::{AddressRange, ByteOffset, Check, Place, Placed, Refusal, SectorAddress, Stamp};
 
 // How many sectors the image has and which address is the lowest, or why it does not open: 1 to 14, 70 to 72.
 pub fn sector_count(image: &[u8]) -> Result<AddressRange, Refusal>

@@ -21,10 +21,7 @@ fn kept_entry(e: Entry, table: ByteOffset) -> Entry
     ensures { result ≡ kept_entry table.0 e }
 {
     if index::is_user_data(e, b"DDT*") {
-        return Entry {
-            offset: table,
-            ..e
-        };
+        return Entry { offset: table, ..e };
     }
     e
 }
