@@ -32,7 +32,6 @@ pub fn on_disc<'a, 'b>(image: Image<'a>, sector: &'b [u8]) -> Option<EntryNumber
 {
     let s = image.bytes;
     let size = sector.len();
-    let mut found = None;
     // an iteration for each table entry, up to the one that is found; within it at most one for each byte, up to the first that differs (nested loops left
     // by a label, the form that document 01 asks for here and in `among`)
     'search: for a in 0..image.found.count() {
@@ -46,8 +45,7 @@ pub fn on_disc<'a, 'b>(image: Image<'a>, sector: &'b [u8]) -> Option<EntryNumber
         let mut j: usize = 0;
         loop {
             if j == size {
-                found = Some(EntryNumber(a));
-                break 'search;
+                return Some(EntryNumber(a));
             }
             if s[start + j] != sector[j] {
                 continue 'search;
@@ -55,7 +53,7 @@ pub fn on_disc<'a, 'b>(image: Image<'a>, sector: &'b [u8]) -> Option<EntryNumber
             j += 1;
         }
     }
-    found
+    None
 }
 
 // The first of the n sectors that stand one after another from `at` on that holds these bytes; each has as many.
@@ -65,23 +63,19 @@ pub fn among(s: &[u8], at: ByteOffset, n: u64, sector: &[u8]) -> Option<ItemNumb
 {
     let size = sector.len();
     let first = at.0 as usize;
-    let mut found = None;
     // an iteration for each sector, up to the one that is found; within it at most one for each byte, up to the first that differs
-    let mut i: u64 = 0;
-    'search: while i < n {
+    'search: for i in 0..n {
         let start = first + (i as usize) * size;
         let mut j: usize = 0;
         loop {
             if j == size {
-                found = Some(ItemNumber(i));
-                break 'search;
+                return Some(ItemNumber(i));
             }
             if s[start + j] != sector[j] {
-                break;
+                continue 'search;
             }
             j += 1;
         }
-        i += 1;
     }
-    found
+    None
 }
