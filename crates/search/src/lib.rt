@@ -32,28 +32,30 @@ pub fn on_disc<'a, 'b>(image: Image<'a>, sector: &'b [u8]) -> Option<EntryNumber
 {
     let s = image.bytes;
     let size = sector.len();
-    // an iteration for each table entry, up to the one that is found; within it at most one for each byte, up to the first that differs (nested loops left
-    // by a label, the form that document 01 asks for here and in `among`)
-    'search: for a in 0..image.found.count() {
-        let Some(place) = slot_at(image, EntryNumber(a)) else {
-            continue 'search;
-        };
-        if place.size != size as u64 {
-            continue 'search;
-        }
-        let start = place.start.0 as usize;
-        let mut j: usize = 0;
-        loop {
-            if j == size {
-                return Some(EntryNumber(a));
+    // nested loops left by a label, the form that document 01 asks for here and in `among`
+    'search: {
+        // an iteration for each table entry, up to the one that is found; within it at most one for each byte, up to the first that differs
+        for a in 0..image.found.count() {
+            let Some(place) = slot_at(image, EntryNumber(a)) else {
+                continue;
+            };
+            if place.size != size as u64 {
+                continue;
             }
-            if s[start + j] != sector[j] {
-                continue 'search;
+            let start = place.start.0 as usize;
+            let mut j: usize = 0;
+            loop {
+                if j == size {
+                    break 'search Some(EntryNumber(a));
+                }
+                if s[start + j] != sector[j] {
+                    break;
+                }
+                j += 1;
             }
-            j += 1;
         }
+        None
     }
-    None
 }
 
 // The first of the n sectors that stand one after another from `at` on that holds these bytes; each has as many.
@@ -63,19 +65,21 @@ pub fn among(s: &[u8], at: ByteOffset, n: u64, sector: &[u8]) -> Option<ItemNumb
 {
     let size = sector.len();
     let first = at.0 as usize;
-    // an iteration for each sector, up to the one that is found; within it at most one for each byte, up to the first that differs
-    'search: for i in 0..n {
-        let start = first + (i as usize) * size;
-        let mut j: usize = 0;
-        loop {
-            if j == size {
-                return Some(ItemNumber(i));
+    'search: {
+        // an iteration for each sector, up to the one that is found; within it at most one for each byte, up to the first that differs
+        for i in 0..n {
+            let start = first + (i as usize) * size;
+            let mut j: usize = 0;
+            loop {
+                if j == size {
+                    break 'search Some(ItemNumber(i));
+                }
+                if s[start + j] != sector[j] {
+                    break;
+                }
+                j += 1;
             }
-            if s[start + j] != sector[j] {
-                continue 'search;
-            }
-            j += 1;
         }
+        None
     }
-    None
 }

@@ -13,5 +13,5 @@ invariant-loop-j l =
 abbrev pub decreases-loop-j : goal.decreases-loop-j
 decreases-loop-j l = length l.sector - l.j
 
-abbrev pub invariant-search : goal.invariant-search
-invariant-search l = Searching (holds l.s l.first l.n l.sector) l.n (goal l.s l.first l.n l.sector) l.i
+abbrev pub invariant-loop-i : goal.invariant-loop-i
+invariant-loop-i l = Searching (holds l.s l.first l.n l.sector) l.n (goal l.s l.first l.n l.sector) l.i

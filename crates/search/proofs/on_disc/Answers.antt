@@ -14,38 +14,38 @@ use Rattle.search.proofs.on_disc.Goals.{Else-j-size}
 short : (c : Else-j-size) → c.loop-j.j < length c.args.sector.now
 short c = omega (arith, c.loop-j.invariant.1.most)
 
-pub search-init : goal.search-init
+pub loop-a-init : goal.loop-a-init
 unfolding on_disc
-search-init c = search-starts _ _ _ refl
+loop-a-init c = search-starts _ _ _ refl
 
 pub slot_at-requires : goal.slot_at-requires
 slot_at-requires c = (c.requires, omega arith)
 
-pub search-preserved-in_default : goal.search-preserved-in_default
-search-preserved-in_default c =
-    search-goes _ _ _ c.search.invariant (omega arith) (empty-other _ _ _ _ (by c.in_default.is c.slot_at.ensures))
+pub loop-a-preserved-in_default : goal.loop-a-preserved-in_default
+loop-a-preserved-in_default c =
+    search-goes _ _ _ c.loop-a.invariant (omega arith) (empty-other _ _ _ _ (by c.in_default.is c.slot_at.ensures))
 
-pub search-preserved-then-place-size : goal.search-preserved-then-place-size
-search-preserved-then-place-size c =
+pub loop-a-preserved-then-place-size : goal.loop-a-preserved-then-place-size
+loop-a-preserved-then-place-size c =
     let p = c.in-Some.place in
-    search-goes _ _ _ c.search.invariant (omega arith)
+    search-goes _ _ _ c.loop-a.invariant (omega arith)
     (size-other _ _ _ _ p c.requires (omega arith) (by c.in-Some.is c.slot_at.ensures) c.if-place-size.true)
 
 pub loop-j-init : goal.loop-j-init
 loop-j-init c =
     let p = c.in-Some.place in
-    (refl, size_same _ _ _ _ p c.requires (omega arith) (by c.in-Some.is c.slot_at.ensures) c.search.invariant c.if-place-size.false)
+    (refl, size_same _ _ _ _ p c.requires (omega arith) (by c.in-Some.is c.slot_at.ensures) c.loop-a.invariant c.if-place-size.false)
 
-pub search-preserved : goal.search-preserved
-search-preserved c = bytes-differ _ _ _ c.loop-j.invariant.1 (short (goal.at.search-preserved c).Else-j-size) c.if-s-start.true
+pub loop-a-preserved : goal.loop-a-preserved
+loop-a-preserved c = bytes-differ _ _ _ c.loop-j.invariant.1 (short (goal.at.loop-a-preserved c).Else-j-size) c.if-s-start.true
 
 pub loop-j-preserved : goal.loop-j-preserved
 loop-j-preserved c =
     (c.loop-j.invariant.0, bytes-agree _ _ _ c.loop-j.invariant.1 (short (goal.at.loop-j-preserved c).Else-j-size) c.if-s-start.false)
 
-pub returns : goal.returns
+pub returns-after-loop-a : goal.returns-after-loop-a
 unfolding entry_found
-returns c = search-done _ _ _ c.search.invariant (omega arith)
+returns-after-loop-a c = search-done _ _ _ c.loop-a.invariant (omega arith)
 
 pub returns-then-j-size : goal.returns-then-j-size
 unfolding entry_found

@@ -14,9 +14,6 @@ invariant-loop-j l =
 abbrev pub decreases-loop-j : goal.decreases-loop-j
 decreases-loop-j l = length l.sector - l.j
 
-abbrev pub invariant-search : goal.invariant-search
-invariant-search l =
+abbrev pub invariant-loop-a : goal.invariant-loop-a
+invariant-loop-a l =
     Searching (holds_sector l.s (held l.image) l.sector) l.image.found.count (on_disc l.s (held l.image) l.sector) l.a
-
-abbrev pub decreases-search : goal.decreases-search
-decreases-search l = l.image.found.count - l.a
