@@ -1,5 +1,6 @@
 -- `storing::old_entry` meets its contract. Assumes nothing.
 use mathlib.Core.Path.{◌∙◌, subst}
+use native.Mathlib.Omega.{arith}
 use Rattle.std.specs.Prelude.{Some}
 use Rattle.opening.specs.Answers.{PointsTo}
 use Rattle.opening.specs.Images.{held}
@@ -19,7 +20,7 @@ encode-requires c =
     let h = c.requires in
     let k = points (goal.at.encode-requires c).In-Some in
     let s = old-small _ _ _ h.0 h.1 h.2 k.0 in
-    (h.3, rw k.1 s.0, rw k.1 s.1)
+    (omega arith, rw k.1 s.0, rw k.1 s.1)
 
 pub returns-in-Some : goal.returns-in-Some
 returns-in-Some c = c.encode.ensures ∙ old-some _ _ _ _ _ (points (goal.at.returns-in-Some c).In-Some)
