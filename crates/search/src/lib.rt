@@ -17,11 +17,7 @@ pub fn slot_at<'a>(image: Image<'a>, a: EntryNumber) -> Option<Place>
     requires { Checked image.bytes.now (held image) × (a.0 < (held image).count) }
     ensures { result ≡ slot_at image.entry.bytes.now (held image.entry) a.0 }
 {
-    let e = image.table_entry(a);
-    if image.found.is_unwritten(e) {
-        return None;
-    }
-    let p = image.found.decoded(e);
+    let p = image.written(a)?;
     Some(sectors::place(image.bytes, p))
 }
 
