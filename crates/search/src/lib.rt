@@ -28,10 +28,12 @@ pub fn on_disc<'a, 'b>(image: Image<'a>, sector: &'b [u8]) -> Option<EntryNumber
 {
     let s = image.bytes;
     let size = sector.len();
-    // nested loops left by a label, the form that document 01 asks for here and in `among`
-    'search: {
+    let count = image.found.count();
+    // nested loops left by a label, the form that document 01 asks for here and in `among`; by the number alone, since with an Option the loop sets both its
+    // parts at each entry and a commit takes 1.3 times as long
+    let found = 'search: {
         // an iteration for each table entry, up to the one that is found; within it at most one for each byte, up to the first that differs
-        for a in 0..image.found.count() {
+        for a in 0..count {
             let Some(place) = slot_at(image, EntryNumber(a)) else {
                 continue;
             };
@@ -42,7 +44,7 @@ pub fn on_disc<'a, 'b>(image: Image<'a>, sector: &'b [u8]) -> Option<EntryNumber
             let mut j: usize = 0;
             loop {
                 if j == size {
-                    break 'search Some(EntryNumber(a));
+                    break 'search a;
                 }
                 if s[start + j] != sector[j] {
                     break;
@@ -50,8 +52,12 @@ pub fn on_disc<'a, 'b>(image: Image<'a>, sector: &'b [u8]) -> Option<EntryNumber
                 j += 1;
             }
         }
-        None
+        count
+    };
+    if found == count {
+        return None;
     }
+    Some(EntryNumber(found))
 }
 
 // The first of the n sectors that stand one after another from `at` on that holds these bytes; each has as many.

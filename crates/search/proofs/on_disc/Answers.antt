@@ -8,7 +8,7 @@ use Rattle.search.specs.Found.{entry_found}
 use Rattle.search.proofs.First.{search-starts, search-goes, search-done, bytes-agree, bytes-differ, bytes-done}
 use Rattle.search.proofs.Disc.{empty-other, size-other, size_same}
 use Rattle.search.proofs.on_disc.Goals as goal
-use Rattle.search.proofs.on_disc.Goals.{Else-j-size}
+use Rattle.search.proofs.on_disc.Goals.{Else-j-size, then-loop-a-test+in-Some+else-place-size+then-j-size, else-loop-a-test}
 
 -- past the test, a byte is left
 short : (c : Else-j-size) → c.loop-j.j < length c.args.sector.now
@@ -43,10 +43,16 @@ pub loop-j-preserved : goal.loop-j-preserved
 loop-j-preserved c =
     (c.loop-j.invariant.0, bytes-agree _ _ _ c.loop-j.invariant.1 (short (goal.at.loop-j-preserved c).Else-j-size) c.if-s-start.false)
 
-pub returns-after-loop-a : goal.returns-after-loop-a
+pub returns-then-found-count : goal.returns-then-found-count
 unfolding entry_found
-returns-after-loop-a c = search-done _ _ _ c.loop-a.invariant (omega arith)
+returns-then-found-count c = elim c.loop-a-test.branch [
+  | then-loop-a-test+in-Some+else-place-size+then-j-size w ↦ absurd (omega (arith, c.if-found-count.true, w.found-is, w.loop-a-test))
+  | else-loop-a-test w ↦ search-done _ _ _ c.loop-a.invariant (omega (arith, w.loop-a-test))
+]
 
-pub returns-then-j-size : goal.returns-then-j-size
+pub returns : goal.returns
 unfolding entry_found
-returns-then-j-size c = bytes-done _ _ _ c.loop-j.invariant.1 (omega arith)
+returns c = elim c.loop-a-test.branch [
+  | then-loop-a-test+in-Some+else-place-size+then-j-size w ↦ rw w.found-is (bytes-done _ _ _ w.loop-j.invariant.1 (omega arith))
+  | else-loop-a-test w ↦ absurd (c.if-found-count.false w.found-is)
+]
