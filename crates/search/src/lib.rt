@@ -67,21 +67,23 @@ pub fn among(s: &[u8], at: ByteOffset, n: u64, sector: &[u8]) -> Option<ItemNumb
 {
     let size = sector.len();
     let first = at.0 as usize;
-    'search: {
-        // an iteration for each sector, up to the one that is found; within it at most one for each byte, up to the first that differs
-        for i in 0..n {
-            let start = first + (i as usize) * size;
-            let mut j: usize = 0;
-            loop {
-                if j == size {
-                    break 'search Some(ItemNumber(i));
-                }
-                if s[start + j] != sector[j] {
-                    break;
-                }
-                j += 1;
+    let mut found = None;
+    // an iteration for each sector, up to the one that is found; within it at most one for each byte, up to the first that differs
+    let mut i: u64 = 0;
+    'search: while i < n {
+        let start = first + (i as usize) * size;
+        let mut j: usize = 0;
+        loop {
+            if j == size {
+                found = Some(ItemNumber(i));
+                break 'search;
             }
+            if s[start + j] != sector[j] {
+                break;
+            }
+            j += 1;
         }
-        None
+        i += 1;
     }
+    found
 }
