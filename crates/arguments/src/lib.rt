@@ -4,8 +4,9 @@
 
 ghost use Rattle.std.specs.Prelude.{◌≡◌, ◌*◌, length};
 ghost use Rattle.format.specs.Tests.{same, differs, below, ◌or◌};
+ghost use Rattle.format.specs.Refusals.{refusal, row};
 ghost use Rattle.format.specs.Layouts.{application_length};
-ghost use Rattle.format.specs.Writing.{most_sectors, largest_size, most_addresses, buffer_verdict};
+ghost use Rattle.format.specs.Writing.{most_sectors, largest_size, most_addresses, longest_buffer, buffer_verdict};
 ghost use Rattle.format.specs.Creating.{create_verdict};
 ghost use Rattle.format.specs.Committing.{rising, arguments_verdict};
 ghost use Rattle.format.specs.Importing.{import_verdict};
@@ -28,28 +29,36 @@ fn count_refused(count: u64) -> bool
     count == 0 || MOST_SECTORS < count
 }
 
-// The application's name: check 33.
-fn name_refused(application: &[u8]) -> bool
-    ensures { result ≡ differs (length application.now) application_length }
+// A buffer's length: check 31.
+fn length_verdict(buffer: &[u8]) -> Result<(), Refusal>
+    ensures { result ≡ row (below longest_buffer (length buffer.now)) (refusal 31 0) }
 {
-    application.len() as u64 != APPLICATION_LENGTH
+    if LONGEST_BUFFER < buffer.len() as u64 {
+        return Err(Refusal::of(Check::BufferTooLong));
+    }
+    Ok(())
+}
+
+// The application's name: check 33.
+fn name_verdict(application: &[u8]) -> Result<(), Refusal>
+    ensures { result ≡ row (differs (length application.now) application_length) (refusal 33 0) }
+{
+    if application.len() as u64 != APPLICATION_LENGTH {
+        return Err(Refusal::of(Check::LengthMismatch));
+    }
+    Ok(())
 }
 
 // A creation: 31, 30, 33, 35.
 pub fn create_verdict(buffer: &[u8], count: u64, application: &[u8]) -> Result<(), Refusal>
     ensures { result ≡ create_verdict buffer.now count application.now }
 {
-    let length = buffer.len() as u64;
-    if LONGEST_BUFFER < length {
-        return Err(Refusal::of(Check::BufferTooLong));
-    }
+    length_verdict(buffer)?;
     if count_refused(count) {
         return Err(Refusal::of(Check::SizeRefused));
     }
-    if name_refused(application) {
-        return Err(Refusal::of(Check::LengthMismatch));
-    }
-    if length < CREATED_LENGTH + 8 * count {
+    name_verdict(application)?;
+    if (buffer.len() as u64) < CREATED_LENGTH + 8 * count {
         return Err(Refusal::of(Check::NoRoom));
     }
     Ok(())
@@ -59,11 +68,8 @@ pub fn create_verdict(buffer: &[u8], count: u64, application: &[u8]) -> Result<(
 pub fn buffer_verdict(buffer: &[u8], used: u64) -> Result<(), Refusal>
     ensures { result ≡ buffer_verdict buffer.now used }
 {
-    let length = buffer.len() as u64;
-    if LONGEST_BUFFER < length {
-        return Err(Refusal::of(Check::BufferTooLong));
-    }
-    if length < used {
+    length_verdict(buffer)?;
+    if (buffer.len() as u64) < used {
         return Err(Refusal::of(Check::UsedPastBuffer));
     }
     Ok(())
@@ -133,9 +139,7 @@ pub fn import_verdict(
 ) -> Result<(), Refusal>
     ensures { result ≡ import_verdict buffer.now file.now size application.now }
 {
-    if LONGEST_BUFFER < buffer.len() as u64 {
-        return Err(Refusal::of(Check::BufferTooLong));
-    }
+    length_verdict(buffer)?;
     let length = file.len() as u64;
     if file_refused(size, length) {
         return Err(Refusal::of(Check::SizeRefused));
@@ -143,21 +147,13 @@ pub fn import_verdict(
     if length % size != 0 {
         return Err(Refusal::of(Check::PartialSector));
     }
-    if name_refused(application) {
-        return Err(Refusal::of(Check::LengthMismatch));
-    }
-    Ok(())
+    name_verdict(application)
 }
 
 // The buffer and the application's name of a flattening: 31, 33.
 pub fn lent_verdict(buffer: &[u8], application: &[u8]) -> Result<(), Refusal>
     ensures { result ≡ lent_verdict buffer.now application.now }
 {
-    if LONGEST_BUFFER < buffer.len() as u64 {
-        return Err(Refusal::of(Check::BufferTooLong));
-    }
-    if name_refused(application) {
-        return Err(Refusal::of(Check::LengthMismatch));
-    }
-    Ok(())
+    length_verdict(buffer)?;
+    name_verdict(application)
 }

@@ -17,7 +17,6 @@ ghost use Rattle.opening.specs.Answers.{contents};
 ghost use Rattle.opening.specs.Images.{held};
 ghost use Rattle.checking.specs.Checked.{leaves, in_scope, looked_at, indexed, form_verdict, entry_form, Formed, damaged, FirstLeft, FirstOn, FirstWithin, FirstRefused, FirstOfAll};
 
-use fields::{get, part};
 use format::{ByteOffset, Check, EntryNumber, INDEX_OFFSET, Pointer, Refusal, SectorAddress};
 use opening::{Image, Opened};
 
@@ -164,13 +163,7 @@ fn first_form<'a, 'b>(image: Image<'a>, scope: Scope<'b>) -> First
 fn is_damaged(s: &[u8], b: ByteOffset) -> bool
     ensures { result ≡ damaged s.now b.0 }
 {
-    let block = b.0;
-    sectors::block_verdict(s, b).is_ok()
-        && tables::sums_differ(
-            part(s, block + 36, get(s, block + 16, 4)),
-            get(s, block + 20, 8),
-            get(s, block + 28, 8),
-        )
+    sectors::block_verdict(s, b).is_ok() && sectors::block_sums_differ(s, b)
 }
 
 // The first table entry of the scope below `first` that points into the damaged block at b, with 27; `first` where there is none.

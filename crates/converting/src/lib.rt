@@ -11,12 +11,12 @@ pub fn export(input: &[u8], out: &mut [u8; 65536]) -> usize
     ensures { Prints out.old (export_text input.now) out.new result }
 {
     if 65536 < input.len() {
-        return text::write(out, 0, b"too long\n");
+        return text::print(out, b"too long\n");
     }
     let answer = flat::export_exact(input, out);
     match answer {
         Ok(n) => n as usize,
-        Err(r) => text::refused(out, 0, r.number as u64),
+        Err(r) => text::print_refused(out, r.number as u64),
     }
 }
 
@@ -25,7 +25,7 @@ pub fn import(input: &[u8], out: &mut [u8; 65536]) -> usize
     ensures { Prints out.old (import_text input.now) out.new result }
 {
     if 65536 < input.len() {
-        return text::write(out, 0, b"too long\n");
+        return text::print(out, b"too long\n");
     }
     let application = [0u8; 64];
     let stamp = Stamp {
@@ -39,6 +39,6 @@ pub fn import(input: &[u8], out: &mut [u8; 65536]) -> usize
     let answer = flat::import(out, input, 2048, stamp);
     match answer {
         Ok(p) => p.used as usize,
-        Err(r) => text::refused(out, 0, r.number as u64),
+        Err(r) => text::print_refused(out, r.number as u64),
     }
 }

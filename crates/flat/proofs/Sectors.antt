@@ -13,7 +13,7 @@ use Rattle.fields.specs.Bytes.{part, overwrite}
 use Rattle.fields.proofs.Steps.{sub-step, sub-done}
 use Rattle.fields.proofs.Overwrite.{length-overwrite, overwrite-then, overwrite-nil}
 use Rattle.format.specs.declared.Place.{Place}
-use Rattle.format.specs.Tests.{same, differs, below, ◌and◌, choose}
+use Rattle.format.specs.Tests.{below, choose}
 use Rattle.format.specs.Lists.{of_each, how_many}
 use Rattle.format.specs.Refusals.{refusal, row}
 use Rattle.format.specs.Layouts.{index_offset, entries}
@@ -21,7 +21,7 @@ use Rattle.format.specs.Opening.{Opened, opened}
 use Rattle.format.specs.Reading.{not_written, item_bytes}
 use Rattle.format.specs.Committing.{sectors_verdict}
 use Rattle.format.specs.Exporting.{size_at, size_from, flat_size, piece_at, flat_file, size_verdict}
-use Rattle.format.proofs.Tests.{below_true, below-iff, differs-iff, differs_true, and-true, choose-true, choose-false}
+use Rattle.format.proofs.Tests.{below_true, below-iff, differs_true, and-true, choose-true, choose-false}
 use Rattle.format.proofs.Refusals.{row-refuses, row-passes, first_refusal-iff}
 use Rattle.format.proofs.Checks.{AddressOk, address-ok}
 use Rattle.format.proofs.Exporting.{SizeOk, size_ok, piece-length, file-length}
@@ -105,16 +105,6 @@ module _ (f : ℕ → Bool) (n : ℕ) where
     pub counting-done : n ≤ a → so ≡ how_many f n 0
     unfolding how_many
     counting-done h = omega (arith, g.left, ap (λ k. how_many f k a) (sub-done a n h))
-
--- ---- 21: there are sectors, and none is written
-module _ (count gaps : ℕ) where
-  pub blank_none : {b : Bool} → count ≡ 0 → b ≡ differs count 0 → b ≡ (differs count 0 and same gaps count)
-  unfolding ◌and◌
-  blank_none e d = d ∙ rw ((differs-iff {a = count} {b = 0}).1 e) refl
-
-  pub blank-some : {b : Bool} → count ≢ 0 → b ≡ same gaps count → b ≡ (differs count 0 and same gaps count)
-  unfolding ◌and◌
-  blank-some n e = e ∙ sym (rw (differs_true count 0 n) refl)
 
 -- ---- what stands for table entry n, as the code finds it
 module _ (img : List ℕ) (t : Opened) (n : ℕ) where

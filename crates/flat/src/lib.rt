@@ -126,6 +126,7 @@ fn count_gaps<'a>(image: Image<'a>) -> u64
 }
 
 // Whether a disc of so many sectors, of which so many are not written, has sectors and none that is written.
+#[tactic(auto, using(format::proofs::Tests::each_test))]
 fn is_blank(count: u64, gaps: u64) -> bool
     ensures { result ≡ (differs count 0 and same gaps count) }
 {

@@ -16,20 +16,22 @@ use Rattle.format.specs.Refusals.{Answer}
 use Rattle.format.specs.Opening.{sector_count}
 use Rattle.format.specs.Reading.{locate}
 use Rattle.text.specs.Text.{TOO-LONG, NEWLINE, decimal, signed, longest_input}
-use Rattle.text.specs.Buffer.{Writes}
-use Rattle.text.proofs.Writes.{writes_then, unless-long, unless-short}
+use Rattle.text.specs.declared.Writer.{Writer}
+use Rattle.text.specs.Appends.{Appends}
+use Rattle.text.proofs.Writes.{unless-long, unless-short}
+use Rattle.text.proofs.Appends.{appends_then}
 use Rattle.listing.specs.Listing.{SPACE, DASH, head, line, lines_from, lines, image_text, listing}
 
 -- ---- the line of an address
-module _ {s t u : List ℕ} {at p q : ℕ} {l : Answer Place} (a : ℤ) (w : Writes s at (signed a) t p) where
-  pub line_refused : {r : Refusal} → l ≡ Err r → Writes t p (DASH ++ decimal r.number ++ NEWLINE) u q → Writes s at (line a l) u q
+module _ {s t u : Writer} {l : Answer Place} (a : ℤ) (w : Appends s (signed a) t) where
+  pub line_refused : {r : Refusal} → l ≡ Err r → Appends t (DASH ++ decimal r.number ++ NEWLINE) u → Appends s (line a l) u
   unfolding line
-  line_refused e v = rw e (simp append_assoc (writes_then w v))
+  line_refused e v = rw e (simp append_assoc (appends_then w v))
 
-  pub line_at : {x : Place} {v : List ℕ} {r : ℕ} → l ≡ Ok x → Writes t p (SPACE ++ decimal x.start.0) u q
-      → Writes u q (SPACE ++ decimal x.size ++ NEWLINE) v r → Writes s at (line a l) v r
+  pub line_at : {x : Place} {v : Writer} → l ≡ Ok x → Appends t (SPACE ++ decimal x.start.0) u
+      → Appends u (SPACE ++ decimal x.size ++ NEWLINE) v → Appends s (line a l) v
   unfolding line
-  line_at e y z = rw e (simp append_assoc (writes_then w (writes_then y z)))
+  line_at e y z = rw e (simp append_assoc (appends_then w (appends_then y z)))
 
 -- ---- the lines of an image
 pub address-next : (a : ℤ) (n : ℕ) → a +ℤ pos n +ℤ pos 1 ≡ a +ℤ pos (suc n)
@@ -43,18 +45,18 @@ lines_from-last img (suc k) a =
     rw (append_assoc, ← e) (ap (λ (l : List ℕ). line a (locate img a) ++ l) (lines_from-last img k (a +ℤ pos 1)))
 
 -- an iteration of a loop over the addresses from `low` on: where the lines of n of them are written, and then the next one
-pub lines_next : {s t u : List ℕ} {at p q : ℕ} (img : List ℕ) (low : ℤ) (n : ℕ) → Writes s at (lines_from img n low) t p
-    → Writes t p (line (low +ℤ pos n) (locate img (low +ℤ pos n))) u q → Writes s at (lines_from img (n + 1) low) u q
-lines_next img low n w v = rw (add-one, lines_from-last) (writes_then w v)
+pub lines_next : {s t u : Writer} (img : List ℕ) (low : ℤ) (n : ℕ) → Appends s (lines_from img n low) t
+    → Appends t (line (low +ℤ pos n) (locate img (low +ℤ pos n))) u → Appends s (lines_from img (n + 1) low) u
+lines_next img low n w v = rw (add-one, lines_from-last) (appends_then w v)
 
 -- ---- the whole, after the first line
-module _ {s t : List ℕ} {at p : ℕ} (img : List ℕ) where
-  pub image-opens : {q : ℕ} {u : List ℕ} (r : AddressRange) → Ok r ≡ sector_count img → Writes s at (head (Ok r)) t p
-      → Writes t p (lines_from img r.count r.lowest.0) u q → Writes s at (image_text img) u q
+module _ {s t : Writer} (img : List ℕ) where
+  pub image-opens : {u : Writer} (r : AddressRange) → Ok r ≡ sector_count img → Appends s (head (Ok r)) t
+      → Appends t (lines_from img r.count r.lowest.0) u → Appends s (image_text img) u
   unfolding image_text lines
-  image-opens r e w v = rw (← e) (writes_then w v)
+  image-opens r e w v = rw (← e) (appends_then w v)
 
-  pub image-refused : (r : Refusal) → Err r ≡ sector_count img → Writes s at (head (Err r)) t p → Writes s at (image_text img) t p
+  pub image-refused : (r : Refusal) → Err r ≡ sector_count img → Appends s (head (Err r)) t → Appends s (image_text img) t
   unfolding image_text lines
   image-refused r e w = rw (← e, append-nil) w
 

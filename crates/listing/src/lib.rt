@@ -1,45 +1,44 @@
 // What the listing program prints, as a function on slices.
 #![tactic(auto)]
 
-mod lines; // its lines, written into a lent buffer
+mod lines; // its lines
 
 ghost use Rattle.std.specs.Prelude.{◌≤◌, length, pos, neg_ℤ};
 ghost use Rattle.opening.specs.Images.{held};
 ghost use Rattle.text.specs.Text.{longest_input};
-ghost use Rattle.text.specs.Buffer.{Writes, Prints};
+ghost use Rattle.text.specs.Buffer.{Prints};
+ghost use Rattle.text.specs.Appends.{Appends};
 ghost use Rattle.listing.specs.Listing.{lines_from, image_text, listing};
 
 use format::EntryNumber;
 use opening::Image;
 use sectors::Visit;
+use text::Writer;
 
 // The lines of all addresses of an opened image. Neighbours in one intact block cost one pass over the index and the block.
-fn address_lines<'a, 'b>(image: Image<'a>, out: &'b mut [u8], at: usize) -> usize
-    requires { at ≤ length out.old }
-    ensures { Writes out.old at (lines_from image.entry.bytes.now (held image.entry).count (neg_ℤ (pos (held image.entry).negative))) out.new result }
+fn address_lines(image: Image<'_>, w: &mut Writer<'_>)
+    ensures { Appends w.old (lines_from image.entry.bytes.now (held image.entry).count (neg_ℤ (pos (held image.entry).negative))) w.new }
 {
-    let mut next = at;
     let mut known = None;
     // an iteration for each address
     for n in 0..image.found.count() {
         let address = image.found.address(EntryNumber(n));
         let near = sectors::locate_near(image, Visit { address, known });
-        next = lines::line(out, next, address, near.located);
+        lines::line(w, address, near.located);
         known = near.known;
     }
-    next
 }
 
 // The text of an image, which is no longer than the longest text. It is opened once.
-fn image_text(s: &[u8], out: &mut [u8]) -> usize
+fn image_text(s: &[u8], w: &mut Writer<'_>)
     requires { length s.now ≤ longest_input }
-    ensures { Writes out.old 0 (image_text s.now) out.new result × (length (image_text s.now) ≤ 311296) }
+    ensures { Appends w.old (image_text s.now) w.new × (length (image_text s.now) ≤ 311296) }
 {
     match opening::open(s) {
-        Err(r) => lines::head(out, 0, Err(r)),
+        Err(r) => lines::head(w, Err(r)),
         Ok(image) => {
-            let next = lines::head(out, 0, Ok(image.found.range()));
-            address_lines(image, out, next)
+            lines::head(w, Ok(image.found.range()));
+            address_lines(image, w);
         }
     }
 }
@@ -50,7 +49,9 @@ pub fn list(input: &[u8], out: &mut [u8; 311296]) -> usize
     ensures { Prints out.old (listing input.now) out.new result }
 {
     if 65536 < input.len() {
-        return text::write(out, 0, b"too long\n");
+        return text::print(out, b"too long\n");
     }
-    image_text(input, out)
+    let mut w = Writer::new(out);
+    image_text(input, &mut w);
+    w.written()
 }

@@ -3,7 +3,7 @@ ghost use Rattle.std.specs.Prelude.{◌≡◌, ◌<◌, Ok};
 ghost use Rattle.format.specs.Layouts.{index_offset};
 ghost use Rattle.format.specs.Opening.{opening};
 ghost use Rattle.format.specs.Reading.{table_entry, pointer_at};
-ghost use Rattle.opening.specs.Answers.{contents};
+ghost use Rattle.opening.specs.Answers.{contents, PointsTo};
 
 use super::Opened;
 use fields::get;
@@ -57,5 +57,17 @@ impl<'a> Image<'a> {
         ensures { result ≡ pointer_at self.entry.bytes.now (contents self.entry.found) n.0 }
     {
         self.found.decoded(self.table_entry(n))
+    }
+
+    // What table entry n points to, none where it is not written. It is read once.
+    pub fn written(self, n: EntryNumber) -> Option<Pointer>
+        requires { n.0 < (contents self.found).count }
+        ensures { PointsTo self.entry.bytes.now (contents self.entry.found) n.0 result }
+    {
+        let e = self.table_entry(n);
+        if self.found.is_unwritten(e) {
+            return None;
+        }
+        Some(self.found.decoded(e))
     }
 }

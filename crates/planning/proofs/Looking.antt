@@ -11,24 +11,25 @@ use Rattle.format.specs.declared.ItemNumber.{ItemNumber}
 use Rattle.format.specs.declared.Pointer.{Pointer}
 use Rattle.format.specs.declared.EntryNumber.{EntryNumber}
 use Rattle.format.specs.Opening.{Opened}
-use Rattle.format.specs.Reading.{not_written, pointer_at}
+use Rattle.format.specs.Reading.{pointer_at}
 use Rattle.format.specs.Committing.{on_disc, among_stored, pieces, old_pointer, item_or_zero}
 use Rattle.format.proofs.Tests.{choose-true, choose-false}
 use Rattle.format.proofs.Storing.{on_disc-found}
+use Rattle.opening.specs.Answers.{PointsTo}
 use Rattle.search.specs.Found.{entry_found, item_found}
 use Rattle.search.proofs.Stored.{room}
 use Rattle.planning.specs.Plans.{is_next, Commits, sector_of, Looks, missing, is_new, looked_for, looked}
 use Rattle.planning.proofs.Cursor.{next-listed}
 
--- the item of an address, by whether it is written
-module _ (img : List ℕ) (t : Opened) (a : ℕ) {b : Bool} (w : b ≡ not_written img t a) where
-  pub item-none : b ≡ true → 0 ≡ item_or_zero (old_pointer img t a)
-  unfolding old_pointer item_or_zero
-  item-none e = ap item_or_zero (sym (choose-true _ _ _ (sym w ∙ e)))
+-- the item of an address, by what its table entry points to
+module _ (img : List ℕ) (t : Opened) (a : ℕ) where
+  pub item-none : PointsTo img t a None → 0 ≡ item_or_zero (old_pointer img t a)
+  unfolding old_pointer item_or_zero PointsTo
+  item-none k = ap item_or_zero (sym (choose-true _ _ _ k))
 
-  pub item-old : (p : Pointer) → p ≡ pointer_at img t a → b ≡ false → p.item.0 ≡ item_or_zero (old_pointer img t a)
-  unfolding old_pointer item_or_zero
-  item-old p f e = ap (λ (q : Pointer). q.item.0) f ∙ ap item_or_zero (sym (choose-false _ _ _ (sym w ∙ e)))
+  pub item-old : (p : Pointer) → PointsTo img t a (Some p) → p.item.0 ≡ item_or_zero (old_pointer img t a)
+  unfolding old_pointer item_or_zero PointsTo
+  item-old p k = ap (λ (q : Pointer). q.item.0) k.1 ∙ ap item_or_zero (sym (choose-false _ _ _ k.0))
 
 pub next-looks : {img : List ℕ} {t : Opened} {addresses : List ℕ} {size : ℕ} {sectors : List ℕ} (k a stored : ℕ) → Commits img t addresses size sectors
     → is_next addresses k a ≡ true → stored ≤ k → Looks img t size sectors k stored

@@ -51,12 +51,10 @@ fn old_item<'a>(image: Image<'a>, n: EntryNumber) -> ItemNumber
     requires { n.0 < (held image).count }
     ensures { result.0 ≡ item_or_zero (old_pointer image.entry.bytes.now (held image.entry) n.0) }
 {
-    let e = image.table_entry(n);
-    if image.found.is_unwritten(e) {
-        return ItemNumber(0);
+    match image.written(n) {
+        None => ItemNumber(0),
+        Some(p) => p.item,
     }
-    let p = image.found.decoded(e);
-    p.item
 }
 
 // Whether sector k of those that stand one after another equals none before it.

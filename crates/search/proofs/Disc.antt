@@ -22,6 +22,7 @@ use Rattle.format.specs.Committing.{sectors_verdict, holds_sector}
 use Rattle.format.proofs.Tests.{on-or-off, off_rest, choose-true, choose-false}
 use Rattle.format.proofs.Refusals.{first_refusal-iff}
 use Rattle.format.proofs.Checks.{PointerOk, SectorOk, address-ok, item-inside}
+use Rattle.opening.specs.Answers.{PointsTo}
 use Rattle.search.specs.Found.{Checked, slot_at}
 use Rattle.search.proofs.First.{Searching, Comparing}
 
@@ -34,18 +35,19 @@ sector-good img t a k h w =
     ((first_refusal-iff t.count t.count 0 (omega arith) (λ n l. address-ok img (entries img (index_offset img)) t n)).0 k.1 a (omega arith) h)
 
 -- ---- what an address has, by whether it is written
-module _ (img : List ℕ) (t : Opened) (a : ℕ) {b : Bool} (w : b ≡ not_written img t a) where
-  pub slot-empty : b ≡ true → None ≡ slot_at img t a
-  unfolding slot_at
-  slot-empty y = sym (choose-true _ _ _ (sym w ∙ y))
+module _ (img : List ℕ) (t : Opened) (a : ℕ) where
+  pub slot-empty : PointsTo img t a None → None ≡ slot_at img t a
+  unfolding slot_at PointsTo
+  slot-empty k = sym (choose-true _ _ _ k)
 
-  module _ (p : Pointer) (e : p ≡ pointer_at img t a) (n : b ≡ false) where
+  module _ (p : Pointer) (k : PointsTo img t a (Some p)) where
     pub slot-item : Checked img t → a < t.count → PointerOk img p
-    slot-item k h = rw e (sector-good img t a k h (sym w ∙ n)).item
+    unfolding PointsTo
+    slot-item c h = rw k.1 (sector-good img t a c h k.0).item
 
     pub slot-sector : (q : Place) → q ≡ place_of img p → Some q ≡ slot_at img t a
-    unfolding slot_at
-    slot-sector q f = ap Some f ∙ rw e (sym (choose-false _ _ _ (sym w ∙ n)))
+    unfolding slot_at PointsTo
+    slot-sector q f = ap Some f ∙ rw k.1 (sym (choose-false _ _ _ k.0))
 
 is-empty : (b : Bool) (q : Place) → None ≡ choose b None (Some q) → b ≡ true
 unfolding choose

@@ -4,10 +4,11 @@
 #![tactic(auto)]
 
 ghost use Rattle.std.specs.Prelude.{◌≡◌, ◌+◌, ◌*◌, ◌/◌, ◌≤◌, ◌<◌, length};
+ghost use Rattle.crc64.specs.Crc.{crc_of};
 ghost use Rattle.format.specs.Tests.{same, differs, at_least, ◌and◌};
 ghost use Rattle.format.specs.Refusals.{refusal, row, answer};
-ghost use Rattle.format.specs.Layouts.{DBLK, index_offset, index_header_length, entry_count, entry_length, entries_from, entries, block_length, sector_size};
-ghost use Rattle.format.specs.Opening.{is_user_data, offsets_of, open_verdict, opening};
+ghost use Rattle.format.specs.Layouts.{DBLK, index_offset, index_header_length, entry_count, entry_length, entries_from, entries, block_length, sector_size, block_cmp_crc64, block_crc64, block_payload};
+ghost use Rattle.format.specs.Opening.{is_user_data, offsets_of, sums_differ, open_verdict, opening};
 ghost use Rattle.format.specs.Reading.{has, pointer_at, block_malformed, block_verdict, item_verdict, pointer_verdict, sector_verdict, address_verdict, pointer_of, place_of, locate, read};
 ghost use Rattle.format.specs.Facts.{BlockOk, ItemOk};
 ghost use Rattle.format.specs.Answers.{bytes_read};
@@ -112,21 +113,28 @@ pub fn number_verdict(s: &[u8], p: Pointer) -> Result<(), Refusal>
     Ok(())
 }
 
+// Whether one of the checksums of the block at b, which passed, is wrong: check 27. One pass over its payload.
+pub fn block_sums_differ(s: &[u8], b: ByteOffset) -> bool
+    requires { BlockOk s.now b.0 }
+    ensures { result ≡ sums_differ (crc_of (block_payload s.now b.0)) (block_cmp_crc64 s.now b.0) (block_crc64 s.now b.0) }
+{
+    let block = b.0;
+    tables::sums_differ(
+        part(s, block + 36, get(s, block + 16, 4)),
+        get(s, block + 20, 8),
+        get(s, block + 28, 8),
+    )
+}
+
 // The item of p: checks 23 to 27. One pass over the block for its checksum.
 fn item_verdict(s: &[u8], p: Pointer) -> Result<(), Refusal>
     ensures { result ≡ item_verdict s.now p }
 {
-    let place = p.block;
-    block_verdict(s, place)?;
+    let b = p.block;
+    block_verdict(s, b)?;
     number_verdict(s, p)?;
-    let block = place.0;
-    let length = get(s, block + 16, 4);
-    if tables::sums_differ(
-        part(s, block + 36, length),
-        get(s, block + 20, 8),
-        get(s, block + 28, 8),
-    ) {
-        return Err(Refusal::at(Check::BlockChecksum, p.block));
+    if block_sums_differ(s, b) {
+        return Err(Refusal::at(Check::BlockChecksum, b));
     }
     Ok(())
 }

@@ -1,5 +1,5 @@
 -- One sector: what each answer of the searches leaves.
-use mathlib.Core.Bool.{true, false}
+use mathlib.Core.Bool.{false}
 use mathlib.Core.List.{List, [], ◌∷◌, ◌++◌, flatten}
 use mathlib.Core.Logic.{◌≢◌}
 use mathlib.Core.Option.{none, some}
@@ -25,6 +25,7 @@ use Rattle.format.proofs.Lists.{Sized}
 use Rattle.format.proofs.Tests.{choose-true, choose-false}
 use Rattle.format.proofs.Storing.{OnDisc, on_disc-found, length-pieces, Source, old, new, step_ok}
 use Rattle.format.proofs.Appended.{pointer-small}
+use Rattle.opening.specs.Answers.{PointsTo}
 use Rattle.search.specs.Found.{Checked, entry_found, item_found}
 use Rattle.search.proofs.Disc.{sector-good}
 use Rattle.storing.specs.declared.Handed.{Handed}
@@ -52,13 +53,13 @@ step_small img t block items sector size k pos short =
 
 -- ---- an address that keeps what it has
 module _ (img : List ℕ) (t : Opened) (a shift : ℕ) where
-  pub old-none : not_written img t a ≡ true → 0 ≡ entry_of shift (old_pointer img t a)
-  unfolding old_pointer entry_of
-  old-none e = rw (choose-true (not_written img t a) none (some (pointer_at img t a)) e)
+  pub old-none : PointsTo img t a None → 0 ≡ entry_of shift (old_pointer img t a)
+  unfolding old_pointer entry_of PointsTo
+  old-none k = rw (choose-true (not_written img t a) none (some (pointer_at img t a)) k)
 
-  pub old-some : not_written img t a ≡ false → encode shift (pointer_at img t a) ≡ entry_of shift (old_pointer img t a)
-  unfolding old_pointer entry_of
-  old-some e = rw (choose-false (not_written img t a) none (some (pointer_at img t a)) e)
+  pub old-some : (p : Pointer) → PointsTo img t a (Some p) → encode shift p ≡ entry_of shift (old_pointer img t a)
+  unfolding old_pointer entry_of PointsTo
+  old-some p k = rw (k.1, choose-false (not_written img t a) none (some (pointer_at img t a)) k.0)
 
 -- ---- a sector that the disc does not hold
 pub nowhere : (d : List ℕ) → on_disc [] no_disc d ≡ none

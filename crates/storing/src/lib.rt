@@ -87,11 +87,10 @@ fn old_entry<'a>(image: Image<'a>, a: EntryNumber, shift: u64) -> u64
     requires { Checked image.bytes.now (held image) × (length image.bytes.now ≤ longest_buffer) × (a.0 < (held image).count) × (shift ≤ 32) }
     ensures { result ≡ entry_of shift (old_pointer image.entry.bytes.now (held image.entry) a.0) }
 {
-    let e = image.table_entry(a);
-    if image.found.is_unwritten(e) {
-        return 0;
+    match image.written(a) {
+        None => 0,
+        Some(p) => encode(shift, p),
     }
-    encode(shift, image.found.decoded(e))
 }
 
 // Entry a of the new table; a sector that is handed in for its address is stored if it has to be.

@@ -5,10 +5,9 @@ use mathlib.Core.Logic.{⊎_elim}
 use mathlib.Core.Path.{◌≡◌, refl, sym, ap, ◌∙◌}
 use Prim.Native.Nat.{ℕ, ◌+◌, ◌-◌, ◌≤◌, ◌<◌}
 use native.Mathlib.Nat.{eq-zero-or-pos}
-use native.Mathlib.Numerals.{add-one}
 use native.Mathlib.Omega.{arith}
-use lib.ListN.{length, take, get_or, set, length-append}
-use lib.Seq.{take-suc, take_all, length-take-le}
+use lib.ListN.{length, take, set, length-append}
+use lib.Seq.{length-take-le}
 use Rattle.fields.specs.Bytes.{overwrite}
 use Rattle.fields.proofs.Overwrite.{length-overwrite, overwrite-out, overwrite-then}
 use Rattle.format.proofs.Tests.{below_true, below-iff, choose-true, choose-false}
@@ -51,14 +50,6 @@ writes_byte s at b h = record { bytes = refl; place = omega arith }
 -- at the end nothing changes
 pub writes-full : (s : List ℕ) (at : ℕ) (text : List ℕ) → at ≡ length s → Writes s at text s at
 writes-full s at text e = record { bytes = sym (overwrite-out s at text (omega arith)); place = omega arith }
-
--- ---- a loop over the bytes of a text
-module _ {s t : List ℕ} {at p : ℕ} (x : List ℕ) (i : ℕ) (w : Writes s at (take i x) t p) where
-  pub writes-next : {u : List ℕ} {q : ℕ} → i < length x → Writes t p (get_or x i 0 ∷ []) u q → Writes s at (take (i + 1) x) u q
-  writes-next h v = rw (add-one, take-suc x i 0 h) (writes_then w v)
-
-  pub writes_end : length x ≤ i → Writes s at x t p
-  writes_end h = rw take_all at w
 
 -- ---- a program's text, by the length of its input
 module _ (input text : List ℕ) where

@@ -7,7 +7,7 @@ use Rattle.converting.proofs.Calls.{export-fills, export-long}
 use Rattle.converting.proofs.export.Goals as goal
 
 pub returns-then-input-gt65536 : goal.returns-then-input-gt65536
-returns-then-input-gt65536 c = rw (export-long _ c.if-input-gt65536.true) (writes-prints (omega arith) c.write.ensures)
+returns-then-input-gt65536 c = rw (export-long _ c.if-input-gt65536.true) (writes-prints (omega arith) c.print.ensures)
 
 pub returns-in-Ok : goal.returns-in-Ok
 unfolding export_text
@@ -17,4 +17,4 @@ returns-in-Ok c =
 pub returns-in-Err : goal.returns-in-Err
 unfolding export_text
 returns-in-Err c =
-    prints-refusal (export-fills _) _ (omega arith) (omega arith) _ c.in-Err.is c.export_exact-answer.ensures c.refused.ensures
+    prints-refusal (export-fills _) _ (omega arith) (omega arith) _ c.in-Err.is c.export_exact-answer.ensures c.print_refused.ensures

@@ -24,4 +24,4 @@ unfolding range_of
 returns-in-Ok c =
     let n = c.range.ensures in
     let e = count-opened _ _ (opens (goal.at.returns-in-Ok c).In-Ok) in
-    (image-opens _ _ e (rw n.0 at c.head-next.ensures) (rw c.in-Ok.ensures.bytes at c.address_lines.ensures), opened-fits _ c.requires (held c.in-Ok.image) e n.1)
+    (image-opens _ _ e (rw n.0 at c.head-in-Ok.ensures) (rw c.in-Ok.ensures.bytes at c.address_lines.ensures), opened-fits _ c.requires (held c.in-Ok.image) e n.1)

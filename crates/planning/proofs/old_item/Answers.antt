@@ -1,15 +1,11 @@
 -- `planning::old_item` meets its contract. Assumes nothing.
-use Rattle.opening.proofs.Accepted.{decodes}
-use Rattle.opening.proofs.Entries.{written_is, pointer_is}
+use mathlib.Core.Path.{subst}
+use Rattle.opening.specs.Answers.{PointsTo}
 use Rattle.planning.proofs.Looking.{item-none, item-old}
 use Rattle.planning.proofs.old_item.Goals as goal
 
-pub returns-then-is_unwritten : goal.returns-then-is_unwritten
-returns-then-is_unwritten c = item-none _ _ _ (written_is _ _ _ c.table_entry-e.ensures c.is_unwritten.ensures) c.if-is_unwritten.true
+pub returns-in-None : goal.returns-in-None
+returns-in-None c = item-none _ _ _ (subst (PointsTo _ _ _) c.in-None.is c.written.ensures)
 
-pub decoded-p-requires : goal.decoded-p-requires
-decoded-p-requires c = decodes _ _ c.args.image.opens
-
-pub returns : goal.returns
-returns c =
-    item-old _ _ _ (written_is _ _ _ c.table_entry-e.ensures c.is_unwritten.ensures) _ (pointer_is _ _ _ c.table_entry-e.ensures c.decoded-p.ensures) c.if-is_unwritten.false
+pub returns-in-Some : goal.returns-in-Some
+returns-in-Some c = item-old _ _ _ _ (subst (PointsTo _ _ _) c.in-Some.is c.written.ensures)

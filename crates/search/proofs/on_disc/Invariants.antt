@@ -2,7 +2,6 @@
 use mathlib.Core.Path.{◌≡◌}
 use Prim.Native.Nat.{◌-◌}
 use lib.ListN.{length}
-use Rattle.std.specs.Prelude.{None}
 use Rattle.format.specs.Committing.{holds_sector, on_disc}
 use Rattle.opening.specs.Images.{held}
 use Rattle.search.proofs.First.{Searching, Comparing}
@@ -10,14 +9,11 @@ use Rattle.search.proofs.on_disc.Given as goal
 
 abbrev pub invariant-loop-j : goal.invariant-loop-j
 invariant-loop-j l =
-    (l.a ≡ l.initial.a) × (l.found ≡ None) × Comparing (holds_sector l.s (held l.image) l.sector) l.image.found.count (on_disc l.s (held l.image) l.sector) l.s l.sector l.a l.start l.j
+    (l.a ≡ l.initial.a) × Comparing (holds_sector l.s (held l.image) l.sector) l.image.found.count (on_disc l.s (held l.image) l.sector) l.s l.sector l.a l.start l.j
 
 abbrev pub decreases-loop-j : goal.decreases-loop-j
 decreases-loop-j l = length l.sector - l.j
 
-abbrev pub invariant-search : goal.invariant-search
-invariant-search l =
-    (l.found ≡ None) × Searching (holds_sector l.s (held l.image) l.sector) l.image.found.count (on_disc l.s (held l.image) l.sector) l.a
-
-abbrev pub decreases-search : goal.decreases-search
-decreases-search l = l.image.found.count - l.a
+abbrev pub invariant-loop-a : goal.invariant-loop-a
+invariant-loop-a l =
+    Searching (holds_sector l.s (held l.image) l.sector) l.image.found.count (on_disc l.s (held l.image) l.sector) l.a

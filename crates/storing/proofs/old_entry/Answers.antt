@@ -1,27 +1,26 @@
 -- `storing::old_entry` meets its contract. Assumes nothing.
-use mathlib.Core.Path.{◌∙◌}
-use Rattle.format.proofs.Chains.{by}
-use Rattle.opening.proofs.Accepted.{decodes}
-use Rattle.opening.proofs.Entries.{written_is, pointer_is}
+use mathlib.Core.Path.{◌∙◌, subst}
+use native.Mathlib.Omega.{arith}
+use Rattle.std.specs.Prelude.{Some}
+use Rattle.opening.specs.Answers.{PointsTo}
+use Rattle.opening.specs.Images.{held}
 use Rattle.storing.proofs.Steps.{old-small, old-none, old-some}
 use Rattle.storing.proofs.old_entry.Goals as goal
+use Rattle.storing.proofs.old_entry.Goals.{In-Some}
 
-pub returns-then-is_unwritten : goal.returns-then-is_unwritten
-returns-then-is_unwritten c = old-none _ _ _ _ (by (written_is _ _ _ c.table_entry-e.ensures c.is_unwritten.ensures) c.if-is_unwritten.true)
+points : (c : In-Some) → let a = c.args in PointsTo a.image.bytes.now (held a.image) a.a.0 (Some c.in-Some.p)
+points c = subst (PointsTo _ _ _) c.in-Some.is c.written.ensures
 
-pub decoded-requires : goal.decoded-requires
-decoded-requires c = decodes _ _ c.args.image.opens
+pub returns-in-None : goal.returns-in-None
+returns-in-None c = old-none _ _ _ _ (subst (PointsTo _ _ _) c.in-None.is c.written.ensures)
 
 pub encode-requires : goal.encode-requires
+unfolding PointsTo
 encode-requires c =
-    let e = c.table_entry-e.ensures in
     let h = c.requires in
-    let p = pointer_is _ _ _ e c.decoded.ensures in
-    let s = old-small _ _ _ h.0 h.1 h.2 (by (written_is _ _ _ e c.is_unwritten.ensures) c.if-is_unwritten.false) in
-    (h.3, rw p s.0, rw p s.1)
+    let k = points (goal.at.encode-requires c).In-Some in
+    let s = old-small _ _ _ h.0 h.1 h.2 k.0 in
+    (omega arith, rw k.1 s.0, rw k.1 s.1)
 
-pub returns : goal.returns
-returns c =
-    let e = c.table_entry-e.ensures in
-    c.encode.ensures
-    ∙ rw (pointer_is _ _ _ e c.decoded.ensures) (old-some _ _ _ _ (by (written_is _ _ _ e c.is_unwritten.ensures) c.if-is_unwritten.false))
+pub returns-in-Some : goal.returns-in-Some
+returns-in-Some c = c.encode.ensures ∙ old-some _ _ _ _ _ (points (goal.at.returns-in-Some c).In-Some)

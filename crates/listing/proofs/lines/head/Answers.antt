@@ -4,7 +4,7 @@ use Rattle.listing.proofs.lines.head.Goals as goal
 
 pub returns-in-Ok : goal.returns-in-Ok
 unfolding head
-returns-in-Ok c = rw c.in-Ok.is c.write_end.ensures
+returns-in-Ok c = rw c.in-Ok.is c.end.ensures
 
 pub returns-in-Err : goal.returns-in-Err
 unfolding head

@@ -4,20 +4,17 @@ use mir.Syntax.{w64}
 use mir.Val.{SFits}
 use mir.Facts.{to_z-of_z}
 use Rattle.text.specs.Text.{signed}
-use Rattle.text.specs.Buffer.{Writes}
+use Rattle.text.specs.Appends.{Appends}
 use Rattle.listing.proofs.Pieces.{line_at, line_refused}
 use Rattle.listing.proofs.lines.line.Goals as goal
-use Rattle.listing.proofs.lines.line.Goals.{After-write_signed-next}
+use Rattle.listing.proofs.lines.line.Goals.{After-signed}
 
 -- the address, as it is read back from its bits
-written : (c : After-write_signed-next)
-    → Writes c.args.out.now c.args.at (signed c.args.a.0) c.write_signed-next.new.out c.write_signed-next.result
-written c = let f : SFits w64 c.args.a.0 = search rules in rw (to_z-of_z f) at c.write_signed-next.ensures
+written : (c : After-signed) → Appends c.args.w.now (signed c.args.a.0) c.signed.new.self
+written c = let f : SFits w64 c.args.a.0 = search rules in rw (to_z-of_z f) at c.signed.ensures
 
 pub returns-in-Ok : goal.returns-in-Ok
-returns-in-Ok c =
-    line_at _ (written (goal.at.returns-in-Ok c).After-write_signed-next) c.in-Ok.is c.write_both-last.ensures c.write_end.ensures
+returns-in-Ok c = line_at _ (written (goal.at.returns-in-Ok c).After-signed) c.in-Ok.is c.both.ensures c.end.ensures
 
 pub returns-in-Err : goal.returns-in-Err
-returns-in-Err c =
-    line_refused _ (written (goal.at.returns-in-Err c).After-write_signed-next) c.in-Err.is c.write_end-in-Err.ensures
+returns-in-Err c = line_refused _ (written (goal.at.returns-in-Err c).After-signed) c.in-Err.is c.end-in-Err.ensures

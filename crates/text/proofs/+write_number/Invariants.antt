@@ -1,5 +1,0 @@
--- `text::write_number` calls itself. The measure is the number: a tenth of it is less.
-use Rattle.text.proofs.+write_number.Given as goal
-
-abbrev pub decreases-write_number : goal.decreases-write_number
-decreases-write_number l = l.n
