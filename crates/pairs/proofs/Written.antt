@@ -1,5 +1,5 @@
 -- The sectors of a pair address by address: what a loop over its addresses has left, and what it has passed.
-use mathlib.Core.Bool.{Bool, true, false, not, ◌&&◌}
+use mathlib.Core.Bool.{Bool, true, false, not}
 use mathlib.Core.List.{List, [], ◌∷◌}
 use mathlib.Core.Logic.{◌≢◌}
 use mathlib.Core.Path.{◌≡◌, refl, sym, ap, ◌∙◌}
@@ -12,6 +12,7 @@ use lib.ListN.{length}
 use lib.Pointwise.{pointwise}
 use Rattle.std.specs.Prelude.{Ok, Err}
 use Rattle.fields.specs.Bytes.{equal}
+use Rattle.fields.proofs.Equal.{equal_pointwise}
 use Rattle.fields.proofs.Steps.{sub-step, sub-done}
 use Rattle.format.specs.Tests.{same, below, ◌or◌}
 use Rattle.format.specs.Refusals.{refusal, Answer}
@@ -133,14 +134,6 @@ module _ (child parent : List ℕ) where
       unfolding sizes_verdict
       sizes-pass y = on _ (sym others ∙ one) (on-last _ (sym overs ∙ y))
 
--- ---- the same bytes, as `==` finds them
-pub bytes_same : (x y : List ℕ) → pointwise eqb x y ≡ equal x y
-unfolding equal
-bytes_same [] [] = refl
-bytes_same [] (b ∷ y) = refl
-bytes_same (a ∷ x) [] = refl
-bytes_same (a ∷ x) (b ∷ y) = ap (λ (r : Bool). eqb a b && r) (bytes_same x y)
-
 -- ---- a lower address that has them, from n down: none of those from `left` on has
 module _ (disc : ℕ → List ℕ) (d : List ℕ) where
   pub held_none : (left : ℕ) → left ≤ 0 → held_below disc d left ≡ false
@@ -153,7 +146,7 @@ module _ (disc : ℕ → List ℕ) (d : List ℕ) where
     unfolding held_below
     held_next =
         let e : left ≡ suc (left - 1) = omega arith in
-        ap (held_below disc d) e ∙ ap (λ (b : Bool). b or held_below disc d (left - 1)) (ap (λ (z : List ℕ). equal z d) (sym f) ∙ sym (s ∙ bytes_same x d))
+        ap (held_below disc d) e ∙ ap (λ (b : Bool). b or held_below disc d (left - 1)) (ap (λ (z : List ℕ). equal z d) (sym f) ∙ sym (s ∙ equal_pointwise x d))
 
     pub held_found : r ≡ true → held_below disc d left ≡ true
     held_found y = held_next ∙ or-true-left _ _ y

@@ -6,8 +6,7 @@ use mathlib.Core.Path.{◌≡◌, refl, sym, ap, ◌∙◌}
 use Prim.Native.Nat.{ℕ, ◌+◌, ◌-◌, ◌≤◌, ◌<◌}
 use native.Mathlib.Nat.{eq-zero-or-pos}
 use native.Mathlib.Omega.{arith}
-use lib.ListN.{length, take, set, length-append}
-use lib.Seq.{length-take-le}
+use lib.ListN.{length, set, length-append}
 use Rattle.fields.specs.Bytes.{overwrite}
 use Rattle.fields.proofs.Overwrite.{length-overwrite, overwrite-out, overwrite-then}
 use Rattle.format.proofs.Tests.{below_true, below-iff, choose-true, choose-false}
@@ -65,12 +64,3 @@ module _ (input text : List ℕ) where
 -- is written whole
 pub writes-prints : {s text t : List ℕ} {n : ℕ} → length text ≤ length s → Writes s 0 text t n → Prints s text t n
 writes-prints f w = let e = w.place in record { bytes = w.bytes; whole = omega arith; room = f }
-
--- what a caller needs to hand it on
-pub prints-count : {s text t : List ℕ} {n : ℕ} → Prints s text t n → (n ≤ length t) × (n ≡ length (take n t))
-prints-count {s} {text} {t} {n} w =
-    let f = w.room in
-    let e = w.whole in
-    let k : length t ≡ length s = ap length w.bytes ∙ length-overwrite s 0 text in
-    let h : n ≤ length t = omega arith in
-    (h, sym (length-take-le n t h))

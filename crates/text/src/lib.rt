@@ -17,19 +17,19 @@ pub struct Writer<'a> {
 }
 
 impl<'a> Writer<'a> {
-    ghost use Rattle.text.specs.Appends.{Appends};
+    ghost use Rattle.text.specs.Appends.{lent_to, buffer_of, place_of, Appends};
 
     // From the front of out on.
     pub fn new(out: &'a mut [u8]) -> Writer<'a>
-        ensures lent { result.out.ghost_name ≡ out.entry.ghost_name }
-        ensures front { (result.out.now ≡ out.old) × (result.at ≡ 0) }
+        ensures lent { lent_to result ≡ out.entry.ghost_name }
+        ensures front { (buffer_of result ≡ out.old) × (place_of result ≡ 0) }
     {
         Writer { out, at: 0 }
     }
 
     // How many bytes are written.
     pub fn written(&self) -> usize
-        ensures { result ≡ self.now.at }
+        ensures { result ≡ place_of self.now }
     {
         self.at
     }
