@@ -84,8 +84,11 @@ pub fn writable_verdict(s: &[u8], o: ByteOffset) -> Result<(), Refusal>
     ensures { result ≡ writable_verdict s.now o.0 }
 {
     index::header_verdict(s)?;
-    let t = open_index(s, o)?;
-    t.kind_verdict()
+    match open_index(s, o) {
+        Ok(t) => t.kind_verdict(),
+        // the refusal's arm is written out, not left to `?`, so that an edit of it is refused at a fact
+        Err(r) => Err(r),
+    }
 }
 
 impl Opened {

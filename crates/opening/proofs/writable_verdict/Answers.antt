@@ -1,5 +1,5 @@
 -- `opening::writable_verdict` meets its contract. Assumes nothing.
-use mathlib.Core.Path.{sym, ap, ◌∙◌}
+use mathlib.Core.Path.{sym}
 use Rattle.format.specs.Opening.{open_verdict}
 use Rattle.format.specs.Writing.{writable_verdict}
 use Rattle.format.proofs.Refusals.{answer-accepted, answer-refused}
@@ -14,12 +14,12 @@ returns-in_err-header_verdict c = early c.from_residual.ensures (stops _ (stops 
 pub open_index-requires : goal.open_index-requires
 open_index-requires c = sym c.in_ok-header_verdict.ensures
 
-pub returns-in_err-t : goal.returns-in_err-t
+pub returns-in-Err : goal.returns-in-Err
 unfolding writable_verdict outcome
-returns-in_err-t c = early c.from_residual-in_err-t.ensures (stops _ (sym (answer-refused _ _ _ (sym (ap outcome (sym c.in_err-t.was) ∙ c.open_index.ensures)))))
+returns-in-Err c = stops _ (sym (answer-refused _ _ _ (sym c.in-Err.ensures)))
 
-pub returns : goal.returns
+pub returns-in-Ok : goal.returns-in-Ok
 unfolding writable_verdict outcome
-returns c =
-    let q = answer-accepted _ _ _ (sym (ap outcome (sym c.in_ok-t.was) ∙ c.open_index.ensures)) in
+returns-in-Ok c =
+    let q = answer-accepted _ _ _ (sym c.in-Ok.ensures) in
     goes (sym q.0) (rw q.1 c.kind_verdict.ensures)
