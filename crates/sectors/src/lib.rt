@@ -252,8 +252,11 @@ pub fn locate<'a>(image: Image<'a>, a: SectorAddress) -> Result<Place, Refusal>
 pub fn locate_in(image: &[u8], a: SectorAddress) -> Result<Place, Refusal>
     ensures { result ≡ locate image.now a.0 }
 {
-    let opened = opening::open(image)?;
-    locate(opened, a)
+    match opening::open(image) {
+        Ok(opened) => locate(opened, a),
+        // the refusal's arm is written out, not left to `?`, so that an edit of it is refused at a fact
+        Err(r) => Err(r),
+    }
 }
 
 // The sector at address a: the part of the lent bytes that `locate` names, and the empty part exactly where it refuses,
