@@ -40,8 +40,11 @@ pub fn locate_over(child: &[u8], parent: &[u8], a: SectorAddress) -> Result<Sour
 pub fn source_over(child: &[u8], parent: &[u8], a: SectorAddress) -> Result<u64, Refusal>
     ensures { result ≡ source_over child.now parent.now a.0 }
 {
-    let s = locate_over(child, parent, a)?;
-    Ok(s.image)
+    match locate_over(child, parent, a) {
+        Ok(s) => Ok(s.image),
+        // the refusal's arm is written out, not left to `?`, so that an edit of it is refused at a fact
+        Err(r) => Err(r),
+    }
 }
 
 // The sector at address a: a part of the child or of the parent, and the empty part exactly where `locate_over` refuses.
