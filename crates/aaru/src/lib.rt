@@ -17,8 +17,11 @@ pub use format::{AddressRange, ByteOffset, Check, Place, Placed, Refusal, Sector
 pub fn sector_count(image: &[u8]) -> Result<AddressRange, Refusal>
     ensures { result ≡ sector_count image.now }
 {
-    let opened = opening::open(image)?;
-    Ok(opened.found.range())
+    match opening::open(image) {
+        Ok(opened) => Ok(opened.found.range()),
+        // the refusal's arm is written out, not left to `?`, so that an edit of it is refused at a fact
+        Err(refusal) => Err(refusal),
+    }
 }
 
 // Where the sector at address a lies in the image, or why it can't be read: opening's numbers, 20 to 27, 73. Beside opening it costs at
@@ -72,9 +75,14 @@ pub fn commit(
     ensures { answered result buffer.new ≡ commit buffer.old used addresses.now size sectors.now time }
 {
     arguments::commit_verdict(buffer, used, addresses, size, sectors)?;
-    let opened = opening::open(fields::part(buffer, 0, used))?;
-    let t = opened.found;
-    appending::commit(buffer, used, t, addresses, size, sectors, time)
+    match opening::open(fields::part(buffer, 0, used)) {
+        Ok(opened) => {
+            let t = opened.found;
+            appending::commit(buffer, used, t, addresses, size, sectors, time)
+        }
+        // as in `sector_count`
+        Err(r) => Err(r),
+    }
 }
 
 // Makes the index at `offset` the disc's: where a creation or a commit answered that offset, the disc reads as right after that call. Or

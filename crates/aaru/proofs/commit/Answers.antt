@@ -1,6 +1,6 @@
 -- `aaru::commit` meets its contract. Assumes nothing.
 use native.Mathlib.Omega.{arith}
-use mathlib.Core.Path.{sym, ap, ◌∙◌}
+use mathlib.Core.Path.{sym}
 use Rattle.fields.specs.Bytes.{part}
 use Rattle.format.specs.Opening.{opening}
 use Rattle.format.specs.Writing.{writable_verdict}
@@ -26,13 +26,12 @@ pub commit-requires : goal.commit-requires
 unfolding outcome_of part
 commit-requires c = (
   sym c.in_ok-commit_verdict.ensures,
-  rw c.part.ensures at (sym (ap outcome_of (sym c.in_ok-opened.was) ∙ c.open.ensures.opens)),
+  rw c.part.ensures at (sym c.in-Ok.ensures.opens),
 )
 
-pub returns-in_err-opened : goal.returns-in_err-opened
+pub returns-in-Err : goal.returns-in-Err
 unfolding commit append commit_verdict disc_verdict writable_verdict opening outcome_of part
-returns-in_err-opened c =
-    early-as (λ x. answered x c.args.buffer.now) c.from_residual-in_err-opened.ensures
-    (outcome-stops _ _ _
+returns-in-Err c =
+    outcome-stops _ _ _
     (goes c.in_ok-commit_verdict.ensures
-    (stops _ (stops _ (stops _ (rw c.part.ensures at (sym (answer-refused _ _ _ (sym (ap outcome_of (sym c.in_err-opened.was) ∙ c.open.ensures.opens))))))))))
+    (stops _ (stops _ (stops _ (sym (answer-refused _ _ _ (sym (rw c.part.ensures at c.in-Err.ensures.opens))))))))
