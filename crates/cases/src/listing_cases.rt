@@ -3,7 +3,8 @@ use super::disc::{P3, SECOND, laid};
 use printing::set;
 use std::io;
 
-// A name, and the listing of an input.
+// A name, and the listing of an input. Not inlined, so that the stack holds the room for one text at a time.
+#[inline(never)]
 fn listing_lines(rt: &impl Print, name: &str, input: &[u8]) -> io::Result<()> {
     println!(rt; "{name}:")?;
     let mut out = [0u8; 311296];
