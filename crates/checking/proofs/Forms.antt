@@ -2,13 +2,14 @@
 use mathlib.Core.Bool.{Bool, true, false, true≢false}
 use mathlib.Core.List.{List}
 use mathlib.Core.Logic.Iff
-use mathlib.Core.Logic.{inl, ◌↔◌}
+use mathlib.Core.Logic.{◌≢◌, inl, ◌↔◌}
 use mathlib.Core.Path.{◌≡◌, refl, sym, ap, ◌∙◌}
-use Prim.Native.Nat.{ℕ, ◌/◌, ◌<◌}
+use Prim.Native.Nat.{ℕ, ◌+◌, ◌/◌, ◌%◌, ◌≤◌, ◌<◌}
+use lib.ListN.{length}
 use Rattle.std.specs.Prelude.{Ok, Err, is_ok}
 use Rattle.format.specs.declared.Pointer.{Pointer}
 use Rattle.format.specs.Refusals.{refusal, ◌then◌, Verdict}
-use Rattle.format.specs.Layouts.{sector_size, block_length}
+use Rattle.format.specs.Layouts.{sector_size, block_header_length, block_compression, block_data_type, block_length, block_cmp_length}
 use Rattle.format.specs.Opening.{Opened}
 use Rattle.format.specs.Reading.{table_entry_at, pointer_at, has, block_verdict}
 use Rattle.format.specs.Facts.{BlockOk}
@@ -51,6 +52,19 @@ module _ (img : List ℕ) (b : ℕ) where
   pub damaged-passed : {r : Bool} → BlockOk img b → r ≡ wrong_sum img b → r ≡ damaged img b
   unfolding damaged only_after
   damaged-passed k e = e ∙ ap (λ (v : Verdict). only_after v (wrong_sum img b)) (sym ((block-ok img b).1 k))
+
+  -- with its premise, by which `grind` finds the block
+  pub formed : is_ok (block_verdict img b) ≡ true
+      → (is_ok (block_verdict img b) ≡ true) × (b + block_header_length ≤ length img) × (block_compression img b ≡ 0) × (block_data_type img b ≡ 1)
+      × (sector_size img b ≢ 0) × (block_cmp_length img b ≡ block_length img b) × (block_length img b % sector_size img b ≡ 0)
+      × (b + block_header_length + block_length img b ≤ length img)
+  formed e = let k = well_formed e in (e, k.head, k.compression, k.type, k.size, k.unpacked, k.whole, k.fits)
+
+  pub sums_tell : is_ok (block_verdict img b) ≡ true → wrong_sum img b ≡ damaged img b
+  sums_tell e = damaged-passed (well_formed e) refl
+
+-- what `is_damaged` answers, for its proof to find
+pub ruleset damage = (formed, damaged-refused, sums_tell)
 
 -- ---- an address
 module _ (img : List ℕ) (t : Opened) (looks : ℕ → Bool) where

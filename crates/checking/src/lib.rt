@@ -160,6 +160,7 @@ fn first_form<'a, 'b>(image: Image<'a>, scope: Scope<'b>) -> First
 }
 
 // Whether the block at b is well formed and one of its checksums is wrong. One pass over it.
+#[tactic(auto, using(crate::proofs::Forms::damage))]
 fn is_damaged(s: &[u8], b: ByteOffset) -> bool
     ensures { result ≡ damaged s.now b.0 }
 {
