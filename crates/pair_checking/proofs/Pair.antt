@@ -187,7 +187,7 @@ module _ (child parent : List ℕ) (t : Opened) (e : opening child ≡ Ok t) (ki
         pub found-added : Added r
         found-added = sector-added parent parent_es u m r found.2 found.3
 
-        left-refused : Err (parent_refusal r) ≡ pair_verdict child parent
+        pub left-refused : Err (parent_refusal r) ≡ pair_verdict child parent
         left-refused =
             let (l, w, s, d) = found in
             let n = entry_number t (address_of u m) in
