@@ -1,25 +1,24 @@
 -- The sectors of a pair address by address: what a loop over its addresses has left, and what it has passed.
 use mathlib.Core.Bool.{Bool, true, false, not}
 use mathlib.Core.List.{List, [], ◌∷◌}
-use mathlib.Core.Logic.{◌≢◌}
+use mathlib.Core.Logic.{◌≢◌, ⊎_elim}
 use mathlib.Core.Path.{◌≡◌, refl, sym, ap, ◌∙◌}
 use Prim.Native.Nat.{ℕ, zero, suc, ◌+◌, ◌-◌, ◌≤◌, ◌<◌}
 use native.Mathlib.Nat.{sub-zero}
 use native.Mathlib.Numerals.{add-one}
 use native.Mathlib.Omega.{arith}
-use lib.Dec.{eqb}
 use lib.ListN.{length}
-use lib.Pointwise.{pointwise}
 use Rattle.std.specs.Prelude.{Ok, Err}
-use Rattle.fields.specs.Bytes.{equal}
-use Rattle.fields.proofs.Equal.{equal_pointwise}
+use Rattle.fields.specs.Bytes.{part, equal}
+use Rattle.fields.proofs.Equal.{equal-true}
+use Rattle.fields.proofs.Overwrite.{part-whole}
 use Rattle.fields.proofs.Steps.{sub-step, sub-done}
 use Rattle.format.specs.Tests.{same, below, ◌or◌}
 use Rattle.format.specs.Refusals.{refusal, Answer}
 use Rattle.format.specs.Opening.{Opened, opening}
 use Rattle.format.specs.Writing.{most_sectors, largest_size, most_addresses}
 use Rattle.format.specs.Flattening.{count_of, pair_at, Written, with_sector, written_from, written_of, size_of, any_other, sizes_verdict}
-use Rattle.format.proofs.Tests.{differs_true, differs-iff, or-true-left, or-rest}
+use Rattle.format.proofs.Tests.{on-or-off, differs_true, differs-iff, or-true-left, or-rest}
 use Rattle.format.proofs.Lists.{empty}
 use Rattle.format.proofs.Chains.{stop, on, stop-last, on-last}
 use Rattle.pairs.specs.Pairs.{sector_at, held_below}
@@ -134,6 +133,16 @@ module _ (child parent : List ℕ) where
       unfolding sizes_verdict
       sizes-pass y = on _ (sym others ∙ one) (on-last _ (sym overs ∙ y))
 
+-- ---- the same bytes
+pub size-differs : (x y : List ℕ) → length x ≢ length y → false ≡ equal x y
+size-differs x y h = ⊎_elim (λ e. absurd (h (ap length (equal-true x y e)))) (λ e. sym e) (on-or-off (equal x y))
+
+pub bytes_same : (x y : List ℕ) {r : Bool} → length x ≡ length y → r ≡ equal (part x 0 (length y)) y → r ≡ equal x y
+bytes_same x y l e = e ∙ ap (λ n. equal (part x 0 n) y) (sym l) ∙ ap (λ (z : List ℕ). equal z y) (part-whole x)
+
+-- what `is_same` answers, for its proof to find
+pub ruleset same_bytes = (size-differs, bytes_same)
+
 -- ---- a lower address that has them, from n down: none of those from `left` on has
 module _ (disc : ℕ → List ℕ) (d : List ℕ) where
   pub held_none : (left : ℕ) → left ≤ 0 → held_below disc d left ≡ false
@@ -141,12 +150,12 @@ module _ (disc : ℕ → List ℕ) (d : List ℕ) where
   held_none zero h = refl
   held_none (suc left) h = absurd (omega arith)
 
-  module _ (left : ℕ) (h : 0 < left) {x : List ℕ} (f : x ≡ disc (left - 1)) {r : Bool} (s : r ≡ pointwise eqb x d) where
+  module _ (left : ℕ) (h : 0 < left) {x : List ℕ} (f : x ≡ disc (left - 1)) {r : Bool} (s : r ≡ equal x d) where
     held_next : held_below disc d left ≡ (r or held_below disc d (left - 1))
     unfolding held_below
     held_next =
         let e : left ≡ suc (left - 1) = omega arith in
-        ap (held_below disc d) e ∙ ap (λ (b : Bool). b or held_below disc d (left - 1)) (ap (λ (z : List ℕ). equal z d) (sym f) ∙ sym (s ∙ equal_pointwise x d))
+        ap (held_below disc d) e ∙ ap (λ (b : Bool). b or held_below disc d (left - 1)) (ap (λ (z : List ℕ). equal z d) (sym f) ∙ sym s)
 
     pub held_found : r ≡ true → held_below disc d left ≡ true
     held_found y = held_next ∙ or-true-left _ _ y

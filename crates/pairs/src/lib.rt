@@ -6,6 +6,7 @@
 #![tactic(auto)]
 
 ghost use Rattle.std.specs.Prelude.{not, ◌≡◌, ◌≤◌, ◌<◌, length, Ok};
+ghost use Rattle.fields.specs.Bytes.{equal};
 ghost use Rattle.format.specs.Tests.{same, below, ◌or◌};
 ghost use Rattle.format.specs.Reading.{read};
 ghost use Rattle.format.specs.Writing.{most_sectors, largest_size, most_addresses};
@@ -63,6 +64,14 @@ fn is_over(count: u64, size: u64, written: u64) -> bool
     ensures { result ≡ (same count 0 or below most_sectors count or below largest_size size or below most_addresses written) }
 {
     count == 0 || MOST_SECTORS < count || LARGEST_SIZE < size || MOST_ADDRESSES < written
+}
+
+// Whether two sectors hold the same bytes, length included.
+#[tactic(auto, using(crate::proofs::Written::same_bytes))]
+fn is_same(x: &[u8], y: &[u8]) -> bool
+    ensures { result ≡ equal x.now y.now }
+{
+    x.len() == y.len() && fields::matches(x, 0, y)
 }
 
 impl<'a> Pair<'a> {
@@ -148,7 +157,7 @@ impl<'a> Pair<'a> {
         Ok(())
     }
 
-    // Whether no address below n has the same sector. Each comparison ends at the first difference in size or bytes.
+    // Whether no address below n has the same sector. Each comparison ends at a difference in size, or within 64 bytes of the first byte that differs.
     pub fn is_new(self, n: EntryNumber) -> bool
         requires { n.0 < (held self.child).count }
         ensures { result ≡ not (held_below (sector_of self.entry) (sector_of self.entry n.0) n.0) }
@@ -157,7 +166,7 @@ impl<'a> Pair<'a> {
         // an iteration for each address below, the nearest first, up to the first that has it
         for below in (0..n.0).rev() {
             let other = self.sector(EntryNumber(below));
-            if other == own {
+            if is_same(other, own) {
                 return false;
             }
         }
