@@ -4,7 +4,7 @@
 // Cost, with E addresses and n sectors of the pair: opening both images, and the checks of all sectors, in which each data block of either is summed once at
 // most (see `pair_checking`); some passes over the addresses. Where there is room for all sectors, each is compared with the stored ones twice, at most n n / 2
 // times in all each time; else with those at lower addresses, at most E n / 2 times in all, and then with the stored ones once. A comparison ends at the first
-// difference, and a search at the first that is equal. Else linear in what is read and written.
+// difference, or, with those at lower addresses, within 64 bytes of it, and a search at the first that is equal. Else linear in what is read and written.
 #![tactic(auto)]
 
 ghost use mathlib.Core.List.{flatten as flattened};
