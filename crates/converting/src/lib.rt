@@ -16,7 +16,7 @@ pub fn export(input: &[u8], out: &mut [u8; 65536]) -> usize
     let answer = flat::export_exact(input, out);
     match answer {
         Ok(n) => n as usize,
-        Err(r) => text::print_refused(out, r.number as u64),
+        Err(r) => text::refused(out, 0, r.number as u64),
     }
 }
 

@@ -111,11 +111,19 @@ pub fn print(out: &mut [u8], s: &[u8]) -> usize
     w.written()
 }
 
+// The line of a refusal, from the place `at` on; the answer is the place after it.
+pub fn refused(out: &mut [u8], at: usize, number: u64) -> usize
+    requires { at ≤ length out.old }
+    ensures { Writes out.old at (refused_line number) out.new result }
+{
+    let mut w = Writer { out, at };
+    w.refused(number);
+    w.written()
+}
+
 // The line of a refusal alone.
 pub fn print_refused(out: &mut [u8], number: u64) -> usize
     ensures { Writes out.old 0 (refused_line number) out.new result }
 {
-    let mut w = Writer::new(out);
-    w.refused(number);
-    w.written()
+    refused(out, 0, number)
 }

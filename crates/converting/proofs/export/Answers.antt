@@ -17,4 +17,4 @@ returns-in-Ok c =
 pub returns-in-Err : goal.returns-in-Err
 unfolding export_text
 returns-in-Err c =
-    prints-refusal (export-fills _) _ (omega arith) (omega arith) _ c.in-Err.is c.export_exact-answer.ensures c.print_refused.ensures
+    prints-refusal (export-fills _) _ (omega arith) (omega arith) _ c.in-Err.is c.export_exact-answer.ensures c.refused.ensures
